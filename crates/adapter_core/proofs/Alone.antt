@@ -5,7 +5,7 @@ use Rattle.line_io.specs.Event.{Event}
 use Rattle.line_io.specs.Event as events
 use Rattle.cecp_lines.specs.Messages.{IfaceMsg}
 use Rattle.cecp_lines.specs.Messages as says
-use Rattle.cecp_lines.specs.Reading.{reading}
+use Rattle.cecp_lines.specs.Reading.{message_or_fault}
 use Rattle.cecp_lines.specs.Replies.{Reply}
 use Rattle.cecp_lines.specs.Replies as reply
 use Rattle.cecp_lines.specs.declared.iface.IfaceFault.{IfaceFault}
@@ -23,13 +23,13 @@ use Rattle.desk_rules.specs.declared.effect.Refusal.TheVariants as refusals
 use Rattle.desk_rules.specs.declared.desk.Desk.{Desk}
 use Rattle.desk_rules.specs.Desk.{Situation, table, plays, has_ended, is_gone, is_boot, owes_move, owed_at, call_of, call_before}
 use Rattle.desk_rules.specs.Early.{is_setting, may_wait}
-use Rattle.desk_rules.specs.Lines.{verdict, judged, is_early, deferred, asks, or_else, where_true, refused_option, does_not_fit, refusal, change}
+use Rattle.desk_rules.specs.Lines.{verdict, verdict_on, is_early, early_verdict, asks, or_else, where_true, refused_option, does_not_fit, refusal, change}
 use Rattle.desk_rules.specs.Steps.{Effect, Nothing, LongLine, Refuses, Accepts, Defers, Boots, Thinks, Shows, Dies, classify, line_effect, desk_after_effect, answers_pings, is_death}
 use Rattle.desk_rules.specs.Replies.{row, row_accepted, result_of, result_at, resign_where, offer_where, draw_row, hint_row, replies_of}
 use Rattle.desk_rules.proofs.Firsts.{no_table}
 use Rattle.adapter_core.specs.Ends.{ends_after}
-use Rattle.adapter_core.specs.Trace.{State, Step, IsLawful, Lawful, state, state_after, situation, effect, owing, closed_after, desk_of, replies}
-use Rattle.adapter_core.specs.Alone.{Commanded, commanded, Alone, lone_situation, lone_effect, lone_owes, lone_after, lone_replies, alone, is_of_iface, iface_events, is_answer, is_overfull, tells_of_engine, IsWithoutSay, DeskIsAlone, IsApartFromEngine, RepliesAreAlone}
+use Rattle.adapter_core.specs.Trace.{State, Step, IsLawful, Lawful, state, state_after, situation, effect, owed_after, closed_after, desk_of, replies}
+use Rattle.adapter_core.specs.Alone.{Commanded, commanded_part, Alone, lone_situation, lone_effect, lone_owes, lone_after, lone_replies, alone, is_of_iface, iface_events, is_answer, is_overfull, tells_of_engine, IsWithoutSay, DeskIsAlone, IsApartFromEngine, RepliesAreAlone}
 use Rattle.adapter_core.proofs.Fresh.{calls_move, call_is}
 use Rattle.adapter_core.proofs.Traces.{Lasts, lasts, gone_is, owed_is}
 use Rattle.adapter_core.proofs.Commands.{alike_changed, setting_changes, plain_option, refused_by, option_refusal, fit_refusal, refusal_is, is_full_refusal, unfilled, lone_fits}
@@ -50,26 +50,26 @@ data Pair (d x : Effect) : Type 0 where
 
 record Alike (o : Settings) (s : State) (a : Alone) : Type 0 where
   settings : s.settings ≡ o
-  parts : commanded s.desk ≡ commanded a.desk
+  parts : commanded_part s.desk ≡ commanded_part a.desk
   closed : s.ends.closed ≡ a.ends.closed
   hint : s.desk.hint ≡ None
   scores : s.scores ≡ []
   lone_hint : a.desk.hint ≡ None
   unbooted : a.desk.booted ≡ false
 
-idle_judged : (m : IfaceMsg) (o : Option Refusal) (line : List ℕ) → is_setting m ≡ true → IsIdleDeed (line_effect (judged m o) line)
+idle_judged : (m : IfaceMsg) (o : Option Refusal) (line : List ℕ) → is_setting m ≡ true → IsIdleDeed (line_effect (verdict_on m o) line)
 idle_judged m None line p = p
 idle_judged m (Some r) line p = tt
 
-early_idle : (b w : Bool) (m : IfaceMsg) (o : Option Refusal) (line : List ℕ) → is_setting m ≡ true → IsIdleDeed (line_effect (cond b (deferred w) (judged m o)) line)
+early_idle : (b w : Bool) (m : IfaceMsg) (o : Option Refusal) (line : List ℕ) → is_setting m ≡ true → IsIdleDeed (line_effect (cond b (early_verdict w) (verdict_on m o)) line)
 early_idle true true m o line p = tt
 early_idle true false m o line p = tt
 early_idle false w m o line p = idle_judged m o line p
 
 -- what is deferred tells of the engine
 early_tells : (b w : Bool) (m : IfaceMsg) (o : Option Refusal) (line : List ℕ)
-    → (is_overfull (line_effect (judged m o) line) ≡ false → tells_of_engine (line_effect (judged m o) line) ≡ false → ⊥)
-    → is_overfull (line_effect (cond b (deferred w) (judged m o)) line) ≡ false → tells_of_engine (line_effect (cond b (deferred w) (judged m o)) line) ≡ false → ⊥
+    → (is_overfull (line_effect (verdict_on m o) line) ≡ false → tells_of_engine (line_effect (verdict_on m o) line) ≡ false → ⊥)
+    → is_overfull (line_effect (cond b (early_verdict w) (verdict_on m o)) line) ≡ false → tells_of_engine (line_effect (cond b (early_verdict w) (verdict_on m o)) line) ≡ false → ⊥
 early_tells true true m o line f n t = cc
 early_tells true false m o line f n t = cc
 early_tells false w m o line f n t = f n t
@@ -94,13 +94,13 @@ setting_refusal h held (says.EgtPath kind path) p = refl
 setting_refusal h held m p = cc
 
 tells_judged : (m : IfaceMsg) (a : Result (Option Order) OptionFault) (b : Bool) (line : List ℕ) → is_setting m ≡ true
-    → (let d = line_effect (judged m (or_else (refused_option a) (or_else (where_true b reasons.TooManySettings) None))) line in is_overfull d ≡ false → tells_of_engine d ≡ false → ⊥)
+    → (let d = line_effect (verdict_on m (or_else (refused_option a) (or_else (where_true b reasons.TooManySettings) None))) line in is_overfull d ≡ false → tells_of_engine d ≡ false → ⊥)
 tells_judged m (Err UnknownOption) b line p n t = cc
 tells_judged m (Err BadValue) b line p n t = cc
 tells_judged m (Ok order) true line p n t = cc
 tells_judged m (Ok order) false line p n t = both_ways (tells_of_engine (Accepts m)) t (tells_setting m p)
 
-full_effect : (m : IfaceMsg) (r : Option Refusal) (line : List ℕ) → is_overfull (line_effect (judged m r) line) ≡ false → is_full_refusal r ≡ false
+full_effect : (m : IfaceMsg) (r : Option Refusal) (line : List ℕ) → is_overfull (line_effect (verdict_on m r) line) ≡ false → is_full_refusal r ≡ false
 full_effect m None line n = refl
 full_effect m (Some (refusals.Because reasons.TooManySettings)) line n = cc
 full_effect m (Some r) line n = refl
@@ -115,16 +115,16 @@ owed_unspent : (b : Bool) (c : _) → (b ≡ true → is_move c ≡ false) → i
 owed_unspent true c f = sym (f refl)
 owed_unspent false c f = refl
 
-idle_desk : (h : Situation) (d : Effect) → IsIdleDeed d → commanded (desk_after_effect h d) ≡ commanded h.desk
+idle_desk : (h : Situation) (d : Effect) → IsIdleDeed d → commanded_part (desk_after_effect h d) ≡ commanded_part h.desk
 unfolding desk_after_effect
 idle_desk h (Refuses r line) i = refl
 idle_desk h (Defers line) i = refl
-idle_desk h (Accepts m) i = ap commanded (setting_changes (is_boot h.engine) h.desk m i)
+idle_desk h (Accepts m) i = ap commanded_part (setting_changes (is_boot h.engine) h.desk m i)
 idle_desk h d i = absurd i
 
 -- THE CALL FOR A MOVE
 
-calls_alike : (closed closed' gone gone' : Bool) (d d' : Desk) → closed ≡ closed' → gone ≡ gone' → commanded d ≡ commanded d' → is_move (call_of closed gone d) ≡ is_move (call_of closed' gone' d')
+calls_alike : (closed closed' gone gone' : Bool) (d d' : Desk) → closed ≡ closed' → gone ≡ gone' → commanded_part d ≡ commanded_part d' → is_move (call_of closed gone d) ≡ is_move (call_of closed' gone' d')
 calls_alike closed closed' gone gone' d d' c g e =
     call_is closed gone d
     ∙ ap (λ (b : Bool). calls_move b gone d.game d.mode) c
@@ -134,7 +134,7 @@ calls_alike closed closed' gone gone' d d' c g e =
 
 -- REFUSALS ALIKE
 
-refused_alike : (o o' : Settings) (gone gone' owes owes' : Bool) (d d' : Desk) (option option' fit fit' : Option Refusal) (m : IfaceMsg) → o ≡ o' → gone ≡ gone' → owes ≡ owes' → commanded d ≡ commanded d' → option ≡ option' → fit ≡ fit'
+refused_alike : (o o' : Settings) (gone gone' owes owes' : Bool) (d d' : Desk) (option option' fit fit' : Option Refusal) (m : IfaceMsg) → o ≡ o' → gone ≡ gone' → owes ≡ owes' → commanded_part d ≡ commanded_part d' → option ≡ option' → fit ≡ fit'
     → refused_by o gone d.game d.mode d.pings owes option fit m ≡ refused_by o' gone' d'.game d'.mode d'.pings owes' option' fit' m
 refused_alike o o' gone gone' owes owes' d d' option option' fit fit' m s g w e p f =
     ap (λ (x : Settings). refused_by x gone d.game d.mode d.pings owes option fit m) s
@@ -171,25 +171,25 @@ module _ (o : Settings) (s : State) (a : Alone) (holds : Lasts s) (alike : Alike
 
   -- the verdict on a message, by whether it is early
   abbrev by_early : Bool → IfaceMsg → List ℕ → Effect
-  by_early b m line = line_effect (cond b (deferred (may_wait h.desk.early line)) (judged m (refusal h held m))) line
+  by_early b m line = line_effect (cond b (early_verdict (may_wait h.desk.early line)) (verdict_on m (refusal h held m))) line
 
   abbrev lone_early : Bool → IfaceMsg → List ℕ → Effect
-  lone_early b m line = line_effect (cond b (deferred (may_wait g.desk.early line)) (judged m (refusal g [] m))) line
+  lone_early b m line = line_effect (cond b (early_verdict (may_wait g.desk.early line)) (verdict_on m (refusal g [] m))) line
 
   judged_pair : (m : IfaceMsg) (line : List ℕ) (b : Bool) → is_setting m ≡ b → is_overfull (by_early (is_early h m) m line) ≡ false → Pair (by_early (is_early h m) m line) (lone_early (is_early g m) m line)
   judged_pair m line false p n =
       let here = not_early h m p in
-      let full : is_overfull (line_effect (judged m (refusal h held m)) line) ≡ false = ap (λ (b : Bool). is_overfull (by_early b m line)) (sym here) ∙ n in
+      let full : is_overfull (line_effect (verdict_on m (refusal h held m)) line) ≡ false = ap (λ (b : Bool). is_overfull (by_early b m line)) (sym here) ∙ n in
       Equal
       (ap (λ (b : Bool). by_early b m line) here
-      ∙ ap (λ (r : Option Refusal). line_effect (judged m r) line) (refusal_alike m p (full_effect m (refusal h held m) line full))
+      ∙ ap (λ (r : Option Refusal). line_effect (verdict_on m r) line) (refusal_alike m p (full_effect m (refusal h held m) line full))
       ∙ sym (ap (λ (b : Bool). lone_early b m line) (not_early g m p)))
   judged_pair m line true p n =
       let r = setting_refusal h held m p in
       Idle (early_idle (is_early h m) (may_wait h.desk.early line) m (refusal h held m) line p) (early_idle (is_early g m) (may_wait g.desk.early line) m (refusal g [] m) line p)
       (early_tells (is_early h m) (may_wait h.desk.early line) m (refusal h held m) line
       (λ f t. tells_judged m (asked (table h.desk) m) (does_not_fit held (asks (is_gone h.engine) h.desk m)) line p
-      (ap (λ (x : Option Refusal). is_overfull (line_effect (judged m x) line)) (sym r) ∙ f) (ap (λ (x : Option Refusal). tells_of_engine (line_effect (judged m x) line)) (sym r) ∙ t)) n)
+      (ap (λ (x : Option Refusal). is_overfull (line_effect (verdict_on m x) line)) (sym r) ∙ f) (ap (λ (x : Option Refusal). tells_of_engine (line_effect (verdict_on m x) line)) (sym r) ∙ t)) n)
 
   line_pair : (line : List ℕ) (r : Result IfaceMsg IfaceFault) → is_overfull (line_effect (verdict h held line r) line) ≡ false → Pair (line_effect (verdict h held line r) line) (line_effect (verdict g [] line r) line)
   unfolding verdict
@@ -199,7 +199,7 @@ module _ (o : Settings) (s : State) (a : Alone) (holds : Lasts s) (alike : Alike
 
   event_pair : (e : Event) → is_of_iface e ≡ true → is_overfull (effect s e) ≡ false → Pair (effect s e) (lone_effect o a e)
   unfolding classify
-  event_pair (events.Iface line) i n = closed_pair s.ends.closed a.ends.closed _ _ alike.closed n (line_pair line (reading line))
+  event_pair (events.Iface line) i n = closed_pair s.ends.closed a.ends.closed _ _ alike.closed n (line_pair line (message_or_fault line))
   event_pair events.IfaceLong i n = closed_pair s.ends.closed a.ends.closed _ _ alike.closed n (λ x. Equal refl)
   event_pair events.IfaceEnd i n = Equal refl
   event_pair events.IfaceLost i n = Equal refl
@@ -207,7 +207,7 @@ module _ (o : Settings) (s : State) (a : Alone) (holds : Lasts s) (alike : Alike
 
   -- THE DESK AFTER A DEED
 
-  alike_effect : (d : Effect) → IsIfaceDeed d → commanded (desk_after_effect h d) ≡ commanded (desk_after_effect g d)
+  alike_effect : (d : Effect) → IsIfaceDeed d → commanded_part (desk_after_effect h d) ≡ commanded_part (desk_after_effect g d)
   unfolding desk_after_effect
   alike_effect (Accepts m) i = alike_changed (is_boot h.engine) false s.desk a.desk m alike.parts
   alike_effect Nothing i = alike.parts
@@ -216,8 +216,8 @@ module _ (o : Settings) (s : State) (a : Alone) (holds : Lasts s) (alike : Alike
   alike_effect (Defers line) i = alike.parts
   alike_effect d i = absurd i
 
-  pair_desk : (d x : Effect) → IsIfaceDeed d → Pair d x → commanded (desk_after_effect h d) ≡ commanded (desk_after_effect g x)
-  pair_desk d x i (Equal q) = alike_effect d i ∙ ap (λ (y : Effect). commanded (desk_after_effect g y)) q
+  pair_desk : (d x : Effect) → IsIfaceDeed d → Pair d x → commanded_part (desk_after_effect h d) ≡ commanded_part (desk_after_effect g x)
+  pair_desk d x i (Equal q) = alike_effect d i ∙ ap (λ (y : Effect). commanded_part (desk_after_effect g y)) q
   pair_desk d x i (Idle p q n) = idle_desk h d p ∙ alike.parts ∙ sym (idle_desk g x q)
 
   -- A ROW ALIKE
@@ -264,7 +264,7 @@ module _ (o : Settings) (s : State) (a : Alone) (holds : Lasts s) (alike : Alike
     x = lone_effect o a e
 
     abbrev owes : Bool
-    owes = is_move (owing s e)
+    owes = is_move (owed_after s e)
 
     abbrev closed_then : Bool
     closed_then = (ends_after a.ends e).closed
@@ -279,7 +279,7 @@ module _ (o : Settings) (s : State) (a : Alone) (holds : Lasts s) (alike : Alike
       of_lone : IsIfaceDeed x
       of_lone = iface_effect g [] e i
 
-      desk_alike : commanded (desk_after_effect h d) ≡ commanded (desk_after_effect g x)
+      desk_alike : commanded_part (desk_after_effect h d) ≡ commanded_part (desk_after_effect g x)
       desk_alike = pair_desk d x of_iface p
 
       gone_alike : (is_gone h.engine || is_death d) ≡ is_death x
@@ -291,14 +291,14 @@ module _ (o : Settings) (s : State) (a : Alone) (holds : Lasts s) (alike : Alike
       still_here : (is_gone h.engine || is_death d) ≡ false
       still_here = ap (λ (b : Bool). b || is_death d) there ∙ no_death d of_iface
 
-      iface_parts : commanded (desk_of s e) ≡ commanded (lone_after o a e).desk
+      iface_parts : commanded_part (desk_of s e) ≡ commanded_part (lone_after o a e).desk
       iface_parts =
-          ap (λ (b : Bool). answered (answers_pings (closed_after s e) owes) (given_up b (commanded (desk_after_effect h d))))
+          ap (λ (b : Bool). answered (answers_pings (closed_after s e) owes) (given_up b (commanded_part (desk_after_effect h d))))
           (no_resigner s.settings.resign_when_gone (is_gone h.engine || is_death d) (is_move (call_of (closed_after s e) false (desk_after_effect h d))) still_here)
           ∙ ap (answered (answers_pings (closed_after s e) owes)) desk_alike
-          ∙ ap (λ (b : Bool). answered (answers_pings b owes) (commanded (desk_after_effect g x))) closed_alike
-          ∙ ap (λ (b : Bool). answered (answers_pings closed_then b) (commanded (desk_after_effect g x))) owed_alike
-          ∙ sym (ap (λ (b : Bool). answered (answers_pings closed_then (lone_owes o a e)) (given_up b (commanded (desk_after_effect g x))))
+          ∙ ap (λ (b : Bool). answered (answers_pings b owes) (commanded_part (desk_after_effect g x))) closed_alike
+          ∙ ap (λ (b : Bool). answered (answers_pings closed_then b) (commanded_part (desk_after_effect g x))) owed_alike
+          ∙ sym (ap (λ (b : Bool). answered (answers_pings closed_then (lone_owes o a e)) (given_up b (commanded_part (desk_after_effect g x))))
           (no_resigner o.resign_when_gone (is_death x) (is_move (call_of closed_then false (desk_after_effect g x))) (no_death x of_lone)))
 
       iface_alike : Alike o (state_after s step) (lone_after o a e)
@@ -339,12 +339,12 @@ module _ (o : Settings) (s : State) (a : Alone) (holds : Lasts s) (alike : Alike
           (sym (closed_still s.ends e i)) (sym (or_no (is_gone h.engine) (is_death d) m)) (sym (quiet_desk h d quiet))
           ∙ sym (owed_is s step holds l) ∙ w)
 
-      engine_parts : commanded (desk_of s e) ≡ commanded s.desk
+      engine_parts : commanded_part (desk_of s e) ≡ commanded_part s.desk
       engine_parts =
-          ap (λ (b : Bool). answered (answers_pings (closed_after s e) owes) (given_up b (commanded (desk_after_effect h d))))
+          ap (λ (b : Bool). answered (answers_pings (closed_after s e) owes) (given_up b (commanded_part (desk_after_effect h d))))
           (no_resigner s.settings.resign_when_gone (is_gone h.engine || is_death d) (is_move (call_of (closed_after s e) false (desk_after_effect h d))) (or_no (is_gone h.engine) (is_death d) m ∙ there))
           ∙ ap (answered (answers_pings (closed_after s e) owes)) (quiet_desk h d quiet)
-          ∙ ap (λ (ps : List ℕ). let c : Commanded = record (commanded s.desk) { pings = ps } in c) (kept_pings (closed_after s e) owes s.desk.pings quiet_before)
+          ∙ ap (λ (ps : List ℕ). let c : Commanded = record (commanded_part s.desk) { pings = ps } in c) (kept_pings (closed_after s e) owes s.desk.pings quiet_before)
 
       engine_alike : Alike o (state_after s step) a
       engine_alike = record {
@@ -386,7 +386,7 @@ pub desk_is_alone : (o : Settings) → DeskIsAlone o
 desk_is_alone o t l w = (all_alike o t l w).parts
 
 pub apart_from_engine : (o : Settings) → IsApartFromEngine o
-apart_from_engine o t t' l l' w w' e = desk_is_alone o t l w ∙ ap (λ (es : List Event). commanded (alone o es).desk) e ∙ sym (desk_is_alone o t' l' w')
+apart_from_engine o t t' l l' w w' e = desk_is_alone o t l w ∙ ap (λ (es : List Event). commanded_part (alone o es).desk) e ∙ sym (desk_is_alone o t' l' w')
 
 pub replies_are_alone : (o : Settings) → RepliesAreAlone o
 replies_are_alone o step t l w i n =

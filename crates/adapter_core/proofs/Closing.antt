@@ -5,14 +5,14 @@ use Rattle.line_io.specs.Event.{Event, is_line}
 use Rattle.line_io.specs.Event as events
 use Rattle.cecp_lines.specs.Messages.{IfaceMsg}
 use Rattle.cecp_lines.specs.Messages as says
-use Rattle.cecp_lines.specs.Reading.{reading}
+use Rattle.cecp_lines.specs.Reading.{message_or_fault}
 use Rattle.cecp_lines.specs.declared.iface.IfaceFault.{IfaceFault}
 use Rattle.cecp_lines.specs.declared.iface.IfaceFault.TheVariants as faults
 use Rattle.uci_lines.specs.Orders.{Order}
 use Rattle.uci_lines.specs.Engine.{engine_message}
 use Rattle.desk_rules.specs.declared.effect.Refusal.{Refusal}
 use Rattle.desk_rules.specs.Desk.{Situation, is_gone}
-use Rattle.desk_rules.specs.Lines.{verdict, judged, refusal, is_epoch_line}
+use Rattle.desk_rules.specs.Lines.{verdict, verdict_on, refusal, is_epoch_line}
 use Rattle.desk_rules.specs.Steps.{Effect, Nothing, LongLine, Accepts, Boots, Dies, classify, line_effect, engine_says, begins_epoch}
 use Rattle.desk_rules.specs.Fits.{IsLineEvent}
 use Rattle.adapter_core.specs.declared.ends.Ends.{Ends}
@@ -64,7 +64,7 @@ nothing_rises : (h : Situation) (b : Bool) (d : Effect) → b ≡ true → begin
 nothing_rises h true d e = refl
 nothing_rises h false d e = cc
 
-quit_rises : (h : Situation) (line : List ℕ) (r : Option Refusal) → begins_epoch h (line_effect (judged says.Quit r) line) ≡ false
+quit_rises : (h : Situation) (line : List ℕ) (r : Option Refusal) → begins_epoch h (line_effect (verdict_on says.Quit r) line) ≡ false
 unfolding is_epoch_line
 quit_rises h line None = refl
 quit_rises h line (Some r) = refl
@@ -88,7 +88,7 @@ dead_rises h false = refl
 
 pub closed_rises : (ends : Ends) (h : Situation) (held : List Order) (e : Event) → h.closed ≡ ends.closed → (ends_after ends e).closed ≡ true → begins_epoch h (classify h held e) ≡ false
 unfolding classify
-closed_rises ends h held (events.Iface line) same c = either_rises h held h.closed (is_quit line) line (reading line) refl (rw same c)
+closed_rises ends h held (events.Iface line) same c = either_rises h held h.closed (is_quit line) line (message_or_fault line) refl (rw same c)
 closed_rises ends h held events.IfaceLong same c = nothing_rises h h.closed LongLine (same ∙ c)
 closed_rises ends h held (events.Engine line) same c = nothing_rises h h.closed (engine_says h (engine_message line)) (same ∙ c)
 closed_rises ends h held events.EngineEnd same c = dead_rises h (is_gone h.engine)
@@ -110,7 +110,7 @@ Closes (Accepts m) = ⊥
 Closes Boots = ⊥
 Closes d = Unit {0}
 
-quit_closes : (line : List ℕ) (r : Option Refusal) → Closes (line_effect (judged says.Quit r) line)
+quit_closes : (line : List ℕ) (r : Option Refusal) → Closes (line_effect (verdict_on says.Quit r) line)
 quit_closes line None = tt
 quit_closes line (Some r) = tt
 
@@ -136,7 +136,7 @@ dead_closes false = tt
 
 pub closing : (ends : Ends) (h : Situation) (held : List Order) (e : Event) → h.closed ≡ ends.closed → (ends_after ends e).closed ≡ true → Closes (classify h held e)
 unfolding classify
-closing ends h held (events.Iface line) same c = either_closes h held h.closed (is_quit line) line (reading line) refl (rw same c)
+closing ends h held (events.Iface line) same c = either_closes h held h.closed (is_quit line) line (message_or_fault line) refl (rw same c)
 closing ends h held events.IfaceLong same c = cond_closes h.closed LongLine (same ∙ c)
 closing ends h held (events.Engine line) same c = cond_closes h.closed (engine_says h (engine_message line)) (same ∙ c)
 closing ends h held events.EngineEnd same c = dead_closes (is_gone h.engine)

@@ -4,7 +4,7 @@ use Rattle.cecp_lines.specs.Messages.{IfaceMsg}
 use Rattle.cecp_lines.specs.Messages as says
 use Rattle.cecp_lines.specs.declared.reply.Reason.TheVariants as reasons
 use Rattle.uci_lines.specs.Orders.{Order, order_text}
-use Rattle.game_record.specs.Game.{Game, begun}
+use Rattle.game_record.specs.Game.{Game, game_from}
 use Rattle.option_map.specs.Settings.{OptionSetting}
 use Rattle.option_map.specs.Asked.{asked}
 use Rattle.policy_rules.specs.declared.settings.Settings.{Settings}
@@ -16,7 +16,7 @@ use Rattle.desk_rules.specs.Desk.{Situation, opening_desk, table, analyses, is_g
 use Rattle.desk_rules.specs.Early.{is_setting}
 use Rattle.desk_rules.specs.Lines.{asks, asks_for_mode, or_else, where_true, needs_engine, needs_analysis, lacks_moves, illegal_move, move_too_many, illegal_position, refused_option, does_not_fit, pings_too_often, refusal, at_position, change}
 use Rattle.desk_rules.proofs.Firsts.{tells_none}
-use Rattle.adapter_core.specs.Alone.{Commanded, commanded}
+use Rattle.adapter_core.specs.Alone.{Commanded, commanded_part}
 
 -- WHAT A MESSAGE COMMANDS
 
@@ -24,18 +24,18 @@ use Rattle.adapter_core.specs.Alone.{Commanded, commanded}
 as_desk : Commanded → Desk
 as_desk c = record opening_desk { game = c.game; mode = c.mode; post = c.post; pondering = c.pondering; clocks = c.clocks; pings = c.pings }
 
-set_position : (d d' : Desk) (r : _) → commanded d ≡ commanded d' → commanded (at_position d r) ≡ commanded (at_position d' r)
-set_position d d' (Ok p) e = ap (λ (c : Commanded). let x : Commanded = record c { game = begun p } in x) e
+set_position : (d d' : Desk) (r : _) → commanded_part d ≡ commanded_part d' → commanded_part (at_position d r) ≡ commanded_part (at_position d' r)
+set_position d d' (Ok p) e = ap (λ (c : Commanded). let x : Commanded = record c { game = game_from p } in x) e
 set_position d d' (Err fault) e = e
 
-changed : (boot : Bool) (d : Desk) (m : IfaceMsg) → commanded (change boot d m) ≡ commanded (change false (as_desk (commanded d)) m)
+changed : (boot : Bool) (d : Desk) (m : IfaceMsg) → commanded_part (change boot d m) ≡ commanded_part (change false (as_desk (commanded_part d)) m)
 unfolding change as_desk
-changed boot d (says.SetBoard text) = set_position d (as_desk (commanded d)) _ refl
+changed boot d (says.SetBoard text) = set_position d (as_desk (commanded_part d)) _ refl
 changed boot d m = refl
 
 -- the same message changes the same
-pub alike_changed : (boot boot' : Bool) (d d' : Desk) (m : IfaceMsg) → commanded d ≡ commanded d' → commanded (change boot d m) ≡ commanded (change boot' d' m)
-alike_changed boot boot' d d' m e = changed boot d m ∙ ap (λ (c : Commanded). commanded (change false (as_desk c) m)) e ∙ sym (changed boot' d' m)
+pub alike_changed : (boot boot' : Bool) (d d' : Desk) (m : IfaceMsg) → commanded_part d ≡ commanded_part d' → commanded_part (change boot d m) ≡ commanded_part (change boot' d' m)
+alike_changed boot boot' d d' m e = changed boot d m ∙ ap (λ (c : Commanded). commanded_part (change false (as_desk c) m)) e ∙ sym (changed boot' d' m)
 
 -- SETTINGS
 

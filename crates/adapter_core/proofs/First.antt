@@ -11,7 +11,7 @@ use Rattle.search_epochs.specs.Dialogue as dialogues
 use Rattle.search_epochs.specs.Dialogue.{after_what, mid_dialogue, stale_state, heard_state, settled_state}
 use Rattle.desk_rules.specs.Desk.{Situation}
 use Rattle.desk_rules.specs.Steps.{Effect, Boots, what_of, desk_after_effect}
-use Rattle.desk_rules.specs.Orders.{waiting}
+use Rattle.desk_rules.specs.Orders.{orders_waiting}
 use Rattle.desk_rules.specs.Fits.{IsFirst}
 use Rattle.desk_rules.proofs.Firsts.{IsBoots, orders_first, effect_booted}
 
@@ -80,9 +80,9 @@ batch_first false ls f = f
 
 -- what is held after the step, and whether options count, where the engine is in Boot then
 pub first_after : (h : Situation) (held : List Order) (d : Effect) (v : dialogues.Dialogue) (r b : Bool) (o : Orders) → (v.state ≡ states.Boot → IsFirst held × (h.desk.booted ≡ false))
-    → settled_state (mid_dialogue v (what_of d) r).state o ≡ states.Boot → IsFirst (cond b [] (waiting h held d)) × ((desk_after_effect h d).booted ≡ false)
+    → settled_state (mid_dialogue v (what_of d) r).state o ≡ states.Boot → IsFirst (cond b [] (orders_waiting h held d)) × ((desk_after_effect h d).booted ≡ false)
 first_after h held d v r b o f x =
     let said = risen v d r (was_settled (mid_dialogue v (what_of d) r).state o x) in
     let none = no_boots v d said in
     let before = f (was_what v (what_of d) said) in
-    (batch_first b (waiting h held d) (orders_first h held d none before.1 before.0), effect_booted h d none ∙ before.1)
+    (batch_first b (orders_waiting h held d) (orders_first h held d none before.1 before.0), effect_booted h d none ∙ before.1)

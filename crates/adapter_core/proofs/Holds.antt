@@ -9,7 +9,7 @@ use Rattle.policy_rules.specs.Policy.{IsProper}
 use Rattle.search_epochs.specs.Tickets.{Engine, Boot, Getting, Idle, Search, Gone}
 use Rattle.search_epochs.proofs.Turns.{TicketWithin}
 use Rattle.search_epochs.proofs.Within.{all_within, turned_within, turned_last}
-use Rattle.desk_rules.specs.Orders.{waiting, word_of, AreHeld}
+use Rattle.desk_rules.specs.Orders.{orders_waiting, word_of, AreHeld}
 use Rattle.desk_rules.specs.Fits.{IsSound}
 use Rattle.adapter_core.specs.Ends.{may}
 use Rattle.adapter_core.specs.Trace.{State, Step, Lawful, state, state_after, situation, effect, turn, mid, has_ready, iface_text, engine_text}
@@ -39,7 +39,7 @@ pub stands_first : (o : Settings) → IsProper o → Stands o (parts.opening o) 
 stands_first o p = (refl, begins o p)
 
 -- what holds goes on, whatever the orders are, if only the event may come
-pub holds_on : (s : State) (step : Step) → Holds s → AreHeld (waiting (situation s) s.held (effect s step.event)) → may s.ends step.event ≡ true → Holds (state_after s step)
+pub holds_on : (s : State) (step : Step) → Holds s → AreHeld (orders_waiting (situation s) s.held (effect s step.event)) → may s.ends step.event ≡ true → Holds (state_after s step)
 holds_on s step holds a m =
     let t = within s.dialogue.epoch s.dialogue.engine holds.ticket in
     let u = turn s step.event in
@@ -48,7 +48,7 @@ holds_on s step holds a m =
       begins = λ no. absurd (both_ways _ no (opened_later s.ends step.event m));
       ticket = back _ _ (all_within (mid s step.event).epoch (mid s step.event).engine (map word_of step.orders) (turned_within s.dialogue u t));
       last = turned_last s.dialogue u t holds.last;
-      held = still (has_ready (map word_of step.orders)) (waiting (situation s) s.held (effect s step.event)) a;
+      held = still (has_ready (map word_of step.orders)) (orders_waiting (situation s) s.held (effect s step.event)) a;
     }
 
 -- each step of a core extends each lawful trace that it stands for

@@ -18,7 +18,7 @@ use Rattle.search_epochs.specs.Dialogue.{mid_dialogue, owed_by_dialogue, played_
 use Rattle.desk_rules.specs.Desk.{Situation, current, call_of, is_gone, is_boot, owes_move, owed_at}
 use Rattle.desk_rules.specs.Lines.{is_epoch_line}
 use Rattle.desk_rules.specs.Steps.{Effect, Accepts, Boots, classify, what_of, begins_epoch, call_after, desk_after_effect, is_death, answers_pings}
-use Rattle.desk_rules.specs.Orders.{waiting}
+use Rattle.desk_rules.specs.Orders.{orders_waiting}
 use Rattle.desk_rules.specs.Fits.{Fits, IsFirst, CanHold}
 use Rattle.desk_rules.proofs.Serves.{not_gone}
 use Rattle.desk_rules.proofs.Sound.{stays_sound, step_sound}
@@ -89,7 +89,7 @@ module _ (v : CoreParts) (e : Event) (k : Keeps v) (m : may v.ends e ≡ true) w
   closed_now = (ends_after v.ends e).closed
 
   abbrev o : Orders
-  o = choice (is_open e) closed_now h (waiting h v.held d) d mid
+  o = choice (is_open e) closed_now h (orders_waiting h v.held d) d mid
 
   fits : Fits h v.held d
   fits = comes_fits h v.held e (line_event v.ends e m)
@@ -100,10 +100,10 @@ module _ (v : CoreParts) (e : Event) (k : Keeps v) (m : may v.ends e ≡ true) w
       subst (λ (z : Bool). Serves g (call_after z h d)) (b ∙ sym c) (still h v.held d v.dialogue refl fits (k.serves b) g x)
 
   served : (rests : Bool) → closed_now ≡ false → (g : GoKind)
-      → current (settled_state mid.state (cond rests chosen.None (dialogues.settle mid (call_after closed_now h d) (is_unsent (waiting h v.held d) d) (played_of (what_of d)) (is_hurry (what_of d))))) ≡ Some g → Serves g (call_after closed_now h d)
+      → current (settled_state mid.state (cond rests chosen.None (dialogues.settle mid (call_after closed_now h d) (is_unsent (orders_waiting h v.held d) d) (played_of (what_of d)) (is_hurry (what_of d))))) ≡ Some g → Serves g (call_after closed_now h d)
   served true c g x = still_situation c g x
   served false c g x =
-      chosen_serves mid.state mid.spent (call_after closed_now h d) (is_unsent (waiting h v.held d) d) (is_pondered mid.pondered (played_of (what_of d))) (is_hurry (what_of d)) (still_situation c) g x
+      chosen_serves mid.state mid.spent (call_after closed_now h d) (is_unsent (orders_waiting h v.held d) d) (is_pondered mid.pondered (played_of (what_of d))) (is_hurry (what_of d)) (still_situation c) g x
 
   serves_after : closed_now ≡ false → (g : GoKind) → current (settled_state mid.state o) ≡ Some g → Serves g (call_of closed_now (is_gone (settled_state mid.state o)) (advance v e).desk)
   unfolding advance

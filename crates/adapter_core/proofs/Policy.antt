@@ -3,7 +3,7 @@ use Rattle.std.proofs.Common.{◌≡◌, List, [], ◌∷◌, Bool, true, false,
 use Rattle.line_io.specs.Out.{Text}
 use Rattle.policy_rules.specs.declared.settings.Settings.{Settings}
 use Rattle.policy_rules.specs.Policy.{IsProper}
-use Rattle.policy_rules.specs.Scores.{Score, no_scores, counted}
+use Rattle.policy_rules.specs.Scores.{Score, no_scores, score_counts}
 use Rattle.policy_rules.proofs.Counts.{counts_tell, settings_kept}
 use Rattle.desk_rules.specs.Desk.{Situation}
 use Rattle.desk_rules.specs.Lines.{clears_scores}
@@ -18,12 +18,12 @@ situation_kept s to_iface to_engine p =
     ap (λ (b : Bool). let h : Situation = record (parts.situation (parts_of s to_iface to_engine)) { resigns = b } in h) ((counts_tell s.settings (s.desk.seen.score ∷ s.scores) p).0)
     ∙ ap (λ (b : Bool). let h : Situation = record (situation s) { accepts = b } in h) ((counts_tell s.settings s.scores p).1)
 
-cleared : (o : Settings) (xs : List Score) (b : Bool) → cond b (no_scores (counted o xs).settings) (counted o xs) ≡ counted o (cond b [] xs)
+cleared : (o : Settings) (xs : List Score) (b : Bool) → cond b (no_scores (score_counts o xs).settings) (score_counts o xs) ≡ score_counts o (cond b [] xs)
 cleared o xs true = ap no_scores (settings_kept o xs)
 cleared o xs false = refl
 
 -- the counts after an effect are those of the scores after it
-pub counts_kept : (o : Settings) (h : Situation) (d : Effect) (xs : List Score) → counts_after h.desk.seen.score d (counted o xs) ≡ counted o (scores_after h d xs)
+pub counts_kept : (o : Settings) (h : Situation) (d : Effect) (xs : List Score) → counts_after h.desk.seen.score d (score_counts o xs) ≡ score_counts o (scores_after h d xs)
 counts_kept o h (Accepts m) xs = cleared o xs (clears_scores m)
 counts_kept o h (Shows best hint) xs = refl
 counts_kept o h d xs = refl

@@ -8,7 +8,7 @@ use Rattle.peer_words.specs.declared.kinds.GoKind.{GoKind}
 use Rattle.peer_words.specs.declared.kinds.GoKind.TheVariants as kinds
 use Rattle.cecp_lines.specs.Messages.{IfaceMsg}
 use Rattle.cecp_lines.specs.Messages as says
-use Rattle.cecp_lines.specs.Reading.{reading}
+use Rattle.cecp_lines.specs.Reading.{message_or_fault}
 use Rattle.cecp_lines.specs.declared.reply.Reason.TheVariants as reasons
 use Rattle.cecp_lines.specs.declared.iface.IfaceFault.{IfaceFault}
 use Rattle.cecp_lines.specs.declared.iface.IfaceFault.TheVariants as faults
@@ -24,19 +24,19 @@ use Rattle.policy_rules.specs.Scores.{Score}
 use Rattle.search_epochs.specs.declared.words.Call.{Call}
 use Rattle.search_epochs.specs.declared.words.EngineState.{EngineState}
 use Rattle.search_epochs.specs.declared.words.EngineState.TheVariants as states
-use Rattle.search_epochs.specs.Tickets.{Turn, Engine, Boot, Getting, Idle, Search, Gone, Word, Ticketed, Quiet, IsLiveOnlyAt, owed, turned, after, is_move, is_nothing, is_idle, is_empty, is_hint, is_hurry, is_due, is_hit, stops, ponders, leaves_boot, only}
+use Rattle.search_epochs.specs.Tickets.{DialogueTurn, Engine, Boot, Getting, Idle, Search, Gone, Word, Ticketed, Quiet, IsLiveOnlyAt, owed, before_orders, after, is_move, is_nothing, is_idle, is_empty, is_hint, is_hurry, is_due, is_hit, stops, ponders, leaves_boot, only}
 use Rattle.search_epochs.proofs.Same.{only_orders}
 use Rattle.search_epochs.proofs.Whole.{no_hint_quiet}
 use Rattle.desk_rules.specs.declared.effect.Refusal.{Refusal}
 use Rattle.desk_rules.specs.declared.desk.Desk.{Desk}
 use Rattle.desk_rules.specs.Desk.{Situation, current, call_of, call_before, is_gone, is_boot, is_getting}
-use Rattle.desk_rules.specs.Lines.{verdict, judged, refusal, or_else, where_true, does_not_fit, asks}
+use Rattle.desk_rules.specs.Lines.{verdict, verdict_on, refusal, or_else, where_true, does_not_fit, asks}
 use Rattle.desk_rules.specs.Steps.{Effect, Nothing, LongLine, Refuses, Names, Declares, Boots, Readies, Shows, Forfeits, Dies, classify, line_effect, engine_says, answers, shows, thinks, begins_epoch, call_after, desk_after, desk_after_effect, answers_pings, scores_after, what_of, over_where, resigns_when_gone}
-use Rattle.desk_rules.specs.Orders.{word_of, waiting, asked_by_effect}
+use Rattle.desk_rules.specs.Orders.{word_of, orders_waiting, asked_by_effect}
 use Rattle.adapter_core.specs.declared.ends.Ends.{Ends}
 use Rattle.adapter_core.specs.Ends.{ends_after, is_open}
 use Rattle.cecp_lines.specs.Quit.{is_quit, is_quit_message}
-use Rattle.adapter_core.specs.Trace.{State, Step, IsLawful, state, state_after, situation, effect, turn, mid, owing, closed_after, desk_of, still_held}
+use Rattle.adapter_core.specs.Trace.{State, Step, IsLawful, state, state_after, situation, effect, turn, mid, owed_after, closed_after, desk_of, still_held}
 use Rattle.adapter_core.specs.Shown.{RefusedLinesChangeNothing}
 use Rattle.adapter_core.proofs.Traces.{Lasts, lasts, other_ticket, owed_is}
 
@@ -57,7 +57,7 @@ quit_passes h held = by_gone (is_gone h.engine) where
   by_gone true = refl
   by_gone false = refl
 
-judged_back : (m : IfaceMsg) (o : Option Refusal) (line : List ℕ) (r : Refusal) (text : List ℕ) → line_effect (judged m o) line ≡ Refuses r text → o ≡ Some r
+judged_back : (m : IfaceMsg) (o : Option Refusal) (line : List ℕ) (r : Refusal) (text : List ℕ) → line_effect (verdict_on m o) line ≡ Refuses r text → o ≡ Some r
 judged_back m None line r text e = absurd (cc)
 judged_back m (Some x) line r text e = cc
 
@@ -108,7 +108,7 @@ refused_line : (s : State) (e : Event) (r : Refusal) (text : List ℕ) → effec
 unfolding classify
 refused_line s (events.Iface line) r text e =
     let o = open_back s.ends.closed _ r text e in
-    record { line = line; event = refl; is_open = o.0; stays = refused_stays (situation s) s.held line (reading line) r text o.1 }
+    record { line = line; event = refl; is_open = o.0; stays = refused_stays (situation s) s.held line (message_or_fault line) r text o.1 }
 refused_line s events.IfaceLong r text e = absurd (not_where s.ends.closed LongLine r text (λ x. cc) e)
 refused_line s (events.Engine line) r text e = absurd (not_where s.ends.closed (engine_says (situation s) (engine_message line)) r text (says_not (situation s) (engine_message line) r text) e)
 refused_line s events.EngineEnd r text e = absurd (not_where (is_gone (situation s).engine) Dies r text (λ x. cc) e)
@@ -198,11 +198,11 @@ module _ (s : State) (step : Step) (holds : Lasts s) (l : IsLawful s step) (r : 
   not_open : is_open e ≡ false
   not_open = ap is_open spelled.event
 
-  abbrev turn_by : Effect → Turn
-  turn_by d = record { what = what_of d; hint = s.desk.hint; begins_epoch = begins_epoch h d; call = call_after (closed_after s e) h d; waiting = map word_of (waiting h s.held d) }
+  abbrev turn_by : Effect → DialogueTurn
+  turn_by d = record { what = what_of d; hint = s.desk.hint; begins_epoch = begins_epoch h d; call = call_after (closed_after s e) h d; waiting = map word_of (orders_waiting h s.held d) }
 
   -- what it is to the dialogue
-  abbrev quiet : Turn
+  abbrev quiet : DialogueTurn
   quiet = record { what = Quiet; hint = s.desk.hint; begins_epoch = false; call = call_before h; waiting = map word_of s.held }
 
   same_call : call_after (closed_after s e) h (Refuses r line) ≡ call_before h
@@ -213,14 +213,14 @@ module _ (s : State) (step : Step) (holds : Lasts s) (l : IsLawful s step) (r : 
 
   turn_is : turn s e ≡ quiet
   unfolding asked_by_effect
-  turn_is = ap turn_by q ∙ ap (λ (c : Call). let t : Turn = record { what = Quiet; hint = s.desk.hint; begins_epoch = false; call = c; waiting = map word_of s.held } in t) same_call
+  turn_is = ap turn_by q ∙ ap (λ (c : Call). let t : DialogueTurn = record { what = Quiet; hint = s.desk.hint; begins_epoch = false; call = c; waiting = map word_of s.held } in t) same_call
 
   mid_is : mid s e ≡ s.dialogue
   mid_is =
-      ap (turned s.dialogue) turn_is
+      ap (before_orders s.dialogue) turn_is
       ∙ ap (λ (o : Option ℕ). let t : Ticketed = record { engine = s.dialogue.engine; epoch = s.dialogue.epoch; last = o } in t) (other_ticket s.dialogue.engine None s.dialogue.last refl)
 
-  abbrev only_by : Ticketed → Turn → List Word
+  abbrev only_by : Ticketed → DialogueTurn → List Word
   only_by m u = only m.engine m.epoch (owed m u.call) u.waiting (is_due s.dialogue u) (is_hit s.dialogue u) (is_hurry u.what)
 
   none_is_only : only_by s.dialogue quiet ≡ []
@@ -233,17 +233,17 @@ module _ (s : State) (step : Step) (holds : Lasts s) (l : IsLawful s step) (r : 
 
   no_words : ws ≡ []
   no_words =
-      only_orders (mid s e).engine (mid s e).epoch (owing s e) (turn s e).waiting (is_due s.dialogue (turn s e)) (is_hit s.dialogue (turn s e)) (is_hurry (turn s e).what) ws (l.settled not_open closed_now).words
+      only_orders (mid s e).engine (mid s e).epoch (owed_after s e) (turn s e).waiting (is_due s.dialogue (turn s e)) (is_hit s.dialogue (turn s e)) (is_hurry (turn s e).what) ws (l.settled not_open closed_now).words
       ∙ ap (λ (m : Ticketed). only_by m (turn s e)) mid_is
       ∙ ap (only_by s.dialogue) turn_is
       ∙ none_is_only
 
   -- THE STATE
 
-  pings_stay : cond (answers_pings (closed_after s e) (is_move (owing s e))) [] s.desk.pings ≡ s.desk.pings
+  pings_stay : cond (answers_pings (closed_after s e) (is_move (owed_after s e))) [] s.desk.pings ≡ s.desk.pings
   pings_stay =
-      kept_pings (closed_after s e) (is_move (owing s e)) s.desk.pings
-      (λ n. holds.pings spelled.is_open (ap (λ (u : Turn). is_move u.call) (sym turn_is) ∙ sym (owed_is s step holds l) ∙ n))
+      kept_pings (closed_after s e) (is_move (owed_after s e)) s.desk.pings
+      (λ n. holds.pings spelled.is_open (ap (λ (u : DialogueTurn). is_move u.call) (sym turn_is) ∙ sym (owed_is s step holds l) ∙ n))
 
   -- what resigns for being gone has resigned before
   not_again : (wants gone owes : Bool) → (wants ≡ true → gone ≡ true → owes ≡ false) → (wants && ((gone || false) && owes)) ≡ false
@@ -260,21 +260,21 @@ module _ (s : State) (step : Step) (holds : Lasts s) (l : IsLawful s step) (r : 
   desk_stays : desk_of s e ≡ s.desk
   unfolding desk_after_effect
   desk_stays =
-      ap (λ (d : Effect). desk_after (closed_after s e) (is_move (owing s e)) (is_hit s.dialogue (turn s e)) h d) q
+      ap (λ (d : Effect). desk_after (closed_after s e) (is_move (owed_after s e)) (is_hit s.dialogue (turn s e)) h d) q
       ∙ ap (λ (b : Bool). let d : Desk = record s.desk {
         mode = over_where b s.desk.mode;
-        pings = cond (answers_pings (closed_after s e) (is_move (owing s e))) [] s.desk.pings;
+        pings = cond (answers_pings (closed_after s e) (is_move (owed_after s e))) [] s.desk.pings;
         early = cond (closed_after s e) [] s.desk.early;
       } in d) none_resigns
       ∙ ap (λ (b : Bool). let d : Desk = record s.desk {
-        pings = cond (answers_pings (closed_after s e) (is_move (owing s e))) [] s.desk.pings;
+        pings = cond (answers_pings (closed_after s e) (is_move (owed_after s e))) [] s.desk.pings;
         early = cond b [] s.desk.early;
       } in d) closed_now
       ∙ ap (λ (ps : List ℕ). let d : Desk = record s.desk { pings = ps } in d) pings_stay
 
-  held_stays : still_held (waiting h s.held (effect s e)) ws ≡ s.held
+  held_stays : still_held (orders_waiting h s.held (effect s e)) ws ≡ s.held
   unfolding asked_by_effect
-  held_stays = ap (λ (d : Effect). still_held (waiting h s.held d) ws) q ∙ ap (λ (xs : List Word). still_held s.held xs) no_words
+  held_stays = ap (λ (d : Effect). still_held (orders_waiting h s.held d) ws) q ∙ ap (λ (xs : List Word). still_held s.held xs) no_words
 
   dialogue_stays : after (mid s e) ws ≡ s.dialogue
   dialogue_stays = ap (λ (m : Ticketed). after m ws) mid_is ∙ ap (after s.dialogue) no_words
@@ -287,9 +287,9 @@ module _ (s : State) (step : Step) (holds : Lasts s) (l : IsLawful s step) (r : 
 
   pub all_stays : (state_after s step ≡ s) × (step.orders ≡ [])
   all_stays = (
-    ap (λ (x : Ends). parts x (desk_of s e) (scores_after h (effect s e) s.scores) (still_held (waiting h s.held (effect s e)) ws) (after (mid s e) ws)) ends_stay
-        ∙ ap (λ (x : Desk). parts s.ends x (scores_after h (effect s e) s.scores) (still_held (waiting h s.held (effect s e)) ws) (after (mid s e) ws)) desk_stays
-        ∙ ap (λ (x : List Score). parts s.ends s.desk x (still_held (waiting h s.held (effect s e)) ws) (after (mid s e) ws)) scores_stay
+    ap (λ (x : Ends). parts x (desk_of s e) (scores_after h (effect s e) s.scores) (still_held (orders_waiting h s.held (effect s e)) ws) (after (mid s e) ws)) ends_stay
+        ∙ ap (λ (x : Desk). parts s.ends x (scores_after h (effect s e) s.scores) (still_held (orders_waiting h s.held (effect s e)) ws) (after (mid s e) ws)) desk_stays
+        ∙ ap (λ (x : List Score). parts s.ends s.desk x (still_held (orders_waiting h s.held (effect s e)) ws) (after (mid s e) ws)) scores_stay
         ∙ ap (λ (x : List Order). parts s.ends s.desk s.scores x (after (mid s e) ws)) held_stays
         ∙ ap (λ (x : Ticketed). parts s.ends s.desk s.scores s.held x) dialogue_stays,
     no_orders step.orders no_words,

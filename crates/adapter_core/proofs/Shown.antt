@@ -13,7 +13,7 @@ use Rattle.line_io.specs.Event.{Event}
 use Rattle.line_io.specs.Event as events
 use Rattle.cecp_lines.specs.Messages.{IfaceMsg}
 use Rattle.cecp_lines.specs.Messages as says
-use Rattle.cecp_lines.specs.Reading.{reading}
+use Rattle.cecp_lines.specs.Reading.{message_or_fault}
 use Rattle.cecp_lines.specs.declared.reply.Spelling.{Spelling}
 use Rattle.cecp_lines.specs.Replies.{Reply}
 use Rattle.cecp_lines.specs.Replies as reply
@@ -47,7 +47,7 @@ use Rattle.desk_rules.specs.Desk.{Situation, is_boot, is_getting, is_gone, curre
 use Rattle.desk_rules.specs.Lines.{Verdict, Refused, Accepted, Early, verdict, change, refused_option, early_answer}
 use Rattle.desk_rules.specs.Steps.{Effect, Nothing, LongLine, Refuses, Accepts, Names, Declares, Boots, Readies, Thinks, Shows, Forfeits, Dies, classify, line_effect, engine_says, answers, shows, thinks, searched_by, resigns_after, resigns_at_end, resigns_when_gone, desk_after_effect}
 use Rattle.desk_rules.specs.Replies.{refused, result_by, result_of, protover_row, offer_where, hint_row, row_accepted, list_where, resign_where, early_refusal, early_refusals, row, is_told, named_hint, spelling_of, replies_of}
-use Rattle.adapter_core.specs.Trace.{State, state, situation, effect, replies, owing, closed_after}
+use Rattle.adapter_core.specs.Trace.{State, state, situation, effect, replies, owed_after, closed_after}
 use Rattle.adapter_core.specs.Shown.{Answers, MovesAreShownInTime, MovesAreShownOnce, moves_told}
 
 -- LINES THAT TELL A MOVE
@@ -224,7 +224,7 @@ few_by false owes h d = subst (λ (l : List AnyMove). length l ≤ 1) (sym (open
 pub once : (o : Settings) → MovesAreShownOnce o
 once o step t l =
     let s = state o t in
-    subst (λ (rs : List Reply). length (moves_told rs) ≤ 1) (sym l.1.replies) (few_by (closed_after s step.event) (is_move (owing s step.event)) (situation s) (effect s step.event))
+    subst (λ (rs : List Reply). length (moves_told rs) ≤ 1) (sym l.1.replies) (few_by (closed_after s step.event) (is_move (owed_after s step.event)) (situation s) (effect s step.event))
 
 -- FROM THE MOVE TO THE ANSWER
 
@@ -309,7 +309,7 @@ answer_back s (events.Engine line) m hint e =
       current = engine_back s.dialogue.epoch s.dialogue.engine said.stopped said.engine;
       is_legal = said.is_legal;
     }
-answer_back s (events.Iface line) m hint e = absurd (line_not (verdict (situation s) s.held line (reading line)) line m hint (open_back s.ends.closed _ m hint e).1)
+answer_back s (events.Iface line) m hint e = absurd (line_not (verdict (situation s) s.held line (message_or_fault line)) line m hint (open_back s.ends.closed _ m hint e).1)
 answer_back s events.IfaceLong m hint e = let o = open_back s.ends.closed LongLine m hint e in absurd (cc (o.1))
 answer_back s events.EngineEnd m hint e = absurd (dies_not (is_gone (situation s).engine) e) where
   dies_not : (b : Bool) → cond b Nothing Dies ≡ Shows m hint → ⊥
@@ -377,7 +377,7 @@ shown o step t l m = (there, back) where
   s = state o t
 
   owes : Bool
-  owes = is_move (owing s step.event)
+  owes = is_move (owed_after s step.event)
 
   there : Contains step.replies (reply.Move m) → Answers s step.event m
   there c =

@@ -6,7 +6,7 @@ use Rattle.line_io.specs.Event.{Event}
 use Rattle.line_io.specs.Event as events
 use Rattle.cecp_lines.specs.Messages.{IfaceMsg}
 use Rattle.cecp_lines.specs.Messages as says
-use Rattle.cecp_lines.specs.Reading.{reading}
+use Rattle.cecp_lines.specs.Reading.{message_or_fault}
 use Rattle.cecp_lines.specs.declared.iface.IfaceFault.{IfaceFault}
 use Rattle.cecp_lines.specs.declared.iface.IfaceFault.TheVariants as faults
 use Rattle.peer_words.specs.declared.kinds.GoKind.{GoKind}
@@ -29,7 +29,7 @@ use Rattle.desk_rules.proofs.Firsts.{line_booted}
 use Rattle.adapter_core.specs.declared.ends.Ends.{Ends}
 use Rattle.adapter_core.specs.Ends.{ends_after}
 use Rattle.cecp_lines.specs.Quit.{is_quit}
-use Rattle.adapter_core.specs.Alone.{Commanded, commanded, is_of_iface, is_answer}
+use Rattle.adapter_core.specs.Alone.{Commanded, commanded_part, is_of_iface, is_answer}
 
 -- DEEDS OF THE INTERFACE
 
@@ -52,7 +52,7 @@ unless_closed false d i = i
 
 pub iface_effect : (h : Situation) (held : List Order) (e : Event) → is_of_iface e ≡ true → IsIfaceDeed (classify h held e)
 unfolding classify
-iface_effect h held (events.Iface line) i = unless_closed h.closed _ (line_iface (verdict h held line (reading line)) line)
+iface_effect h held (events.Iface line) i = unless_closed h.closed _ (line_iface (verdict h held line (message_or_fault line)) line)
 iface_effect h held events.IfaceLong i = unless_closed h.closed LongLine tt
 iface_effect h held events.IfaceEnd i = tt
 iface_effect h held events.IfaceLost i = tt
@@ -116,7 +116,7 @@ IsQuietDeed Forfeits = ⊥
 IsQuietDeed Dies = ⊥
 IsQuietDeed d = Unit {0}
 
-pub quiet_desk : (h : Situation) (d : Effect) → IsQuietDeed d → commanded (desk_after_effect h d) ≡ commanded h.desk
+pub quiet_desk : (h : Situation) (d : Effect) → IsQuietDeed d → commanded_part (desk_after_effect h d) ≡ commanded_part h.desk
 unfolding desk_after_effect
 quiet_desk h (Accepts m) q = absurd q
 quiet_desk h (Shows best hint) q = absurd q

@@ -8,14 +8,14 @@ use Rattle.chess_board.specs.declared.board.Move.{Move}
 use Rattle.uci_lines.specs.Orders.{Order}
 use Rattle.uci_lines.specs.Orders as orders
 use Rattle.policy_rules.specs.declared.scores.Scores.{Scores}
-use Rattle.policy_rules.specs.Scores.{counted}
+use Rattle.policy_rules.specs.Scores.{score_counts}
 use Rattle.search_epochs.specs.declared.words.Call.{Call}
 use Rattle.search_epochs.specs.declared.words.Call.TheVariants as calls
 use Rattle.search_epochs.specs.declared.words.Orders.{Orders}
 use Rattle.search_epochs.specs.declared.words.Orders.TheVariants as chosen
-use Rattle.search_epochs.specs.Tickets.{Ticketed, Turn, Engine, Boot, Getting, Idle, Search, Gone, Word, Uci, Quit, AllSetup, Settled, turned, after, ponders, ponders_at, sent, sent_all, is_due, is_hit, is_move, is_hurry, has_go, leaves_boot, spent}
+use Rattle.search_epochs.specs.Tickets.{Ticketed, DialogueTurn, Engine, Boot, Getting, Idle, Search, Gone, Word, Uci, Quit, AllSetup, Settled, before_orders, after, ponders, ponders_at, engine_after_word, sent_all, is_due, is_hit, is_move, is_hurry, has_go, leaves_boot, is_call_spent}
 use Rattle.search_epochs.specs.Dialogue as dialogues
-use Rattle.search_epochs.specs.Dialogue.{forget, kept, words, settle, after_settled, is_pondered, played_of, is_hit_order, is_batch_order}
+use Rattle.search_epochs.specs.Dialogue.{forget, dialogue_between_steps, words, settle, after_settled, is_pondered, played_of, is_hit_order, is_batch_order}
 use Rattle.search_epochs.proofs.Whole.{mid_kept, kept_mid, is_unsent, settled_by, whole_mid, ponders_before, triple, hit_kept}
 use Rattle.search_epochs.proofs.Turns.{TicketWithin}
 use Rattle.search_epochs.proofs.Rests.{rested, hit_chosen, batch_chosen, begun}
@@ -25,7 +25,7 @@ use Rattle.think_text.specs.Kept.{nothing_seen}
 use Rattle.desk_rules.specs.declared.desk.Desk.{Desk}
 use Rattle.desk_rules.specs.Desk.{Situation}
 use Rattle.desk_rules.specs.Steps.{classify, what_of, begins_epoch, desk_after_effect, answers_pings, scores_after, over_where, resigns_when_gone}
-use Rattle.desk_rules.specs.Orders.{waiting, order_list, word_of}
+use Rattle.desk_rules.specs.Orders.{orders_waiting, order_list, word_of}
 use Rattle.desk_rules.specs.Texts.{order_lines}
 use Rattle.desk_rules.specs.Fits.{Fits, IsSound, IsLineEvent}
 use Rattle.desk_rules.proofs.Effects.{comes_fits}
@@ -33,7 +33,7 @@ use Rattle.desk_rules.proofs.Hints.{hint_kept, call_hint}
 use Rattle.desk_rules.proofs.Waits.{all_setup, all_held}
 use Rattle.desk_rules.specs.Orders.{AreHeld}
 use Rattle.adapter_core.specs.Ends.{may, ends_after, is_open}
-use Rattle.adapter_core.specs.Trace.{State, Step, IsLawful, AreSettled, state_after, situation, effect, turn, mid, owing, closed_after, desk_of, gone_after, replies, still_held, has_ready, last_orders}
+use Rattle.adapter_core.specs.Trace.{State, Step, IsLawful, AreSettled, state_after, situation, effect, turn, mid, owed_after, closed_after, desk_of, gone_after, replies, still_held, has_ready, last_orders}
 use Rattle.adapter_core.specs.Parts as parts
 use Rattle.adapter_core.specs.Parts.{CoreParts, advance, advance_at, advance_from, finish, choice, desk_with, none_held, orders_of}
 use Rattle.adapter_core.specs.Stands.{parts_of, Holds, TicketIsWithin, step_from, step_at, step_by}
@@ -62,11 +62,11 @@ for_owed true c g x = cc
 for_owed false c g x = x
 
 -- the dialogue where no orders are chosen
-rest : (t : Ticketed) (u : Turn) (h' : Option Move) (ws : List Word) → TicketWithin t.epoch t.engine → (u.begins_epoch ≡ false → h' ≡ u.hint)
-    → sent_all (turned t u).epoch (turned t u).engine ws ≡ (turned t u).engine
-    → after_settled (kept_mid t u) chosen.None ≡ kept (after (turned t u) ws) h'
+rest : (t : Ticketed) (u : DialogueTurn) (h' : Option Move) (ws : List Word) → TicketWithin t.epoch t.engine → (u.begins_epoch ≡ false → h' ≡ u.hint)
+    → sent_all (before_orders t u).epoch (before_orders t u).engine ws ≡ (before_orders t u).engine
+    → after_settled (kept_mid t u) chosen.None ≡ dialogue_between_steps (after (before_orders t u) ws) h'
 rest t u h' ws w same e =
-    let m = turned t u in
+    let m = before_orders t u in
     let hints : ponders m ≡ true → cond (ponders t) u.hint None ≡ h' = λ p. (let b = ponders_before t u w p in ap (λ c. cond c u.hint None) b.1 ∙ sym (same b.0)) in
     triple (ap (forget m.epoch) (sym e)) refl (rested m.epoch m.engine (cond (ponders t) u.hint None) h' hints ∙ ap (λ (x : Engine). cond (ponders_at m.epoch x) h' None) (sym e))
 
@@ -83,10 +83,10 @@ module _ (s : State) (to_iface to_engine : Text) (e : Event) (holds : Holds s) (
   dialogue_mid = kept_mid s.dialogue (turn s e)
 
   abbrev owes : Bool
-  owes = is_move (owing s e)
+  owes = is_move (owed_after s e)
 
   abbrev waits : List Order
-  waits = waiting (situation s) s.held (effect s e)
+  waits = orders_waiting (situation s) s.held (effect s e)
 
   abbrev choice_situation : Orders
   choice_situation = choice (is_open e) (closed_after s e) (situation s) waits (effect s e) dialogue_mid
@@ -120,8 +120,8 @@ module _ (s : State) (to_iface to_engine : Text) (e : Event) (holds : Holds s) (
       let c : closed_after s e ≡ false = false_from_ne_true (closed_after s e) (λ x. both_ways (begins_epoch (situation s) (effect s e)) (closed_rises s.ends (situation s) s.held e refl x) r) in
       let m = mid s e in
       ap is_hit_order (chosen_by o c)
-      ∙ hit_chosen m.epoch m.engine (owing s e) (is_unsent s.dialogue (turn s e)) (is_pondered (cond (ponders s.dialogue) s.desk.hint None) (played_of (turn s e).what)) (is_hurry (turn s e).what)
-      ∙ hit_kept s.dialogue.epoch s.dialogue.engine s.desk.hint (turn s e).what (is_move (owing s e))
+      ∙ hit_chosen m.epoch m.engine (owed_after s e) (is_unsent s.dialogue (turn s e)) (is_pondered (cond (ponders s.dialogue) s.desk.hint None) (played_of (turn s e).what)) (is_hurry (turn s e).what)
+      ∙ hit_kept s.dialogue.epoch s.dialogue.engine s.desk.hint (turn s e).what (is_move (owed_after s e))
 
   desk_kept : desk_with (situation s) (effect s e) e old owes choice_situation ≡ desk_of s e
   desk_kept =
@@ -168,15 +168,15 @@ module _ (s : State) (to_iface to_engine : Text) (e : Event) (holds : Holds s) (
   same_hint : begins_epoch (situation s) (effect s e) ≡ false → (desk_of s e).hint ≡ s.desk.hint
   same_hint r = hint_kept (situation s) (effect s e) r
 
-  owed_hint : (g : Move) → owing s e ≡ calls.Ponder g → (desk_of s e).hint ≡ Some g
-  owed_hint g x = call_hint (closed_after s e) (gone_after s e) (desk_after_effect (situation s) (effect s e)) g (for_owed (spent (mid s e)) (turn s e).call g x)
+  owed_hint : (g : Move) → owed_after s e ≡ calls.Ponder g → (desk_of s e).hint ≡ Some g
+  owed_hint g x = call_hint (closed_after s e) (gone_after s e) (desk_after_effect (situation s) (effect s e)) g (for_owed (is_call_spent (mid s e)) (turn s e).call g x)
 
   abbrev IsWhole : Orders → Type 0
   IsWhole o =
       let m = mid s e in
       let u = turn s e in
-      Settled m.engine m.epoch (owing s e) u.waiting (is_due s.dialogue u) (is_hit s.dialogue u) (is_hurry u.what) (words u.waiting o)
-      × (after_settled dialogue_mid o ≡ kept (after m (words u.waiting o)) (desk_of s e).hint)
+      Settled m.engine m.epoch (owed_after s e) u.waiting (is_due s.dialogue u) (is_hit s.dialogue u) (is_hurry u.what) (words u.waiting o)
+      × (after_settled dialogue_mid o ≡ dialogue_between_steps (after m (words u.waiting o)) (desk_of s e).hint)
 
   whole : is_open e ≡ false → closed_after s e ≡ false → IsWhole choice_situation
   whole o c = subst IsWhole (sym (chosen_by o c)) (whole_mid s.dialogue (turn s e) (desk_of s e).hint ticket setup same_hint owed_hint)
@@ -195,17 +195,17 @@ module _ (s : State) (to_iface to_engine : Text) (e : Event) (holds : Holds s) (
   batched : is_open e ≡ false → closed_after s e ≡ false → is_due s.dialogue (turn s e) ≡ true → choice_situation ≡ chosen.Batch
   batched o c d =
       let m = mid s e in
-      chosen_by o c ∙ batch_chosen m.epoch m.engine (owing s e) (is_unsent s.dialogue (turn s e)) (is_pondered (cond (ponders s.dialogue) s.desk.hint None) (played_of (turn s e).what)) (is_hurry (turn s e).what) d
+      chosen_by o c ∙ batch_chosen m.epoch m.engine (owed_after s e) (is_unsent s.dialogue (turn s e)) (is_pondered (cond (ponders s.dialogue) s.desk.hint None) (played_of (turn s e).what)) (is_hurry (turn s e).what) d
 
-  begins : is_open e ≡ false → closed_after s e ≡ false → has_go (map word_of orders_situation) ≡ true → choice_situation ≡ chosen.Begin (owing s e)
+  begins : is_open e ≡ false → closed_after s e ≡ false → has_go (map word_of orders_situation) ≡ true → choice_situation ≡ chosen.Begin (owed_after s e)
   begins o c g =
       let m = mid s e in
       let g' : has_go (words (map word_of waits) (settled_by s.dialogue (turn s e))) ≡ true = ap has_go (sym (words_settled o c ∙ ap (words (map word_of waits)) (chosen_by o c))) ∙ g in
-      chosen_by o c ∙ begun m.epoch m.engine (owing s e) (is_unsent s.dialogue (turn s e)) (is_pondered (cond (ponders s.dialogue) s.desk.hint None) (played_of (turn s e).what)) (is_hurry (turn s e).what) (map word_of waits) setup g'
+      chosen_by o c ∙ begun m.epoch m.engine (owed_after s e) (is_unsent s.dialogue (turn s e)) (is_pondered (cond (ponders s.dialogue) s.desk.hint None) (played_of (turn s e).what)) (is_hurry (turn s e).what) (map word_of waits) setup g'
 
   settled : is_open e ≡ false → closed_after s e ≡ false → AreSettled s e orders_situation
   settled o c = record {
-    words = subst (λ (ws : List Word). Settled (mid s e).engine (mid s e).epoch (owing s e) (turn s e).waiting (is_due s.dialogue (turn s e)) (is_hit s.dialogue (turn s e)) (is_hurry (turn s e).what) ws) (sym (words_settled o c)) ((whole o c).0);
+    words = subst (λ (ws : List Word). Settled (mid s e).engine (mid s e).epoch (owed_after s e) (turn s e).waiting (is_due s.dialogue (turn s e)) (is_hit s.dialogue (turn s e)) (is_hurry (turn s e).what) ws) (sym (words_settled o c)) ((whole o c).0);
     batch = λ d. orders_settled o c ∙ ap (order_list waits (desk_of s e)) (batched o c d);
     search = λ g. orders_settled o c ∙ ap (order_list waits (desk_of s e)) (begins o c g);
   }
@@ -243,7 +243,7 @@ module _ (s : State) (to_iface to_engine : Text) (e : Event) (holds : Holds s) (
 
   -- the dialogue after the orders
   abbrev GoesOn : List Word → Orders → Type 0
-  GoesOn ws o = after_settled dialogue_mid o ≡ kept (after (mid s e) ws) (desk_of s e).hint
+  GoesOn ws o = after_settled dialogue_mid o ≡ dialogue_between_steps (after (mid s e) ws) (desk_of s e).hint
 
   abbrev choice_by : Bool → Bool → Orders
   choice_by o after = choice o after (situation s) waits (effect s e) dialogue_mid
@@ -251,7 +251,7 @@ module _ (s : State) (to_iface to_engine : Text) (e : Event) (holds : Holds s) (
   opens_on : (opens closed : Bool) → opens ≡ true → may s.ends e ≡ true → is_open e ≡ true → GoesOn (map word_of (orders_by opens s.ends.closed closed (choice_by opens closed))) (choice_by opens closed)
   opens_on true closed x m o =
       let b = open_engine s e o m holds.begins in
-      rest s.dialogue (turn s e) (desk_of s e).hint (Uci ∷ []) ticket same_hint (ap (λ (g : Engine). sent (mid s e).epoch g Uci) b ∙ sym b)
+      rest s.dialogue (turn s e) (desk_of s e).hint (Uci ∷ []) ticket same_hint (ap (λ (g : Engine). engine_after_word (mid s e).epoch g Uci) b ∙ sym b)
   opens_on false closed x m o = cc
 
   ends_on : (before gone : Bool) → GoesOn (map word_of (cond (before || gone) [] (orders.Quit ∷ []))) chosen.None
@@ -292,8 +292,8 @@ module _ (s : State) (to_iface to_engine : Text) (e : Event) (holds : Holds s) (
   parts_stand : may s.ends e ≡ true → StandsAfter (finish (situation s) (effect s e) e old waits dialogue_mid owes choice_situation (desk_of s e))
   parts_stand m =
       ap (λ (c : Scores). part c (cond (is_batch_order choice_situation) [] waits) (after_settled dialogue_mid choice_situation)) (counts_kept s.settings (situation s) (effect s e) s.scores)
-      ∙ ap (λ (os : List Order). part (counted s.settings (scores_after (situation s) (effect s e) s.scores)) os (after_settled dialogue_mid choice_situation)) held_kept
-      ∙ ap (λ (t : dialogues.Dialogue). part (counted s.settings (scores_after (situation s) (effect s e) s.scores)) (still_held waits (map word_of orders_situation)) t)
+      ∙ ap (λ (os : List Order). part (score_counts s.settings (scores_after (situation s) (effect s e) s.scores)) os (after_settled dialogue_mid choice_situation)) held_kept
+      ∙ ap (λ (t : dialogues.Dialogue). part (score_counts s.settings (scores_after (situation s) (effect s e) s.scores)) (still_held waits (map word_of orders_situation)) t)
       (goes_on (is_open e) (closed_after s e) refl refl m)
 
   -- the core stands for the longer trace

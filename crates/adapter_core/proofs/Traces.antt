@@ -14,9 +14,9 @@ use Rattle.search_epochs.specs.declared.words.Call.TheVariants as calls
 use Rattle.search_epochs.specs.declared.words.Said.{Said}
 use Rattle.search_epochs.specs.declared.words.Said.TheVariants as said
 use Rattle.search_epochs.specs.declared.words.EngineState.TheVariants as states
-use Rattle.search_epochs.specs.Tickets.{Engine, Boot, Getting, Idle, Search, Gone, Word, Uci, Ticketed, Turn, TicketWithin, LastWithin, AllSetup, IsLiveOnlyAt, Serves, heard, said_of, sent, sent_all, closed_ticket, is_some_equal, spent, owed, after, is_move, is_nothing, is_idle, is_empty, is_hurry, is_due, is_hit, ponders}
+use Rattle.search_epochs.specs.Tickets.{Engine, Boot, Getting, Idle, Search, Gone, Word, Uci, Ticketed, DialogueTurn, TicketWithin, LastWithin, AllSetup, IsLiveOnlyAt, Serves, heard, said_of, engine_after_word, sent_all, closed_ticket, is_some_equal, is_call_spent, owed, after, is_move, is_nothing, is_idle, is_empty, is_hurry, is_due, is_hit, ponders}
 use Rattle.search_epochs.specs.Dialogue as dialogues
-use Rattle.search_epochs.specs.Dialogue.{forget, kept, mid_dialogue, words, choose, settled_state, settled_by, is_unsent, is_pondered, played_of}
+use Rattle.search_epochs.specs.Dialogue.{forget, dialogue_between_steps, mid_dialogue, words, choose, settled_state, settled_by, is_unsent, is_pondered, played_of}
 use Rattle.search_epochs.proofs.Turns.{risen_spent, ordered}
 use Rattle.search_epochs.proofs.Whole.{last_within, mid_kept, settled_mid}
 use Rattle.search_epochs.proofs.Within.{all_within, turned_within, turned_last}
@@ -26,14 +26,14 @@ use Rattle.desk_rules.specs.declared.mode.Mode.TheVariants as modes
 use Rattle.desk_rules.specs.declared.desk.Desk.{Desk}
 use Rattle.desk_rules.specs.Desk.{Situation, current, call_of, call_before, is_gone}
 use Rattle.desk_rules.specs.Steps.{Effect, Accepts, Shows, Forfeits, Answers, what_of, what_accepted, begins_epoch, call_after, is_death, desk_after_effect, answers_pings, over_where, resigns_when_gone}
-use Rattle.desk_rules.specs.Orders.{waiting, word_of, AreHeld}
+use Rattle.desk_rules.specs.Orders.{orders_waiting, word_of, AreHeld}
 use Rattle.desk_rules.specs.Fits.{Fits, IsSound, IsServed, IsOther}
 use Rattle.desk_rules.proofs.EarlyLines.{none_early}
 use Rattle.desk_rules.proofs.Effects.{comes_fits}
 use Rattle.desk_rules.proofs.Sound.{step_sound}
 use Rattle.desk_rules.proofs.Waits.{all_setup, all_held}
 use Rattle.adapter_core.specs.Ends.{is_open}
-use Rattle.adapter_core.specs.Trace.{State, Step, IsLawful, Lawful, opening, state, state_after, situation, effect, turn, mid, owing, closed_after, desk_of, has_ready}
+use Rattle.adapter_core.specs.Trace.{State, Step, IsLawful, Lawful, opening, state, state_after, situation, effect, turn, mid, owed_after, closed_after, desk_of, has_ready}
 use Rattle.adapter_core.proofs.Keeps.{first_short}
 use Rattle.adapter_core.proofs.Closing.{line_event, opened_later, open_before}
 use Rattle.adapter_core.proofs.Serving.{still, chosen_serves, call_settled}
@@ -48,7 +48,7 @@ pub record Lasts (s : State) : Type 0 where
   pub last : LastWithin s.dialogue.epoch s.dialogue.last
   -- a current search serves the call, and a call for a Move is not spent
   pub served : IsServed (situation s)
-  pub unspent : spent s.dialogue ≡ true → is_move (call_before (situation s)) ≡ false
+  pub unspent : is_call_spent s.dialogue ≡ true → is_move (call_before (situation s)) ≡ false
   -- pings are held only where a Move is called for
   pub pings : s.ends.closed ≡ false → is_move (call_before (situation s)) ≡ false → s.desk.pings ≡ []
   -- the engine is idle only where nothing waits and nothing is owed
@@ -86,14 +86,14 @@ gone_heard n m Boot (Some said.UciOk) = refl
 gone_heard n m e (Some said.UciOk) = refl
 gone_heard n m e w = refl
 
-gone_sent : (n epoch : ℕ) (e : Engine) (w : Word) → is_gone (forget n (sent epoch e w)) ≡ is_gone (forget n e)
+gone_sent : (n epoch : ℕ) (e : Engine) (w : Word) → is_gone (forget n (engine_after_word epoch e w)) ≡ is_gone (forget n e)
 gone_sent n epoch (Search kinds.Move t s) Uci = refl
 gone_sent n epoch e Uci = refl
 gone_sent n epoch e w = refl
 
 gone_sent_all : (n epoch : ℕ) (e : Engine) (ws : List Word) → is_gone (forget n (sent_all epoch e ws)) ≡ is_gone (forget n e)
 gone_sent_all n epoch e [] = refl
-gone_sent_all n epoch e (w ∷ ws) = gone_sent_all n epoch (sent epoch e w) ws ∙ gone_sent n epoch e w
+gone_sent_all n epoch e (w ∷ ws) = gone_sent_all n epoch (engine_after_word epoch e w) ws ∙ gone_sent n epoch e w
 
 line_ends : (m : IfaceMsg) → ends_it (said_of (what_accepted m)) ≡ false
 line_ends (says.UserMove m) = refl
@@ -136,7 +136,7 @@ other_quiet epoch (Search k t s) last c i f n = served_no_move k c (never_move k
 
 -- THROUGH A STEP
 
-uci_sent : (epoch : ℕ) (e : Engine) → (sent epoch e Uci ≡ Boot) ⊎ (sent epoch e Uci ≡ Gone)
+uci_sent : (epoch : ℕ) (e : Engine) → (engine_after_word epoch e Uci ≡ Boot) ⊎ (engine_after_word epoch e Uci ≡ Gone)
 uci_sent epoch Boot = inl refl
 uci_sent epoch Getting = inl refl
 uci_sent epoch Idle = inl refl
@@ -183,7 +183,7 @@ module _ (s : State) (step : Step) (lasts : Lasts s) (l : IsLawful s step) where
   abbrev d : Effect
   d = effect s e
 
-  abbrev u : Turn
+  abbrev u : DialogueTurn
   u = turn s e
 
   abbrev m : Ticketed
@@ -195,11 +195,11 @@ module _ (s : State) (step : Step) (lasts : Lasts s) (l : IsLawful s step) where
   pub fits : Fits h s.held d
   fits = comes_fits h s.held e (line_event s.ends e l.may_come)
 
-  waits_held : AreHeld (waiting h s.held d)
+  waits_held : AreHeld (orders_waiting h s.held d)
   waits_held = all_held h s.held d lasts.sound fits lasts.held
 
   setup : AllSetup u.waiting
-  setup = all_setup (waiting h s.held d) waits_held
+  setup = all_setup (orders_waiting h s.held d) waits_held
 
   -- the engine is Gone after the step where it was Gone before, or died
   pub gone_is : is_gone (situation (state_after s step)).engine ≡ (is_gone h.engine || is_death d)
@@ -212,7 +212,7 @@ module _ (s : State) (step : Step) (lasts : Lasts s) (l : IsLawful s step) where
   pub call_is_after : call_before (situation (state_after s step)) ≡ u.call
   call_is_after =
       ap (λ (b : Bool). call_of (closed_after s e) b (desk_of s e)) gone_is
-      ∙ sym (call_settled (closed_after s e) (is_move (owing s e)) (is_hit s.dialogue u) (closed_after s e) h d)
+      ∙ sym (call_settled (closed_after s e) (is_move (owed_after s e)) (is_hit s.dialogue u) (closed_after s e) h d)
 
   -- a call for a Move is not spent after the event
   quiet_situation : (x : Effect) → closed_after s e ≡ false → begins_epoch h x ≡ false → is_move (call_before h) ≡ false → is_move (call_after (closed_after s e) h x) ≡ false
@@ -233,16 +233,16 @@ module _ (s : State) (step : Step) (lasts : Lasts s) (l : IsLawful s step) where
   by_rise true x c n = absurd (both_ways _ (risen_spent s.dialogue.epoch (closed_ticket s.dialogue.engine (said_of u.what) s.dialogue.last) (last_within s.dialogue.epoch s.dialogue.engine (said_of u.what) s.dialogue.last lasts.ticket lasts.last)) n)
   by_rise false x c n = by_effect d fits c x n
 
-  pub spent_quiet : spent m ≡ true → is_move u.call ≡ false
+  pub spent_quiet : is_call_spent m ≡ true → is_move u.call ≡ false
   spent_quiet n = by_close (closed_after s e) refl where
     by_close : (c : Bool) → closed_after s e ≡ c → is_move u.call ≡ false
     by_close true x = closed_calls (closed_after s e) (is_gone h.engine || is_death d) (desk_after_effect h d) x
     by_close false x = by_rise (begins_epoch h d) refl x n
 
   -- so what is owed after the event is a Move exactly where one is called for
-  pub owed_is : is_move (owing s e) ≡ is_move u.call
-  owed_is = by_spent (spent m) refl where
-    by_spent : (b : Bool) → spent m ≡ b → is_move (cond b calls.Nothing u.call) ≡ is_move u.call
+  pub owed_is : is_move (owed_after s e) ≡ is_move u.call
+  owed_is = by_spent (is_call_spent m) refl where
+    by_spent : (b : Bool) → is_call_spent m ≡ b → is_move (cond b calls.Nothing u.call) ≡ is_move u.call
     by_spent true x = sym (spent_quiet x)
     by_spent false x = refl
 
@@ -251,28 +251,28 @@ module _ (s : State) (step : Step) (lasts : Lasts s) (l : IsLawful s step) where
   still_mid : closed_after s e ≡ false → (k : GoKind) → current (forget m.epoch m.engine) ≡ Some k → Serves k u.call
   still_mid c k x =
       let b : s.ends.closed ≡ false = open_before s.ends e c in
-      let v = kept s.dialogue s.desk.hint in
+      let v = dialogue_between_steps s.dialogue s.desk.hint in
       let x' : current (mid_dialogue v u.what u.begins_epoch).state ≡ Some k = ap (λ (w : dialogues.Dialogue). current w.state) (mid_kept s.dialogue s.desk.hint u lasts.ticket lasts.last) ∙ x in
       subst (λ (z : Bool). Serves k (call_after z h d)) (b ∙ sym c) (still h s.held d v refl fits (lasts.served b) k x')
 
   words_are : is_open e ≡ false → closed_after s e ≡ false → ws ≡ words u.waiting (settled_by s.dialogue u)
-  words_are o c = same m.engine m.epoch (owing s e) u.waiting (is_due s.dialogue u) (is_hit s.dialogue u) (is_hurry u.what) ws (words u.waiting (settled_by s.dialogue u)) (l.settled o c).words (settled_mid s.dialogue u setup)
+  words_are o c = same m.engine m.epoch (owed_after s e) u.waiting (is_due s.dialogue u) (is_hit s.dialogue u) (is_hurry u.what) ws (words u.waiting (settled_by s.dialogue u)) (l.settled o c).words (settled_mid s.dialogue u setup)
 
   abbrev pondered : Option Move
   pondered = cond (ponders s.dialogue) s.desk.hint None
 
   served_by : is_open e ≡ false → closed_after s e ≡ false → (k : GoKind) → current (forget m.epoch (sent_all m.epoch m.engine ws)) ≡ Some k → Serves k u.call
   served_by o c k x =
-      let goes = ordered m.epoch m.engine (owing s e) u.waiting (is_unsent s.dialogue u) (is_pondered pondered (played_of u.what)) (is_hurry u.what) setup in
+      let goes = ordered m.epoch m.engine (owed_after s e) u.waiting (is_unsent s.dialogue u) (is_pondered pondered (played_of u.what)) (is_hurry u.what) setup in
       let x' = ap current goes ∙ ap (λ (w : List Word). current (forget m.epoch (sent_all m.epoch m.engine w))) (sym (words_are o c)) ∙ x in
-      chosen_serves (forget m.epoch m.engine) (spent m) u.call (is_unsent s.dialogue u) (is_pondered pondered (played_of u.what)) (is_hurry u.what) (still_mid c) k x'
+      chosen_serves (forget m.epoch m.engine) (is_call_spent m) u.call (is_unsent s.dialogue u) (is_pondered pondered (played_of u.what)) (is_hurry u.what) (still_mid c) k x'
 
   opened_with : is_open e ≡ true → ws ≡ Uci ∷ []
   opened_with o = ap (map word_of) (l.opens o)
 
   after_uci : (P : Engine → Type 0) → is_open e ≡ true → P Boot → P Gone → P (sent_all m.epoch m.engine ws)
   after_uci P o b g = by_uci (uci_sent m.epoch m.engine) where
-    by_uci : (sent m.epoch m.engine Uci ≡ Boot) ⊎ (sent m.epoch m.engine Uci ≡ Gone) → P (sent_all m.epoch m.engine ws)
+    by_uci : (engine_after_word m.epoch m.engine Uci ≡ Boot) ⊎ (engine_after_word m.epoch m.engine Uci ≡ Gone) → P (sent_all m.epoch m.engine ws)
     by_uci (inl x) = subst (λ (w : List Word). P (sent_all m.epoch m.engine w)) (sym (opened_with o)) (subst P (sym x) b)
     by_uci (inr x) = subst (λ (w : List Word). P (sent_all m.epoch m.engine w)) (sym (opened_with o)) (subst P (sym x) g)
 
@@ -289,13 +289,13 @@ module _ (s : State) (step : Step) (lasts : Lasts s) (l : IsLawful s step) where
       (by_stage (Serves k u.call) (λ o. absurd (after_uci (λ y. current (forget m.epoch y) ≡ Some k → ⊥) o (λ y. cc) (λ y. cc) x)) (λ o. served_by o c k x))
 
   pings_after : closed_after s e ≡ false → is_move (call_before (situation (state_after s step))) ≡ false → (desk_of s e).pings ≡ []
-  pings_after c n = no_pings (closed_after s e) (is_move (owing s e)) (desk_after_effect h d).pings c (owed_is ∙ ap is_move (sym call_is_after) ∙ n)
+  pings_after c n = no_pings (closed_after s e) (is_move (owed_after s e)) (desk_after_effect h d).pings c (owed_is ∙ ap is_move (sym call_is_after) ∙ n)
 
   rests_after : closed_after s e ≡ false → is_idle (sent_all m.epoch m.engine ws) ≡ true → ((state_after s step).held ≡ []) × (is_nothing (owed (after m ws) (call_before (situation (state_after s step)))) ≡ true)
   rests_after c i =
       by_stage (((state_after s step).held ≡ []) × (is_nothing (owed (after m ws) (call_before (situation (state_after s step)))) ≡ true))
       (λ o. absurd (after_uci (λ y. is_idle y ≡ true → ⊥) o (λ y. cc) (λ y. cc) i))
-      (λ o. let r = (l.settled o c).words.idle i in (left_none (has_ready ws) (waiting h s.held d) (nothing_waits (waiting h s.held d) r.0), ap (λ (x : Call). is_nothing (owed m x)) call_is_after ∙ r.1))
+      (λ o. let r = (l.settled o c).words.idle i in (left_none (has_ready ws) (orders_waiting h s.held d) (nothing_waits (orders_waiting h s.held d) r.0), ap (λ (x : Call). is_nothing (owed m x)) call_is_after ∙ r.1))
 
   live_after : closed_after s e ≡ false → IsLiveOnlyAt m.epoch (sent_all m.epoch m.engine ws)
   live_after c = by_stage (IsLiveOnlyAt m.epoch (sent_all m.epoch m.engine ws)) (λ o. after_uci (λ y. IsLiveOnlyAt m.epoch y) o tt tt) (λ o. (l.settled o c).words.current)
@@ -316,8 +316,8 @@ module _ (s : State) (step : Step) (lasts : Lasts s) (l : IsLawful s step) where
 
   pub lasts_on : Lasts (state_after s step)
   lasts_on = record {
-    sound = step_sound (closed_after s e) (is_move (owing s e)) (is_hit s.dialogue u) h s.held d lasts.sound fits;
-    held = left_held (has_ready ws) (waiting h s.held d) waits_held;
+    sound = step_sound (closed_after s e) (is_move (owed_after s e)) (is_hit s.dialogue u) h s.held d lasts.sound fits;
+    held = left_held (has_ready ws) (orders_waiting h s.held d) waits_held;
     begins = λ no. absurd (both_ways _ no (opened_later s.ends e l.may_come));
     ticket = all_within m.epoch m.engine ws (turned_within s.dialogue u lasts.ticket);
     last = turned_last s.dialogue u lasts.ticket lasts.last;

@@ -9,7 +9,7 @@ use Rattle.search_epochs.specs.Tickets.{Word, Stop, PonderHit, Quit, Paired, has
 use Rattle.search_epochs.proofs.Same.{same}
 use Rattle.desk_rules.specs.Orders.{word_of}
 use Rattle.adapter_core.specs.Ends.{is_open}
-use Rattle.adapter_core.specs.Trace.{State, Step, IsLawful, AreSettled, state, turn, mid, owing, closed_after, event_in}
+use Rattle.adapter_core.specs.Trace.{State, Step, IsLawful, AreSettled, state, turn, mid, owed_after, closed_after, event_in}
 use Rattle.adapter_core.specs.Stands.{IsOneDialogue}
 
 -- the order of a word, where the word tells it
@@ -35,7 +35,7 @@ plain os b g p = absurd p
 
 module _ (s : State) (e : Event) (os os' : List Order) (a : AreSettled s e os) (b : AreSettled s e os') where
   same_words : map word_of os ≡ map word_of os'
-  same_words = same (mid s e).engine (mid s e).epoch (owing s e) (turn s e).waiting (is_due s.dialogue (turn s e)) (is_hit s.dialogue (turn s e)) (is_hurry (turn s e).what) (map word_of os) (map word_of os') a.words b.words
+  same_words = same (mid s e).engine (mid s e).epoch (owed_after s e) (turn s e).waiting (is_due s.dialogue (turn s e)) (is_hit s.dialogue (turn s e)) (is_hurry (turn s e).what) (map word_of os) (map word_of os') a.words b.words
 
   by_go : (due go : Bool) → is_due s.dialogue (turn s e) ≡ due → has_go (map word_of os) ≡ go → os ≡ os'
   by_go true go d g = a.batch d ∙ sym (b.batch d)

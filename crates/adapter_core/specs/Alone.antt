@@ -31,8 +31,8 @@ pub record Commanded : Type 0 where
   pub clocks : Clocks
   pub pings : List ℕ
 
-abbrev pub commanded : Desk → Commanded
-commanded d = record { game = d.game; mode = d.mode; post = d.post; pondering = d.pondering; clocks = d.clocks; pings = d.pings }
+abbrev pub commanded_part : Desk → Commanded
+commanded_part d = record { game = d.game; mode = d.mode; post = d.post; pondering = d.pondering; clocks = d.clocks; pings = d.pings }
 
 -- THE INTERFACE ALONE
 
@@ -118,7 +118,7 @@ tells_of_engine d = false
 
 -- If the engine has no say, the parts that the interface commands are those of the interface alone.
 abbrev pub DeskIsAlone : Settings → Type 0
-DeskIsAlone o = (trace : List Step) → Lawful o trace → IsWithoutSay o trace → commanded (state o trace).desk ≡ commanded (alone o (iface_events trace)).desk
+DeskIsAlone o = (trace : List Step) → Lawful o trace → IsWithoutSay o trace → commanded_part (state o trace).desk ≡ commanded_part (alone o (iface_events trace)).desk
 
 -- And so are the replies to its events, except those that report on the engine.
 abbrev pub RepliesAreAlone : Settings → Type 0
@@ -130,4 +130,4 @@ RepliesAreAlone o =
 abbrev pub IsApartFromEngine : Settings → Type 0
 IsApartFromEngine o =
     (trace trace' : List Step) → Lawful o trace → Lawful o trace' → IsWithoutSay o trace → IsWithoutSay o trace' → iface_events trace ≡ iface_events trace'
-    → commanded (state o trace).desk ≡ commanded (state o trace').desk
+    → commanded_part (state o trace).desk ≡ commanded_part (state o trace').desk

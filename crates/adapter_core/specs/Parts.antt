@@ -21,7 +21,7 @@ use Rattle.desk_rules.specs.declared.effect.Context.{Context}
 use Rattle.desk_rules.specs.declared.desk.Desk.{Desk}
 use Rattle.desk_rules.specs.Desk.{at, Situation, opening_desk, is_gone}
 use Rattle.desk_rules.specs.Steps.{Effect, classify, what_of, begins_epoch, call_after, desk_after_effect, desk_after, is_boots, is_death, counts_after}
-use Rattle.desk_rules.specs.Orders.{waiting, order_list}
+use Rattle.desk_rules.specs.Orders.{orders_waiting, order_list}
 use Rattle.desk_rules.specs.Replies.{replies_of}
 use Rattle.desk_rules.specs.Texts.{order_lines}
 use Rattle.desk_rules.specs.Fits.{Fits, IsFit, IsSound, IsServed, CanHold}
@@ -110,7 +110,7 @@ advance_from h d e v held m =
     finish h d e v held m owes o (desk_with h d e v owes o)
 
 abbrev pub advance_at : Situation → Effect → CoreParts → Event → CoreParts
-advance_at h d v e = advance_from h d e v (waiting h v.held d) (mid_dialogue v.dialogue (what_of d) (begins_epoch h d))
+advance_at h d v e = advance_from h d e v (orders_waiting h v.held d) (mid_dialogue v.dialogue (what_of d) (begins_epoch h d))
 
 unfoldable pub advance : CoreParts → Event → CoreParts
 advance v e = advance_at (situation v) (classify (situation v) v.held e) v e

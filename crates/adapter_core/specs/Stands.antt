@@ -6,14 +6,14 @@ use Rattle.line_io.specs.Out.{Text}
 use Rattle.uci_lines.specs.Orders.{Order}
 use Rattle.policy_rules.specs.declared.settings.Settings.{Settings}
 use Rattle.policy_rules.specs.Policy.{IsProper}
-use Rattle.policy_rules.specs.Scores.{counted}
+use Rattle.policy_rules.specs.Scores.{score_counts}
 use Rattle.search_epochs.specs.declared.words.EngineState.TheVariants as states
 use Rattle.search_epochs.specs.Tickets.{Engine, Boot, Search, is_move}
 use Rattle.search_epochs.specs.Dialogue as dialogues
-use Rattle.search_epochs.specs.Dialogue.{kept, mid_dialogue, owed_by_dialogue}
+use Rattle.search_epochs.specs.Dialogue.{dialogue_between_steps, mid_dialogue, owed_by_dialogue}
 use Rattle.desk_rules.specs.Desk.{Situation, is_gone}
 use Rattle.desk_rules.specs.Steps.{Effect, classify, what_of, begins_epoch, call_after, is_death}
-use Rattle.desk_rules.specs.Orders.{waiting, AreHeld}
+use Rattle.desk_rules.specs.Orders.{orders_waiting, AreHeld}
 use Rattle.desk_rules.specs.Replies.{replies_of}
 use Rattle.desk_rules.specs.Fits.{IsSound, IsFirst, IsServed}
 use Rattle.adapter_core.specs.declared.session.TheConstants.{ROOM}
@@ -30,9 +30,9 @@ parts_of s to_iface to_engine = record {
   settings = s.settings;
   ends = s.ends;
   desk = s.desk;
-  scores = counted s.settings s.scores;
+  scores = score_counts s.settings s.scores;
   held = s.held;
-  dialogue = kept s.dialogue s.desk.hint;
+  dialogue = dialogue_between_steps s.dialogue s.desk.hint;
   to_iface = to_iface;
   to_engine = to_engine;
 }
@@ -77,7 +77,7 @@ step_from h d v e held m =
     }
 
 abbrev pub step_at : Situation → Effect → CoreParts → Event → Step
-step_at h d v e = step_from h d v e (waiting h v.held d) (mid_dialogue v.dialogue (what_of d) (begins_epoch h d))
+step_at h d v e = step_from h d v e (orders_waiting h v.held d) (mid_dialogue v.dialogue (what_of d) (begins_epoch h d))
 
 unfoldable pub step_by : CoreParts → Event → Step
 step_by v e = step_at (parts.situation v) (classify (parts.situation v) v.held e) v e

@@ -8,12 +8,12 @@ use Rattle.policy_rules.specs.declared.settings.Settings.{Settings}
 use Rattle.policy_rules.specs.Scores.{Score, does_resign, does_accept}
 use Rattle.search_epochs.specs.declared.words.Call.{Call}
 use Rattle.search_epochs.specs.Tickets as dialogues
-use Rattle.search_epochs.specs.Tickets.{Ticketed, Turn, Word, IsReady, Settled, turned, after, spent, owed, is_due, is_hit, is_move, is_hurry, has_go}
+use Rattle.search_epochs.specs.Tickets.{Ticketed, DialogueTurn, Word, IsReady, Settled, before_orders, after, is_call_spent, owed, is_due, is_hit, is_move, is_hurry, has_go}
 use Rattle.search_epochs.specs.Dialogue.{forget}
 use Rattle.desk_rules.specs.declared.desk.Desk.{Desk}
 use Rattle.desk_rules.specs.Desk.{Situation, opening_desk, is_gone}
 use Rattle.desk_rules.specs.Steps.{Effect, classify, what_of, begins_epoch, call_after, desk_after, scores_after, is_death}
-use Rattle.desk_rules.specs.Orders.{waiting, search_orders, word_of}
+use Rattle.desk_rules.specs.Orders.{orders_waiting, search_orders, word_of}
 use Rattle.desk_rules.specs.Replies.{replies_of}
 use Rattle.feature_talk.specs.Features.{reply_lines}
 use Rattle.desk_rules.specs.Texts.{order_lines}
@@ -63,7 +63,7 @@ situation s = record {
   settings = s.settings;
   closed = s.ends.closed;
   engine = forget s.dialogue.epoch s.dialogue.engine;
-  spent = spent s.dialogue;
+  spent = is_call_spent s.dialogue;
   desk = s.desk;
   resigns = does_resign s.settings (s.desk.seen.score ∷ s.scores);
   accepts = does_accept s.settings s.scores;
@@ -76,30 +76,30 @@ abbrev pub closed_after : State → Event → Bool
 closed_after s e = (ends_after s.ends e).closed
 
 -- what an event is to the dialogue
-abbrev pub turn : State → Event → Turn
+abbrev pub turn : State → Event → DialogueTurn
 turn s e = record {
   what = what_of (effect s e);
   hint = s.desk.hint;
   begins_epoch = begins_epoch (situation s) (effect s e);
   call = call_after (closed_after s e) (situation s) (effect s e);
-  waiting = map word_of (waiting (situation s) s.held (effect s e));
+  waiting = map word_of (orders_waiting (situation s) s.held (effect s e));
 }
 
 -- the dialogue after the event, before the orders
 abbrev pub mid : State → Event → Ticketed
-mid s e = turned s.dialogue (turn s e)
+mid s e = before_orders s.dialogue (turn s e)
 
 -- what is owed after an event
-abbrev pub owing : State → Event → Call
-owing s e = owed (mid s e) (turn s e).call
+abbrev pub owed_after : State → Event → Call
+owed_after s e = owed (mid s e) (turn s e).call
 
 -- the lines to the interface
 abbrev pub replies : State → Event → List Reply
-replies s e = replies_of (closed_after s e) (is_move (owing s e)) (situation s) (effect s e)
+replies s e = replies_of (closed_after s e) (is_move (owed_after s e)) (situation s) (effect s e)
 
 -- the desk after an event
 abbrev pub desk_of : State → Event → Desk
-desk_of s e = desk_after (closed_after s e) (is_move (owing s e)) (is_hit s.dialogue (turn s e)) (situation s) (effect s e)
+desk_of s e = desk_after (closed_after s e) (is_move (owed_after s e)) (is_hit s.dialogue (turn s e)) (situation s) (effect s e)
 
 abbrev pub has_ready : List Word → Bool
 has_ready [] = false
@@ -116,7 +116,8 @@ state_after s step = record {
   ends = ends_after s.ends step.event;
   desk = desk_of s step.event;
   scores = scores_after (situation s) (effect s step.event) s.scores;
-  held = still_held (waiting (situation s) s.held (effect s step.event)) (map word_of step.orders);
+  held = still_held (orders_waiting (situation s) s.held (effect s step.event))
+      (map word_of step.orders);
   dialogue = after (mid s step.event) (map word_of step.orders);
 }
 
@@ -134,11 +135,11 @@ last_orders gone = if gone then [] else orders.Quit ∷ []
 
 -- The orders of a step after which the session is not closed.
 pub record AreSettled (s : State) (e : Event) (os : List Order) : Type 0 where
-  pub words : Settled (mid s e).engine (mid s e).epoch (owing s e) (turn s e).waiting (is_due s.dialogue (turn s e)) (is_hit s.dialogue (turn s e)) (is_hurry (turn s e).what) (map word_of os)
+  pub words : Settled (mid s e).engine (mid s e).epoch (owed_after s e) (turn s e).waiting (is_due s.dialogue (turn s e)) (is_hit s.dialogue (turn s e)) (is_hurry (turn s e).what) (map word_of os)
   -- a batch is all that is held, in order, and then `isready`
-  pub batch : is_due s.dialogue (turn s e) ≡ true → os ≡ waiting (situation s) s.held (effect s e) ++ orders.IsReady ∷ []
+  pub batch : is_due s.dialogue (turn s e) ≡ true → os ≡ orders_waiting (situation s) s.held (effect s e) ++ orders.IsReady ∷ []
   -- a search is for what is owed, in the position and by the clocks after the event
-  pub search : has_go (map word_of os) ≡ true → os ≡ search_orders (desk_of s e) (owing s e)
+  pub search : has_go (map word_of os) ≡ true → os ≡ search_orders (desk_of s e) (owed_after s e)
 
 -- a step that may follow
 pub record IsLawful (s : State) (step : Step) : Type 0 where

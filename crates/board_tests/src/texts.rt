@@ -16,7 +16,7 @@ const GAMES: [Written; 4] = [
         "1. f3 e5 2. g4 Qh4# 0-1\n",
     ),
     ("", &["e2e4", "e7e5", "g1f3"], "1. e4 e5 2. Nf3 *\n"),
-    // Black's first move, and the number behind it
+    // Black's first move, and the number after it
     (
         "4k3/8/8/8/8/8/4p3/2K5 b - - 12 40",
         &["e2e1q", "c1c2", "e1f2"],

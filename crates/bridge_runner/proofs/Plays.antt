@@ -17,7 +17,7 @@ use Rattle.event_pipe.specs.declared.message.Peer.TheVariants as peers
 use Rattle.event_pipe.specs.Rule.{Follows}
 use Rattle.bridge_runner.specs.Texts as texts
 use Rattle.bridge_runner.proofs.Facts.{opened, open_iface, open_engine, iface_is, engine_is, may_follow}
-use Rattle.mediator.specs.Turns.{Turn, turn, received, is_own, loss, is_loss, has_loss, stands_between, Gave, logged}
+use Rattle.mediator.specs.Turns.{Turn, turn, events_of_turns, is_own, loss, is_loss, has_loss, stands_between, Gave, log_of_turn}
 use Rattle.mediator.specs.Turns as turns
 use Rattle.mediator.specs.Meaning.{Allows, Opens, Steps}
 use Rattle.bridge_runner.specs.declared.session.Session.{Session}
@@ -34,7 +34,7 @@ own_same e = refl
 received_one : (s : Step) (es fs : List Event) → es ≡ fs → es ++ cond (is_own s.event) [] (s.event ∷ []) ≡ fs ++ cond (texts.is_own s.event) [] (s.event ∷ [])
 received_one s es fs h = ap (λ (x : List Event). x ++ cond (is_own s.event) [] (s.event ∷ [])) h ∙ ap (λ b. fs ++ cond b [] (s.event ∷ [])) (own_same s.event)
 
-pub received_same : (o : Settings) (t : List Step) → received (turns_of o t) ≡ texts.received t
+pub received_same : (o : Settings) (t : List Step) → events_of_turns (turns_of o t) ≡ texts.events_of_steps t
 received_same o [] = refl
 received_same o (s ∷ []) = received_one s [] [] refl
 received_same o (s ∷ r ∷ t) = received_one s _ _ (received_same o (r ∷ t))
@@ -119,11 +119,11 @@ module _ (s0 : Session) (turns : List Turn) (s : Session) (d : Played s0 turns s
   has_are : (p : Peer) → has_loss p turns ≡ lost_flag p (state o d.trace).ends
   has_are p = ap (λ (ts : List Turn). has_loss p ts) d.turns_are ∙ has_is p o d.trace
 
-  may_next : (e : Event) → Follows (received turns) e → may s.core.ends e ≡ true
+  may_next : (e : Event) → Follows (events_of_turns turns) e → may s.core.ends e ≡ true
   may_next e f =
       ap (λ (y : Ends). may y e) ends_are
-      ∙ may_follow (state o d.trace).ends e (texts.received d.trace) (was_opened o d.trace d.begun d.lawful) (iface_is o d.trace) (engine_is o d.trace)
-      (subst (λ (es : List Event). Follows es e) (ap received d.turns_are ∙ received_same o d.trace) f)
+      ∙ may_follow (state o d.trace).ends e (texts.events_of_steps d.trace) (was_opened o d.trace d.begun d.lawful) (iface_is o d.trace) (engine_is o d.trace)
+      (subst (λ (es : List Event). Follows es e) (ap events_of_turns d.turns_are ∙ received_same o d.trace) f)
 
   may_lose : (p : Peer) → Gave p turns → has_loss p turns ≡ false → may s.core.ends (loss p) ≡ true
   may_lose p g n =
@@ -194,7 +194,7 @@ opens old new held held1 held' stands zero e t =
     }
 
 -- the log is the script
-pub script_is : (o : Settings) (t : List Step) → t ≢ [] → turns.texts logged (turns_of o t) ≡ script2 o t
+pub script_is : (o : Settings) (t : List Step) → t ≢ [] → turns.texts log_of_turn (turns_of o t) ≡ script2 o t
 script_is o [] n = absurd (n refl)
 script_is o (s ∷ []) n = refl
 script_is o (s ∷ r ∷ t) n = ap (λ (l : List ℕ). l ++ numbered_text (length (r ∷ t)) s) (script_is o (r ∷ t) (λ h. cc)) ∙ append_assoc (header_text o) (line_feed ∷ _) (numbered_text (length (r ∷ t)) s)

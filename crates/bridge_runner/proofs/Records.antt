@@ -15,7 +15,7 @@ use Rattle.child_engine.specs.declared.host.Faults.{Faults}
 use Rattle.host_run.specs.declared.failures.Failures.{Failures}
 use Rattle.host_run.specs.Early.{no_failure, only_memory}
 use Rattle.host_run.specs.Outside.{Outside, outside}
-use Rattle.mediator.specs.Turns.{Turn, given, logged}
+use Rattle.mediator.specs.Turns.{Turn, given, log_of_turn}
 use Rattle.mediator.specs.Turns as turns
 use Rattle.mediator.specs.First.{first_events, ArrivedBehind}
 use Rattle.mediator.proofs.Firsts.{by_engine, by_iface, arrived_behind}
@@ -24,7 +24,7 @@ use Rattle.mediator_host.specs.Mediated as hosts
 use Rattle.mediator_host.specs.Recorded.{RecordedAs}
 use Rattle.mediator_host.proofs.Wholes.{recorded_as, whole_as, when_whole, nothing_left}
 use Rattle.bridge_runner.specs.declared.session.Session.{Session}
-use Rattle.bridge_runner.specs.Texts.{received, has_loss, texts}
+use Rattle.bridge_runner.specs.Texts.{events_of_steps, has_loss, texts}
 use Rattle.bridge_runner.specs.Plays.{turns_of, IsNew, plays}
 use Rattle.bridge_runner.specs.Recorded.{Recorded, IsWhole}
 use Rattle.bridge_runner.specs.Bridged.{Bridged, Leaves}
@@ -64,17 +64,17 @@ module _ (session : Session) (first : List ℕ) (before after : Outside) (failur
   turns_are : x.ran.looped.turns ≡ turns_of o trace
   turns_are = x.ran.looped.did.turns_are
 
-  came : received trace ≡ first_events first ++ x.ran.later
-  came = sym (received_same o trace) ∙ ap turns.received (sym turns_are) ∙ x.ran.looped.received_is ∙ filter_all (first_events first ++ x.ran.later)
+  came : events_of_steps trace ≡ first_events first ++ x.ran.later
+  came = sym (received_same o trace) ∙ ap turns.events_of_turns (sym turns_are) ∙ x.ran.looped.received_is ∙ filter_all (first_events first ++ x.ran.later)
 
-  of_engine : sent_by peers.Engine (received trace) ≡ sent_by peers.Engine x.ran.later
+  of_engine : sent_by peers.Engine (events_of_steps trace) ≡ sent_by peers.Engine x.ran.later
   of_engine = ap (λ (es : List Event). sent_by peers.Engine es) came ∙ by_engine first x.ran.later
 
-  of_iface : sent_by peers.Iface (received trace) ≡ first_events first ++ sent_by peers.Iface x.ran.later
+  of_iface : sent_by peers.Iface (events_of_steps trace) ≡ first_events first ++ sent_by peers.Iface x.ran.later
   of_iface = ap (λ (es : List Event). sent_by peers.Iface es) came ∙ by_iface first x.ran.later
 
-  put_is : turns.texts logged x.ran.looped.turns ≡ script2 o trace
-  put_is = ap (λ (ts : List Turn). turns.texts logged ts) turns_are ∙ script_is o trace x.ran.looped.did.begun
+  put_is : turns.texts log_of_turn x.ran.looped.turns ≡ script2 o trace
+  put_is = ap (λ (ts : List Turn). turns.texts log_of_turn ts) turns_are ∙ script_is o trace x.ran.looped.did.begun
 
   down_is : turns.texts (given peers.Engine) x.ran.looped.turns ≡ texts engine_text trace
   down_is = ap (λ (ts : List Turn). turns.texts (given peers.Engine) ts) turns_are ∙ texts_same peers.Engine o trace

@@ -10,7 +10,7 @@ abbrev pub HasNoEmptyLog : Type 0
 HasNoEmptyLog = (settings : Settings) (first bytes : List ℕ) (before after : Outside) → IsWhole settings first bytes before after
     → after.books.logs ≡ Some [] ∷ [] → ⊥
 
--- a log with a byte behind its script
+-- a log with a byte after its script
 abbrev pub HasNoLongerLog : Type 0
 HasNoLongerLog = (settings : Settings) (first bytes : List ℕ) (before after : Outside)
     (run : IsWhole settings first bytes before after) (byte : ℕ) (more : List ℕ)

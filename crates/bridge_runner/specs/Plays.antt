@@ -32,15 +32,15 @@ pub record Played (s0 : Session) (turns : List Turn) (s : Session) : Type 0 wher
   pub turns_are : turns ≡ turns_of s0.core.settings trace
   pub next : s.next ≡ step_number (length trace)
 
-abbrev pub gave : Session → Peer → List ℕ
-gave s peers.Iface = s.up.text
-gave s peers.Engine = s.down.text
+abbrev pub session_lines_for : Session → Peer → List ℕ
+session_lines_for s peers.Iface = s.up.text
+session_lines_for s peers.Engine = s.down.text
 
 abbrev pub plays : Meaning Session
 plays = record {
   fresh = λ s. Stands s.core.settings s.core [] × (s.next ≡ 0);
   did = Played;
-  gave = gave;
+  gave = session_lines_for;
   may = λ s e. may s.core.ends e;
   told = λ e. true;
   hears_loss = true;

@@ -14,9 +14,9 @@ is_own EngineLost = true
 is_own e = false
 
 -- the events that were received, the oldest first
-abbrev pub received : List Step → List Event
-received [] = []
-received (s ∷ t) = received t ++ (if is_own s.event then [] else s.event ∷ [])
+abbrev pub events_of_steps : List Step → List Event
+events_of_steps [] = []
+events_of_steps (s ∷ t) = events_of_steps t ++ (if is_own s.event then [] else s.event ∷ [])
 
 -- a step is that of this peer's loss
 abbrev pub has_loss : Peer → List Step → Bool

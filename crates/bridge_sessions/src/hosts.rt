@@ -117,7 +117,7 @@ fn a_steady_host_says_the_same_bytes(rt: HostRuntime) -> Result<(), HostFault> {
     Ok(())
 }
 
-// A piece for an engine, what its write answers, and whether the input is open behind it.
+// A piece for an engine, what its write answers, and whether the input is open after it.
 fn expect_write(
     rt: &impl Abort,
     input: &mut EngineInput<&mut Vec<u8>>,
@@ -147,7 +147,7 @@ fn an_engine_input_ends_behind_quit(rt: HostRuntime) {
     assert_eq!(rt; input.faults(), 1);
 }
 
-// `cat` gives its input back, and ends at the end of it, which comes behind `quit`.
+// `cat` gives its input back, and ends at the end of it, which comes after `quit`.
 #[test]
 fn a_real_host_starts_a_program(rt: HostRuntime) -> Result<(), HostFault> {
     let mut host = RealHost::<_, EngineInput<ChildStdin>>::new(&rt, true);

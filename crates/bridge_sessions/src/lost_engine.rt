@@ -1,6 +1,6 @@
 // What the log and both sides get if the engine is lost.
 ghost use Rattle.std.specs.Prelude.{◌≡◌, []};
-ghost use Rattle.event_pipe.specs.Ends.{IsSender, IsFreshTaker, sent};
+ghost use Rattle.event_pipe.specs.Ends.{IsSender, IsFreshTaker, events_sent};
 ghost use Rattle.bridge_sessions.specs.Ready.{IsReady};
 
 use crate::expected::{expect_bytes, expect_log};
@@ -48,7 +48,7 @@ fn make_sinks(alloc: Global) -> Result<Sinks, NoMemory> {
 // Puts these lines into the channel.
 fn read_lines<R: Wait + Abort>(rt: &R, alloc: Global, lines: &[u8], to: &mut PipeSend)
     requires sender { IsSender to.old }
-    requires fresh { sent to.old ≡ [] }
+    requires fresh { events_sent to.old ≡ [] }
 {
     let mut source = MemSource::make(alloc, lines, 7, &[]).expect(rt, "memory for the lines");
     let _end = read_pipe(rt, alloc, &mut source, to);
@@ -89,7 +89,7 @@ fn run_loop<R: Wait + Abort>(
     step_all(rt, ready, taker, sinks)
 }
 
-// That the engine is lost is the very next step behind the write that fails.
+// That the engine is lost is the very next step after the write that fails.
 #[test]
 fn a_lost_engine_is_logged(rt: HostRuntime) {
     let mut sinks = make_sinks(rt.alloc()).expect(&rt, "memory for the sinks");

@@ -39,7 +39,7 @@ impl Host for Recorder {
 
     type Log = MemSink;
 
-    type ChildProcess = ();
+    type EngineProcess = ();
 
     ghost faults = { λ h. h.host.faults };
 

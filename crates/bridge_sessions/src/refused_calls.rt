@@ -102,7 +102,7 @@ fn fits_failing_read(kept: &KeptRun, number: u64) -> bool {
     kept.told.code == code && begins_a_session(kept.host.wrote.as_slice())
 }
 
-// The engine gets `uci`, then `isready` or `quit`, and `quit` behind `isready` if it comes
+// The engine gets `uci`, then `isready` or `quit`, and `quit` after `isready` if it comes
 // before the engine's end.
 fn fits_failing_write(kept: &KeptRun, number: u64) -> bool {
     let code = kept.told.code;
@@ -111,7 +111,7 @@ fn fits_failing_write(kept: &KeptRun, number: u64) -> bool {
         && begins_a_session(kept.host.wrote.as_slice())
 }
 
-// The start, two lines of each side and the engine's end are six steps, behind the first line.
+// The start, two lines of each side and the engine's end are six steps, after the first line.
 fn fits_failing_log_write(kept: &KeptRun, number: u64) -> bool {
     let code = if number <= 6 { 9 } else { 0 };
     let marks = if number == 1 { 0 } else { number.min(7) };

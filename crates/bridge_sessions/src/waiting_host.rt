@@ -1,6 +1,6 @@
 // A host whose engine waits for what its input brings.
 ghost use Rattle.std.specs.Prelude.{◌≡◌, None, false};
-ghost use Rattle.child_engine.specs.Hosts.{RisesBy, unused};
+ghost use Rattle.child_engine.specs.Hosts.{RisesBy, unused_books};
 ghost use Rattle.bridge_sessions.specs.Waiting.{books_with};
 
 use crate::talk::{ENGINE, Telling, Waiting};
@@ -24,7 +24,7 @@ impl<'a> WaitingHost<'a> {
     /// A host that has handed out nothing.
     pub fn new(took: &'a AtomicU64) -> WaitingHost<'a>
         ensures { books_with result.runs_out result.logs_out result.runs_closed result.logs_closed
-            ≡ unused None false }
+            ≡ unused_books None false }
     {
         WaitingHost {
             took,
@@ -60,7 +60,7 @@ impl<'a> Host for WaitingHost<'a> {
 
     type Log = NullSink;
 
-    type ChildProcess = ();
+    type EngineProcess = ();
 
     ghost faults = { λ h. h.faults };
 

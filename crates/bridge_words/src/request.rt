@@ -73,7 +73,7 @@ fn request_of(alloc: Global, found: &ArgMatches) -> Result<BridgeRequest, AllocE
     })
 }
 
-/// Reads the words behind the program's name.
+/// Reads the words after the program's name.
 pub fn read_words(alloc: Global, words: &[Vec<u8>]) -> Result<BridgeRequest, WordsRefusal>
     ensures taken { OnOk result (AreTaken (bytes_of words.now)) }
     ensures usage { result ≡ Err refusals.Usage → ¬ (AreTaken (bytes_of words.now)) }

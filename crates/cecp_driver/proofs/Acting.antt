@@ -18,7 +18,7 @@ use Rattle.chess_board.specs.Position.{Position}
 use Rattle.driver_lines.specs.Moves.{IsShown}
 use Rattle.cecp_driver.specs.declared.driver.DriverParts.{DriverParts}
 use Rattle.cecp_driver.specs.SetUp.{ToldGame}
-use Rattle.cecp_driver.specs.Driver.{cleared, acted, CanAct, placed, placed_if, featured, features_at, IsAsked, IsHeard, OrdersBy, Orders, HeardBy, IsPlain, Hears}
+use Rattle.cecp_driver.specs.Driver.{driver_without_lines, driver_after_call, CanAct, driver_after_position, placed_if, driver_after_features, features_at, IsAsked, IsHeard, OrdersBy, Orders, HeardBy, IsPlain, Hears}
 use Rattle.cecp_driver.specs.Keeps.{Keeps, Serves}
 use Rattle.cecp_driver.proofs.Good.{CallFits, call_good, fits_down}
 use Rattle.cecp_driver.proofs.Lasting.{can_say, asked_fits, heard_fits}
@@ -34,7 +34,7 @@ can_act v c k up down f =
       down = let r = k.down_room in omega arith;
     }
 
-pub acted_keeps : (v : DriverParts) (c : DriverCall) → Keeps v → CallFits v.game c → Keeps (acted v c)
+pub acted_keeps : (v : DriverParts) (c : DriverCall) → Keeps v → CallFits v.game c → Keeps (driver_after_call v c)
 acted_keeps v c k f = record {
   serves = (call_good v.game v.told v.talk c f k.serves).3;
   name_room = k.name_room;
@@ -42,7 +42,7 @@ acted_keeps v c k f = record {
   down_room = k.down_room;
 }
 
-pub cleared_keeps : (v : DriverParts) → Keeps v → Keeps (cleared v)
+pub cleared_keeps : (v : DriverParts) → Keeps v → Keeps (driver_without_lines v)
 cleared_keeps v k = record { serves = k.serves; name_room = k.name_room; up_room = k.up_room; down_room = k.down_room }
 
 -- where a position is accepted, no search is open
@@ -56,7 +56,7 @@ place_by : (free : Bool) (v w : DriverParts) → Keeps v → is_free v.talk ≡ 
 place_by true v w k e f = f refl
 place_by false v w k e f = k
 
-pub placed_keeps : (v : DriverParts) (line : List ℕ) → Keeps v → Keeps (placed v line)
+pub placed_keeps : (v : DriverParts) (line : List ℕ) → Keeps v → Keeps (driver_after_position v line)
 placed_keeps v line k = place_by (is_free v.talk) v _ k refl
     (λ e. record { serves = free_serves v.talk.stage v.talk.search _ v.told e; name_room = k.name_room; up_room = k.up_room; down_room = k.down_room })
 
@@ -72,8 +72,8 @@ blank_by true v w a b = b
 blank_by false v w a b = a
 
 -- a position gives nothing
-pub placed_blank : (o : OrderWord) (v : DriverParts) (line : List ℕ) → IsBlank (placed_if o (cleared v) line)
-placed_blank orders.Position v line = blank_by (is_free v.talk) (cleared v) _ (refl, refl) (refl, refl)
+pub placed_blank : (o : OrderWord) (v : DriverParts) (line : List ℕ) → IsBlank (placed_if o (driver_without_lines v) line)
+placed_blank orders.Position v line = blank_by (is_free v.talk) (driver_without_lines v) _ (refl, refl) (refl, refl)
 placed_blank o v line = (refl, refl)
 
 features_keep : (stage : DriverStage) (v : DriverParts) (text : List ℕ) → Keeps v → Keeps (features_at stage v text)
@@ -81,48 +81,48 @@ features_keep stages.Over v text k = k
 features_keep stages.Open v text k = record { serves = k.serves; name_room = k.name_room; up_room = k.up_room; down_room = k.down_room }
 features_keep stages.Fresh v text k = record { serves = k.serves; name_room = k.name_room; up_room = k.up_room; down_room = k.down_room }
 
-pub featured_keeps : (v : DriverParts) (text : List ℕ) → Keeps v → Keeps (featured v text)
+pub featured_keeps : (v : DriverParts) (text : List ℕ) → Keeps v → Keeps (driver_after_features v text)
 featured_keeps v text k = features_keep v.talk.stage v text k
 
 -- AN ORDER
 
-pub order_ready : (v w : DriverParts) (line : List ℕ) (o : OrderWord) (call : DriverCall) → Keeps v → w ≡ placed_if o (cleared v) line → IsAsked w line o call → CanAct w call
+pub order_ready : (v w : DriverParts) (line : List ℕ) (o : OrderWord) (call : DriverCall) → Keeps v → w ≡ placed_if o (driver_without_lines v) line → IsAsked w line o call → CanAct w call
 order_ready v w line o call k e asked =
-    let keeps : Keeps w = subst Keeps (sym e) (placed_if_keeps o (cleared v) line (cleared_keeps v k)) in
+    let keeps : Keeps w = subst Keeps (sym e) (placed_if_keeps o (driver_without_lines v) line (cleared_keeps v k)) in
     let blank : IsBlank w = subst IsBlank (sym e) (placed_blank o v line) in
     can_act w call keeps blank.0 blank.1 (asked_fits w line o call asked)
 
-pub order_keeps : (v w v' : DriverParts) (line : List ℕ) (o : OrderWord) (call : DriverCall) → Keeps v → w ≡ placed_if o (cleared v) line → IsAsked w line o call → v' ≡ acted w call → Keeps v'
+pub order_keeps : (v w v' : DriverParts) (line : List ℕ) (o : OrderWord) (call : DriverCall) → Keeps v → w ≡ placed_if o (driver_without_lines v) line → IsAsked w line o call → v' ≡ driver_after_call w call → Keeps v'
 order_keeps v w v' line o call k e asked a =
-    let keeps : Keeps w = subst Keeps (sym e) (placed_if_keeps o (cleared v) line (cleared_keeps v k)) in
+    let keeps : Keeps w = subst Keeps (sym e) (placed_if_keeps o (driver_without_lines v) line (cleared_keeps v k)) in
     subst Keeps (sym a) (acted_keeps w call keeps (asked_fits w line o call asked))
 
-orders_at : (v v' : DriverParts) (line : List ℕ) (o p : OrderWord) (w : DriverParts) (call : DriverCall) → o ≡ p → w ≡ placed_if o (cleared v) line → IsAsked w line o call → v' ≡ acted w call → OrdersBy p line v v'
+orders_at : (v v' : DriverParts) (line : List ℕ) (o p : OrderWord) (w : DriverParts) (call : DriverCall) → o ≡ p → w ≡ placed_if o (driver_without_lines v) line → IsAsked w line o call → v' ≡ driver_after_call w call → OrdersBy p line v v'
 orders_at v v' line o p w call e f asked a =
     let at : OrdersBy o line v v' = record {
       call = call;
       asked = subst (λ (x : DriverParts). IsAsked x line o call) f asked;
-      after = a ∙ ap (λ (x : DriverParts). acted x call) f;
+      after = a ∙ ap (λ (x : DriverParts). driver_after_call x call) f;
     } in
     subst (λ (x : OrderWord). OrdersBy x line v v') e at
 
-pub order_done : (v w v' : DriverParts) (line : List ℕ) (o : OrderWord) (call : DriverCall) → o ≡ order_in (first_token line) → w ≡ placed_if o (cleared v) line → IsAsked w line o call → v' ≡ acted w call → Orders line v v'
+pub order_done : (v w v' : DriverParts) (line : List ℕ) (o : OrderWord) (call : DriverCall) → o ≡ order_in (first_token line) → w ≡ placed_if o (driver_without_lines v) line → IsAsked w line o call → v' ≡ driver_after_call w call → Orders line v v'
 order_done v w v' line o call e f asked a = orders_at v v' line o (order_in (first_token line)) w call e f asked a
 
 -- A LINE OF THE ENGINE
 
-pub from_cleared : (v w : DriverParts) → Keeps v → w ≡ cleared v → Keeps w
+pub from_cleared : (v w : DriverParts) → Keeps v → w ≡ driver_without_lines v → Keeps w
 from_cleared v w k e = subst Keeps (sym e) (cleared_keeps v k)
 
-pub end_ready : (v w : DriverParts) → Keeps v → w ≡ cleared v → CanAct w calls.Ended
+pub end_ready : (v w : DriverParts) → Keeps v → w ≡ driver_without_lines v → CanAct w calls.Ended
 end_ready v w k e =
     let blank : IsBlank w = subst IsBlank (sym e) (refl, refl) in
     can_act w calls.Ended (from_cleared v w k e) blank.0 blank.1 tt
 
-pub end_keeps : (v w v' : DriverParts) → Keeps v → w ≡ cleared v → v' ≡ acted w calls.Ended → Keeps v'
+pub end_keeps : (v w v' : DriverParts) → Keeps v → w ≡ driver_without_lines v → v' ≡ driver_after_call w calls.Ended → Keeps v'
 end_keeps v w v' k e a = subst Keeps (sym a) (acted_keeps w calls.Ended (from_cleared v w k e) tt)
 
-pub plain_done : (said : Says) (w v' : DriverParts) (call : DriverCall) → IsPlain said → IsHeard w said call → v' ≡ acted w call → HeardBy said w v'
+pub plain_done : (said : Says) (w v' : DriverParts) (call : DriverCall) → IsPlain said → IsHeard w said call → v' ≡ driver_after_call w call → HeardBy said w v'
 plain_done (SaysMove text) w v' call p heard a = (call, (heard, a))
 plain_done Over w v' call p heard a = (call, (heard, a))
 plain_done (Pong n) w v' call p heard a = (call, (heard, a))
@@ -130,17 +130,17 @@ plain_done (Report depth score time nodes moves) w v' call p heard a = (call, (h
 plain_done (Feature text) w v' call p heard a = absurd p
 plain_done says.Other w v' call p heard a = (call, (heard, a))
 
-pub heard_at : (v w v' : DriverParts) (line : List ℕ) (said : Says) → said ≡ says_in line → w ≡ cleared v → HeardBy said w v' → Hears line v v'
+pub heard_at : (v w v' : DriverParts) (line : List ℕ) (said : Says) → said ≡ says_in line → w ≡ driver_without_lines v → HeardBy said w v' → Hears line v v'
 heard_at v w v' line said e f h =
-    let at : HeardBy said (cleared v) v' = subst (λ (x : DriverParts). HeardBy said x v') f h in
-    subst (λ (x : Says). HeardBy x (cleared v) v') e at
+    let at : HeardBy said (driver_without_lines v) v' = subst (λ (x : DriverParts). HeardBy said x v') f h in
+    subst (λ (x : Says). HeardBy x (driver_without_lines v) v') e at
 
-pub features_done : (v w v' : DriverParts) (line text : List ℕ) → Feature text ≡ says_in line → w ≡ cleared v → v' ≡ featured w text → Hears line v v'
+pub features_done : (v w v' : DriverParts) (line text : List ℕ) → Feature text ≡ says_in line → w ≡ driver_without_lines v → v' ≡ driver_after_features w text → Hears line v v'
 features_done v w v' line text e f a =
-    let at : HeardBy (Feature text) (cleared v) v' = a ∙ ap (λ (x : DriverParts). featured x text) f in
-    subst (λ (x : Says). HeardBy x (cleared v) v') e at
+    let at : HeardBy (Feature text) (driver_without_lines v) v' = a ∙ ap (λ (x : DriverParts). driver_after_features x text) f in
+    subst (λ (x : Says). HeardBy x (driver_without_lines v) v') e at
 
-pub features_keeps : (v w v' : DriverParts) (text : List ℕ) → Keeps v → w ≡ cleared v → v' ≡ featured w text → Keeps v'
+pub features_keeps : (v w v' : DriverParts) (text : List ℕ) → Keeps v → w ≡ driver_without_lines v → v' ≡ driver_after_features w text → Keeps v'
 features_keeps v w v' text k f a = subst Keeps (sym a) (featured_keeps w text (subst Keeps (sym f) (cleared_keeps v k)))
 
 -- a move that the engine shows

@@ -18,7 +18,7 @@ use Rattle.driver_lines.specs.Words.{ordered_in as order_in}
 use Rattle.driver_lines.specs.Says.{Says, Move as SaysMove, Over, Pong, Report, Feature, says_in}
 use Rattle.driver_lines.specs.Says as says
 use Rattle.cecp_driver.specs.declared.driver.DriverParts.{DriverParts}
-use Rattle.cecp_driver.specs.Driver.{Orders, Ends, HeardBy, IsHeard, acted, cleared, features_at, opening, placed_if}
+use Rattle.cecp_driver.specs.Driver.{Orders, Ends, HeardBy, IsHeard, driver_after_call, driver_without_lines, features_at, opening, placed_if}
 use Rattle.cecp_driver.specs.Script.{Comes, Goes}
 use Rattle.cecp_driver.specs.Busy.{AllBusy, Busies, IsCallOf}
 
@@ -26,8 +26,8 @@ talk_by : (free : Bool) (v w : DriverParts) → w.talk ≡ v.talk → (cond free
 talk_by true v w e = e
 talk_by false v w e = refl
 
-placed_talk : (o : OrderWord) (v : DriverParts) (line : List ℕ) → (placed_if o (cleared v) line).talk ≡ v.talk
-placed_talk orders.Position v line = talk_by (is_free v.talk) (cleared v) _ refl
+placed_talk : (o : OrderWord) (v : DriverParts) (line : List ℕ) → (placed_if o (driver_without_lines v) line).talk ≡ v.talk
+placed_talk orders.Position v line = talk_by (is_free v.talk) (driver_without_lines v) _ refl
 placed_talk o v line = refl
 
 busies : (event : Event) (v v' : DriverParts) (before : List DriverCall) (call : DriverCall) → IsCallOf event v call → v'.talk ≡ run (call ∷ before) → Busies event v v' before
@@ -38,7 +38,7 @@ busies event v v' before call is talk = record {
   busy = λ s e. open_is_busy (call ∷ before) s (ap (λ (t : DriverTalk). t.search) (sym talk) ∙ e);
 }
 
-acts : (v w v' : DriverParts) (before : List DriverCall) (call : DriverCall) → v.talk ≡ run before → w.talk ≡ v.talk → v' ≡ acted w call → v'.talk ≡ run (call ∷ before)
+acts : (v w v' : DriverParts) (before : List DriverCall) (call : DriverCall) → v.talk ≡ run before → w.talk ≡ v.talk → v' ≡ driver_after_call w call → v'.talk ≡ run (call ∷ before)
 acts v w v' before call known same after =
     ap (λ (x : DriverParts). x.talk) after ∙ ap (λ (t : DriverTalk). (turn_of t call).talk) (same ∙ known)
 
@@ -52,28 +52,28 @@ features_talk stages.Over v text = refl
 features_talk stages.Open v text = refl
 features_talk stages.Fresh v text = refl
 
-heard : (said : Says) (line : List ℕ) (v v' : DriverParts) (before : List DriverCall) → v.talk ≡ run before → said ≡ says_in line → HeardBy said (cleared v) v' → Busies (Engine line) v v' before
+heard : (said : Says) (line : List ℕ) (v v' : DriverParts) (before : List DriverCall) → v.talk ≡ run before → said ≡ says_in line → HeardBy said (driver_without_lines v) v' → Busies (Engine line) v v' before
 heard (Feature text) line v v' before known e h =
-    busies (Engine line) v v' before calls.Other (subst (λ (s : Says). IsHeard (cleared v) s calls.Other) e refl)
-    (ap (λ (x : DriverParts). x.talk) h ∙ features_talk v.talk.stage (cleared v) text ∙ known ∙ sym (calm (run before)))
+    busies (Engine line) v v' before calls.Other (subst (λ (s : Says). IsHeard (driver_without_lines v) s calls.Other) e refl)
+    (ap (λ (x : DriverParts). x.talk) h ∙ features_talk v.talk.stage (driver_without_lines v) text ∙ known ∙ sym (calm (run before)))
 heard (SaysMove text) line v v' before known e h =
-    busies (Engine line) v v' before h.0 (subst (λ (s : Says). IsHeard (cleared v) s h.0) e h.1.0) (acts v (cleared v) v' before h.0 known refl h.1.1)
+    busies (Engine line) v v' before h.0 (subst (λ (s : Says). IsHeard (driver_without_lines v) s h.0) e h.1.0) (acts v (driver_without_lines v) v' before h.0 known refl h.1.1)
 heard Over line v v' before known e h =
-    busies (Engine line) v v' before h.0 (subst (λ (s : Says). IsHeard (cleared v) s h.0) e h.1.0) (acts v (cleared v) v' before h.0 known refl h.1.1)
+    busies (Engine line) v v' before h.0 (subst (λ (s : Says). IsHeard (driver_without_lines v) s h.0) e h.1.0) (acts v (driver_without_lines v) v' before h.0 known refl h.1.1)
 heard (Pong n) line v v' before known e h =
-    busies (Engine line) v v' before h.0 (subst (λ (s : Says). IsHeard (cleared v) s h.0) e h.1.0) (acts v (cleared v) v' before h.0 known refl h.1.1)
+    busies (Engine line) v v' before h.0 (subst (λ (s : Says). IsHeard (driver_without_lines v) s h.0) e h.1.0) (acts v (driver_without_lines v) v' before h.0 known refl h.1.1)
 heard (Report depth score time nodes moves) line v v' before known e h =
-    busies (Engine line) v v' before h.0 (subst (λ (s : Says). IsHeard (cleared v) s h.0) e h.1.0) (acts v (cleared v) v' before h.0 known refl h.1.1)
+    busies (Engine line) v v' before h.0 (subst (λ (s : Says). IsHeard (driver_without_lines v) s h.0) e h.1.0) (acts v (driver_without_lines v) v' before h.0 known refl h.1.1)
 heard says.Other line v v' before known e h =
-    busies (Engine line) v v' before h.0 (subst (λ (s : Says). IsHeard (cleared v) s h.0) e h.1.0) (acts v (cleared v) v' before h.0 known refl h.1.1)
+    busies (Engine line) v v' before h.0 (subst (λ (s : Says). IsHeard (driver_without_lines v) s h.0) e h.1.0) (acts v (driver_without_lines v) v' before h.0 known refl h.1.1)
 
 one_busy : (event : Event) (v v' : DriverParts) (before : List DriverCall) → v.talk ≡ run before → Comes event v v' → Busies event v v' before
 one_busy (Iface line) v v' before known h =
     let o = order_in (first_token line) in
-    busies (Iface line) v v' before h.call h.asked (acts v (placed_if o (cleared v) line) v' before h.call known (placed_talk o v line) h.after)
-one_busy IfaceEnd v v' before known h = busies IfaceEnd v v' before h.call h.asked (acts v (cleared v) v' before h.call known refl h.after)
+    busies (Iface line) v v' before h.call h.asked (acts v (placed_if o (driver_without_lines v) line) v' before h.call known (placed_talk o v line) h.after)
+one_busy IfaceEnd v v' before known h = busies IfaceEnd v v' before h.call h.asked (acts v (driver_without_lines v) v' before h.call known refl h.after)
 one_busy (Engine line) v v' before known h = heard (says_in line) line v v' before known refl h
-one_busy EngineEnd v v' before known h = busies EngineEnd v v' before calls.Ended refl (acts v (cleared v) v' before calls.Ended known refl h)
+one_busy EngineEnd v v' before known h = busies EngineEnd v v' before calls.Ended refl (acts v (driver_without_lines v) v' before calls.Ended known refl h)
 one_busy event v v' before known h = absurd h
 
 all_busy : (events : List Event) (after : List DriverParts) (v : DriverParts) (before : List DriverCall) → v.talk ≡ run before → Goes v events after → AllBusy v before events after

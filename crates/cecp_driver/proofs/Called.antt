@@ -17,7 +17,7 @@ use Rattle.driver_lines.specs.Says as says
 use Rattle.driver_lines.specs.Parts.{Feature as AFeature, parts}
 use Rattle.cecp_driver.specs.declared.driver.DriverParts.{DriverParts}
 use Rattle.cecp_driver.specs.Features.{has_word, name_after, name_all}
-use Rattle.cecp_driver.specs.Driver.{Orders, HeardBy, acted, cleared, features_at, placed_if}
+use Rattle.cecp_driver.specs.Driver.{Orders, HeardBy, driver_after_call, driver_without_lines, features_at, placed_if}
 use Rattle.cecp_driver.specs.Script.{Comes, IsLine}
 use Rattle.cecp_driver.proofs.Fed.{IsWhole, feature_whole}
 use Rattle.cecp_driver.proofs.Names.{IsWholeFeature, parts_whole}
@@ -40,23 +40,23 @@ names_whole name (f ∷ fs) n w = names_whole (name_after name f) fs (name_whole
 
 -- AFTER AN EVENT
 
-placed_called : (o : OrderWord) (v : DriverParts) (line : List ℕ) → IsCalled v → IsCalled (placed_if o (cleared v) line)
-placed_called orders.Position v line called = by_free (is_free v.talk) (cleared v) _ called called
+placed_called : (o : OrderWord) (v : DriverParts) (line : List ℕ) → IsCalled v → IsCalled (placed_if o (driver_without_lines v) line)
+placed_called orders.Position v line called = by_free (is_free v.talk) (driver_without_lines v) _ called called
   where
     by_free : (free : Bool) (v w : DriverParts) → IsCalled v → IsCalled w → IsCalled (cond free w v)
     by_free true v w h k = k
     by_free false v w h k = h
 placed_called o v line called = called
 
-featured_called : (stage : DriverStage) (v : DriverParts) (text : List ℕ) → IsWhole text → IsCalled v → IsCalled (features_at stage (cleared v) text)
+featured_called : (stage : DriverStage) (v : DriverParts) (text : List ℕ) → IsWhole text → IsCalled v → IsCalled (features_at stage (driver_without_lines v) text)
 featured_called stages.Over v text w called = called
 featured_called stages.Open v text w called = names_whole v.name.text (parts text) called (parts_whole text w)
 featured_called stages.Fresh v text w called = names_whole v.name.text (parts text) called (parts_whole text w)
 
-acted_called : (v v' : DriverParts) (c : DriverCall) → v' ≡ acted (cleared v) c → IsCalled v → IsCalled v'
+acted_called : (v v' : DriverParts) (c : DriverCall) → v' ≡ driver_after_call (driver_without_lines v) c → IsCalled v → IsCalled v'
 acted_called v v' c e called = subst IsCalled (sym e) called
 
-heard_called : (said : Says) (line : List ℕ) (v v' : DriverParts) → IsWhole line → said ≡ says_in line → HeardBy said (cleared v) v' → IsCalled v → IsCalled v'
+heard_called : (said : Says) (line : List ℕ) (v v' : DriverParts) → IsWhole line → said ≡ says_in line → HeardBy said (driver_without_lines v) v' → IsCalled v → IsCalled v'
 heard_called (Feature text) line v v' w e h called = subst IsCalled (sym h) (featured_called v.talk.stage v text (feature_whole line text w e) called)
 heard_called (SaysMove text) line v v' w e h called = acted_called v v' h.0 h.1.1 called
 heard_called Over line v v' w e h called = acted_called v v' h.0 h.1.1 called

@@ -9,7 +9,7 @@ use Rattle.chess_board.specs.declared.board.Move.{Move}
 use Rattle.chess_board.specs.declared.board.Rights.{Rights}
 use Rattle.chess_board.specs.Position.{Position}
 use Rattle.chess_board.specs.Play.{start_position}
-use Rattle.game_record.specs.Game.{Ply, Game, begun, now_of, ply_of, with_ply}
+use Rattle.game_record.specs.Game.{Ply, Game, game_from, now_of, ply_of, with_ply}
 use Rattle.game_record.specs.Ending.{is_same}
 use Rattle.game_record.specs.Line.{is_standard}
 use Rattle.game_record.proofs.Sames.{same-law}
@@ -19,10 +19,10 @@ use Rattle.san_text.proofs.Alone.{promotions-Decides}
 use Rattle.driver_talk.specs.declared.words.GoClocks.{GoClocks}
 use Rattle.driver_talk.specs.declared.words.ToEngine.{ToEngine}
 use Rattle.driver_talk.specs.declared.words.ToEngine.TheVariants as downs
-use Rattle.driver_lines.specs.Lines.{Line, SetBoard, Sd, Go, Analyze, lines_text}
+use Rattle.driver_lines.specs.Lines.{DownLine, SetBoard, Sd, Go, Analyze, lines_text}
 use Rattle.driver_lines.specs.Clocks.{clock_lines, control_lines, depth_lines}
 use Rattle.cecp_driver.specs.Same.{same_position, same_ply}
-use Rattle.cecp_driver.specs.SetUp.{ToldGame, further, continued, played, start_lines, setup_lines, set_up, limited}
+use Rattle.cecp_driver.specs.SetUp.{ToldGame, further, continued, ply_lines, start_lines, setup_lines, set_up, told_with_limit}
 use Rattle.cecp_driver.specs.Deeds.{has_depth, hurry_lines, leave_lines, think_lines, play_lines, analyse_lines, down_lines, down_told}
 use Rattle.cecp_driver.specs.Keeps.{IsTold}
 use Rattle.cecp_driver.specs.EngineGame.{set_by, set_by_all, SearchesOn}
@@ -74,32 +74,32 @@ further_rest (k ∷ ks) (m ∷ ms) rest e = further_by (same_ply k m) k m ks ms 
 
 -- LINES AMONG WHICH NO SEARCH BEGINS
 
-abbrev pub IsQuiet : Line → Type 0
+abbrev pub IsQuiet : DownLine → Type 0
 IsQuiet Go = ⊥
 IsQuiet Analyze = ⊥
 IsQuiet line = Unit {0}
 
-abbrev pub AreQuiet : List Line → Type 0
+abbrev pub AreQuiet : List DownLine → Type 0
 AreQuiet lines = AllByRecursion IsQuiet lines
 
-quiet_first : (o g : Game) (line : Line) (lines : List Line) → IsQuiet line → SearchesOn o (set_by g line) lines → SearchesOn o g (line ∷ lines)
+quiet_first : (o g : Game) (line : DownLine) (lines : List DownLine) → IsQuiet line → SearchesOn o (set_by g line) lines → SearchesOn o g (line ∷ lines)
 quiet_first o g Go lines q s = absurd q
 quiet_first o g Analyze lines q s = absurd q
 quiet_first o g line lines q s = s
 
-searches_then : (o g : Game) (a b : List Line) → AreQuiet a → SearchesOn o (set_by_all g a) b → SearchesOn o g (a ++ b)
+searches_then : (o g : Game) (a b : List DownLine) → AreQuiet a → SearchesOn o (set_by_all g a) b → SearchesOn o g (a ++ b)
 searches_then o g [] b q s = s
 searches_then o g (l ∷ ls) b q s = quiet_first o g l (ls ++ b) q.0 (searches_then o (set_by g l) ls b q.1 s)
 
-pub quiet_searches : (o g : Game) (lines : List Line) → AreQuiet lines → SearchesOn o g lines
+pub quiet_searches : (o g : Game) (lines : List DownLine) → AreQuiet lines → SearchesOn o g lines
 quiet_searches o g [] q = tt
 quiet_searches o g (l ∷ ls) q = quiet_first o g l ls q.0 (quiet_searches o (set_by g l) ls q.1)
 
-sets_then : (g : Game) (a b : List Line) → set_by_all g (a ++ b) ≡ set_by_all (set_by_all g a) b
+sets_then : (g : Game) (a b : List DownLine) → set_by_all g (a ++ b) ≡ set_by_all (set_by_all g a) b
 sets_then g [] b = refl
 sets_then g (l ∷ ls) b = sets_then (set_by g l) ls b
 
-quiet_then : (a b : List Line) → AreQuiet a → AreQuiet b → AreQuiet (a ++ b)
+quiet_then : (a b : List DownLine) → AreQuiet a → AreQuiet b → AreQuiet (a ++ b)
 quiet_then [] b q r = r
 quiet_then (l ∷ ls) b q r = (q.0, quiet_then ls b q.1 r)
 
@@ -108,11 +108,11 @@ quiet_then (l ∷ ls) b q r = (q.0, quiet_then ls b q.1 r)
 abbrev game : Position → List Ply → Game
 game start moves = record { start = start; moves = moves }
 
-played_quiet : (has_usermove : Bool) (ms : List Ply) → AreQuiet (played has_usermove ms)
+played_quiet : (has_usermove : Bool) (ms : List Ply) → AreQuiet (ply_lines has_usermove ms)
 played_quiet has_usermove [] = tt
 played_quiet has_usermove (m ∷ ms) = (tt, played_quiet has_usermove ms)
 
-played_sets : (has_usermove : Bool) (ms : List Ply) (g : Game) → set_by_all g (played has_usermove ms) ≡ game g.start (g.moves ++ ms)
+played_sets : (has_usermove : Bool) (ms : List Ply) (g : Game) → set_by_all g (ply_lines has_usermove ms) ≡ game g.start (g.moves ++ ms)
 played_sets has_usermove [] g = ap (λ (x : List Ply). game g.start x) (sym (append-nil g.moves))
 played_sets has_usermove (m ∷ ms) g = played_sets has_usermove ms (with_ply g m) ∙ ap (λ (x : List Ply). game g.start x) (append_assoc g.moves (m ∷ []) ms)
 
@@ -120,8 +120,8 @@ start_quiet : (standard : Bool) (p : Position) → AreQuiet (cond standard [] (S
 start_quiet true p = tt
 start_quiet false p = (tt, tt)
 
-pub start_sets : (standard : Bool) (p : Position) → is_standard p ≡ standard → set_by_all (begun start_position) (cond standard [] (SetBoard p ∷ [])) ≡ begun p
-start_sets true p e = ap begun (sym ((standard-law p).0 e))
+pub start_sets : (standard : Bool) (p : Position) → is_standard p ≡ standard → set_by_all (game_from start_position) (cond standard [] (SetBoard p ∷ [])) ≡ game_from p
+start_sets true p e = ap game_from (sym ((standard-law p).0 e))
 start_sets false p e = refl
 
 -- the further moves lead from the engine's game to the ordered one
@@ -132,7 +132,7 @@ IsRest eg g (Some rest) = (eg.start ≡ g.start) × (g.moves ≡ eg.moves ++ res
 setup_quiet : (o : Option (List Ply)) (has_usermove : Bool) (g : Game) → AreQuiet (setup_lines o has_usermove g)
 setup_quiet (Some rest) has_usermove g = (tt, played_quiet has_usermove rest)
 setup_quiet None has_usermove g =
-    (tt, (tt, (tt, quiet_then (start_lines g.start) (played has_usermove g.moves) (start_quiet (is_standard g.start) g.start) (played_quiet has_usermove g.moves))))
+    (tt, (tt, (tt, quiet_then (start_lines g.start) (ply_lines has_usermove g.moves) (start_quiet (is_standard g.start) g.start) (played_quiet has_usermove g.moves))))
 
 pub setup_sets : (o : Option (List Ply)) (has_usermove : Bool) (eg g : Game) → IsRest eg g o → set_by_all eg (setup_lines o has_usermove g) ≡ g
 setup_sets (Some rest) has_usermove eg g r =
@@ -140,9 +140,9 @@ setup_sets (Some rest) has_usermove eg g r =
     ∙ ap (λ (x : Position). game x (eg.moves ++ rest)) r.0
     ∙ ap (λ (x : List Ply). game g.start x) (sym r.1)
 setup_sets None has_usermove eg g r =
-    sets_then (begun start_position) (start_lines g.start) (played has_usermove g.moves)
-    ∙ ap (λ (x : Game). set_by_all x (played has_usermove g.moves)) (start_sets (is_standard g.start) g.start refl)
-    ∙ played_sets has_usermove g.moves (begun g.start)
+    sets_then (game_from start_position) (start_lines g.start) (ply_lines has_usermove g.moves)
+    ∙ ap (λ (x : Game). set_by_all x (ply_lines has_usermove g.moves)) (start_sets (is_standard g.start) g.start refl)
+    ∙ played_sets has_usermove g.moves (game_from g.start)
 
 rest_from : (told : ToldGame) (eg g : Game) (o : Option (List Ply)) → eg ≡ told.game → same_position told.game.start g.start ≡ true → further told.game.moves g.moves ≡ o → IsRest eg g o
 rest_from told eg g None k e f = tt

@@ -20,12 +20,12 @@ use Rattle.driver_lines.specs.Says.{Says, Move as SaysMove, Over, Pong, Report, 
 use Rattle.driver_lines.specs.Says as says
 use Rattle.driver_lines.specs.Moves.{IsShown}
 use Rattle.driver_lines.specs.Parts.{Feature as AFeature, parts}
-use Rattle.driver_lines.specs.Lines.{Line, Accepted, Rejected, lines_text}
+use Rattle.driver_lines.specs.Lines.{DownLine, Accepted, Rejected, lines_text}
 use Rattle.cecp_driver.specs.declared.driver.DriverParts.{DriverParts}
 use Rattle.cecp_driver.specs.SetUp.{ToldGame}
 use Rattle.cecp_driver.specs.Features.{rejects, answers}
 use Rattle.cecp_driver.specs.Deeds.{board_told, down_lines, down_told}
-use Rattle.cecp_driver.specs.Driver.{Orders, OrdersBy, Hears, HeardBy, Ends, IsAsked, IsHeard, acted, cleared, featured, features_at, opening, placed, placed_if, thought_call}
+use Rattle.cecp_driver.specs.Driver.{Orders, OrdersBy, Hears, HeardBy, Ends, IsAsked, IsHeard, driver_after_call, driver_without_lines, driver_after_features, features_at, opening, driver_after_position, placed_if, thought_call}
 use Rattle.cecp_driver.specs.Keeps.{Keeps}
 use Rattle.cecp_driver.specs.Script.{Comes, Goes, IsLine}
 use Rattle.cecp_driver.specs.EngineGame.{AllOn, IsNoQuit, IsOwn, OwnBy, QuitIsLast, SearchesOn, SearchesTheOrdered, Sets, has_quit, set_by_all, with_own}
@@ -54,7 +54,7 @@ board_known boards.Lost told g k = λ h. absurd (cc)
 abbrev Result : Event → DriverParts → DriverParts → Game → Type 0
 Result event v v' g = (g' : Game) × (Sets event v v' g g' × (Keeps v' × (IsKnown v'.told g' × IsGame v'.game)))
 
-call_sets : (event : Event) (v w : DriverParts) (c : DriverCall) (g : Game) → Keeps w → w.talk.stage ≡ v.talk.stage → w.down.text ≡ [] → IsKnown w.told g → IsGame w.game → CallFits w.game c → IsOwn event v (own_of (turn_of w.talk c).deed.board) → Result event v (acted w c) g
+call_sets : (event : Event) (v w : DriverParts) (c : DriverCall) (g : Game) → Keeps w → w.talk.stage ≡ v.talk.stage → w.down.text ≡ [] → IsKnown w.told g → IsGame w.game → CallFits w.game c → IsOwn event v (own_of (turn_of w.talk c).deed.board) → Result event v (driver_after_call w c) g
 call_sets event v w c g keeps stage blank known game fits own =
     let deed = (turn_of w.talk c).deed in
     let good = (call_good w.game w.told w.talk c fits keeps.serves).1 in
@@ -89,8 +89,8 @@ placed_told : (o : OrderWord) (v : DriverParts) (line : List ℕ) → (placed_if
 placed_told orders.Position v line = told_by (is_free v.talk) v _ refl
 placed_told o v line = refl
 
-placed_stage : (o : OrderWord) (v : DriverParts) (line : List ℕ) → (placed_if o (cleared v) line).talk.stage ≡ v.talk.stage
-placed_stage orders.Position v line = stage_by (is_free v.talk) (cleared v) _ refl
+placed_stage : (o : OrderWord) (v : DriverParts) (line : List ℕ) → (placed_if o (driver_without_lines v) line).talk.stage ≡ v.talk.stage
+placed_stage orders.Position v line = stage_by (is_free v.talk) (driver_without_lines v) _ refl
   where
     stage_by : (free : Bool) (v w : DriverParts) → w.talk.stage ≡ v.talk.stage → (cond free w v).talk.stage ≡ v.talk.stage
     stage_by true v w e = e
@@ -101,16 +101,16 @@ down_by : (free : Bool) (v w : DriverParts) → v.down.text ≡ [] → w.down.te
 down_by true v w a b = b
 down_by false v w a b = a
 
-placed_down : (o : OrderWord) (v : DriverParts) (line : List ℕ) → (placed_if o (cleared v) line).down.text ≡ []
-placed_down orders.Position v line = down_by (is_free v.talk) (cleared v) _ refl refl
+placed_down : (o : OrderWord) (v : DriverParts) (line : List ℕ) → (placed_if o (driver_without_lines v) line).down.text ≡ []
+placed_down orders.Position v line = down_by (is_free v.talk) (driver_without_lines v) _ refl refl
 placed_down o v line = refl
 
 game_by : (free : Bool) (v w : DriverParts) → IsGame v.game → IsGame w.game → IsGame (cond free w v).game
 game_by true v w h k = k
 game_by false v w h k = h
 
-placed_game : (o : OrderWord) (v : DriverParts) (line : List ℕ) → IsGame v.game → IsGame (placed_if o (cleared v) line).game
-placed_game orders.Position v line h = game_by (is_free v.talk) (cleared v) _ h (ordered_is line)
+placed_game : (o : OrderWord) (v : DriverParts) (line : List ℕ) → IsGame v.game → IsGame (placed_if o (driver_without_lines v) line).game
+placed_game orders.Position v line h = game_by (is_free v.talk) (driver_without_lines v) _ h (ordered_is line)
 placed_game o v line h = h
 
 asked_other : (v : DriverParts) (line : List ℕ) (o : OrderWord) (c : DriverCall) → IsAsked v line o c → IsOther c
@@ -120,16 +120,16 @@ asked_other v line o c e = subst IsOther (sym e) tt
 order_sets : (event : Event) (v v' : DriverParts) (line : List ℕ) (g : Game) → ((own : Option Move) → own ≡ None → IsOwn event v own) → Keeps v → IsKnown v.told g → IsGame v.game → Orders line v v' → Result event v v' g
 order_sets event v v' line g own keeps known game h =
     let o = order_in (first_token line) in
-    let w = placed_if o (cleared v) line in
-    let told : w.told ≡ v.told = placed_told o (cleared v) line in
+    let w = placed_if o (driver_without_lines v) line in
+    let told : w.told ≡ v.told = placed_told o (driver_without_lines v) line in
     subst (λ (x : DriverParts). Result event v x g) (sym h.after)
-    (call_sets event v w h.call g (placed_if_keeps o (cleared v) line (cleared_keeps v keeps)) (placed_stage o v line) (placed_down o v line)
+    (call_sets event v w h.call g (placed_if_keeps o (driver_without_lines v) line (cleared_keeps v keeps)) (placed_stage o v line) (placed_down o v line)
     (subst (λ (x : ToldGame). IsKnown x g) (sym told) known) (placed_game o v line game) (asked_fits w line o h.call h.asked)
     (own (own_of (turn_of w.talk h.call).deed.board) (others_none w.talk h.call (asked_other w line o h.call h.asked))))
 
 -- A LINE OF THE ENGINE
 
-answer_quiet : (b : Bool) (name : List ℕ) (ls : List Line) → AreQuiet ls → AreQuiet (cond b (Rejected name) (Accepted name) ∷ ls)
+answer_quiet : (b : Bool) (name : List ℕ) (ls : List DownLine) → AreQuiet ls → AreQuiet (cond b (Rejected name) (Accepted name) ∷ ls)
 answer_quiet true name ls q = (tt, q)
 answer_quiet false name ls q = (tt, q)
 
@@ -137,7 +137,7 @@ answers_quiet : (fs : List AFeature) → AreQuiet (answers fs)
 answers_quiet [] = tt
 answers_quiet (f ∷ fs) = answer_quiet (rejects f) f.name (answers fs) (answers_quiet fs)
 
-answer_sets : (b : Bool) (name : List ℕ) (ls : List Line) (g : Game) → set_by_all g ls ≡ g → set_by_all g (cond b (Rejected name) (Accepted name) ∷ ls) ≡ g
+answer_sets : (b : Bool) (name : List ℕ) (ls : List DownLine) (g : Game) → set_by_all g ls ≡ g → set_by_all g (cond b (Rejected name) (Accepted name) ∷ ls) ≡ g
 answer_sets true name ls g e = e
 answer_sets false name ls g e = e
 
@@ -145,7 +145,7 @@ answers_set : (fs : List AFeature) (g : Game) → set_by_all g (answers fs) ≡ 
 answers_set [] g = refl
 answers_set (f ∷ fs) g = answer_sets (rejects f) f.name (answers fs) g (answers_set fs g)
 
-answer_said : (b : Bool) (name : List ℕ) (ls : List Line) → IsName name → AllByRecursion CanBeSaid ls → AllByRecursion CanBeSaid (cond b (Rejected name) (Accepted name) ∷ ls)
+answer_said : (b : Bool) (name : List ℕ) (ls : List DownLine) → IsName name → AllByRecursion CanBeSaid ls → AllByRecursion CanBeSaid (cond b (Rejected name) (Accepted name) ∷ ls)
 answer_said true name ls h k = (h, k)
 answer_said false name ls h k = (h, k)
 
@@ -153,7 +153,7 @@ answers_said : (fs : List AFeature) → AllByRecursion IsWholeFeature fs → All
 answers_said [] h = tt
 answers_said (f ∷ fs) h = answer_said (rejects f) f.name (answers fs) h.0.name (answers_said fs h.1)
 
-answer_calm : (b : Bool) (name : List ℕ) (ls : List Line) → AreCalm ls → AreCalm (cond b (Rejected name) (Accepted name) ∷ ls)
+answer_calm : (b : Bool) (name : List ℕ) (ls : List DownLine) → AreCalm ls → AreCalm (cond b (Rejected name) (Accepted name) ∷ ls)
 answer_calm true name ls c = (tt, c)
 answer_calm false name ls c = (tt, c)
 
@@ -161,7 +161,7 @@ answers_calm : (fs : List AFeature) → AreCalm (answers fs)
 answers_calm [] = tt
 answers_calm (f ∷ fs) = answer_calm (rejects f) f.name (answers fs) (answers_calm fs)
 
-unquit_still : (before : Bool) (lines : List Line) → before ≡ false → AllByRecursion IsNoQuit lines → QuitIsLast before before lines
+unquit_still : (before : Bool) (lines : List DownLine) → before ≡ false → AllByRecursion IsNoQuit lines → QuitIsLast before before lines
 unquit_still true lines e h = absurd (cc)
 unquit_still false lines e h = h
 
@@ -170,7 +170,7 @@ quit_still true e = (refl, refl)
 quit_still false e = absurd (cc)
 
 -- what is written for features
-answered : (event : Event) (v v' : DriverParts) (g : Game) (lines : List Line) → Keeps v' → IsKnown v'.told g → IsGame v'.game → AllByRecursion CanBeSaid lines → AreCalm lines → QuitIsLast (has_quit v.talk.stage) (has_quit v'.talk.stage) lines
+answered : (event : Event) (v v' : DriverParts) (g : Game) (lines : List DownLine) → Keeps v' → IsKnown v'.told g → IsGame v'.game → AllByRecursion CanBeSaid lines → AreCalm lines → QuitIsLast (has_quit v.talk.stage) (has_quit v'.talk.stage) lines
     → IsOwn event v None → v'.down.text ≡ lines_text lines → AreQuiet lines → set_by_all g lines ≡ g → Result event v v' g
 answered event v v' g lines keeps known game said calm quits own written q s = (
   g,
@@ -191,9 +191,9 @@ answered event v v' g lines keeps known game said calm quits own written q s = (
   ),
 )
 
-feature_sets : (stage : DriverStage) (event : Event) (v : DriverParts) (text : List ℕ) (g : Game) → v.talk.stage ≡ stage → IsWhole text → Keeps (features_at stage (cleared v) text) → IsKnown v.told g → IsGame v.game → IsOwn event v None
-    → Result event v (features_at stage (cleared v) text) g
-feature_sets stages.Over event v text g e w keeps known game own = answered event v (cleared v) g [] keeps known game tt tt (quit_still (has_quit v.talk.stage) (ap has_quit e)) own refl tt refl
+feature_sets : (stage : DriverStage) (event : Event) (v : DriverParts) (text : List ℕ) (g : Game) → v.talk.stage ≡ stage → IsWhole text → Keeps (features_at stage (driver_without_lines v) text) → IsKnown v.told g → IsGame v.game → IsOwn event v None
+    → Result event v (features_at stage (driver_without_lines v) text) g
+feature_sets stages.Over event v text g e w keeps known game own = answered event v (driver_without_lines v) g [] keeps known game tt tt (quit_still (has_quit v.talk.stage) (ap has_quit e)) own refl tt refl
 feature_sets stages.Open event v text g e w keeps known game own =
     let fs = parts text in
     answered event v _ g (answers fs) keeps known game (answers_said fs (parts_whole text w)) (answers_calm fs)
@@ -207,11 +207,11 @@ own_moved : (thinks : Bool) (p : Position) (text : List ℕ) (shown own : Option
 own_moved true p text shown own e i = subst (λ (x : Option Move). IsShown p text x) (sym e) i
 own_moved false p text shown own e i = e
 
-heard_call : (v v' : DriverParts) (line : List ℕ) (said : Says) (c : DriverCall) (g : Game) → Keeps v → IsKnown v.told g → IsGame v.game → said ≡ says_in line → IsHeard (cleared v) said c → OwnBy said (is_thinking v.talk) (now_of v.game) (own_of (turn_of v.talk c).deed.board) → v' ≡ acted (cleared v) c
+heard_call : (v v' : DriverParts) (line : List ℕ) (said : Says) (c : DriverCall) (g : Game) → Keeps v → IsKnown v.told g → IsGame v.game → said ≡ says_in line → IsHeard (driver_without_lines v) said c → OwnBy said (is_thinking v.talk) (now_of v.game) (own_of (turn_of v.talk c).deed.board) → v' ≡ driver_after_call (driver_without_lines v) c
     → Result (Engine line) v v' g
 heard_call v v' line said c g keeps known game e heard own a =
     subst (λ (x : DriverParts). Result (Engine line) v x g) (sym a)
-    (call_sets (Engine line) v (cleared v) c g (cleared_keeps v keeps) refl refl known game (heard_fits (cleared v) said c heard)
+    (call_sets (Engine line) v (driver_without_lines v) c g (cleared_keeps v keeps) refl refl known game (heard_fits (driver_without_lines v) said c heard)
     (subst (λ (x : Says). OwnBy x (is_thinking v.talk) (now_of v.game) (own_of (turn_of v.talk c).deed.board)) e own))
 
 thought_other : (depth : ℕ) (score : _) (time nodes : ℕ) (best : Option Move) → IsOther (thought_call depth score time nodes best)
@@ -221,7 +221,7 @@ thought_other depth score time nodes (Some m) = tt
 other_own : (v : DriverParts) (c d : DriverCall) → c ≡ d → IsOther d → own_of (turn_of v.talk c).deed.board ≡ None
 other_own v c d e i = others_none v.talk c (subst IsOther (sym e) i)
 
-heard_sets : (said : Says) (v v' : DriverParts) (line : List ℕ) (g : Game) → IsWhole line → Keeps v → IsKnown v.told g → IsGame v.game → said ≡ says_in line → HeardBy said (cleared v) v' → Result (Engine line) v v' g
+heard_sets : (said : Says) (v v' : DriverParts) (line : List ℕ) (g : Game) → IsWhole line → Keeps v → IsKnown v.told g → IsGame v.game → said ≡ says_in line → HeardBy said (driver_without_lines v) v' → Result (Engine line) v v' g
 heard_sets (SaysMove text) v v' line g whole keeps known game e h =
     let shown : Option Move = h.1.0.0 in
     let own : own_of (turn_of v.talk h.0).deed.board ≡ cond (is_thinking v.talk) shown None = ap (λ (c : DriverCall). own_of (turn_of v.talk c).deed.board) h.1.0.1.1 ∙ moved_own v.talk shown in
@@ -234,13 +234,13 @@ heard_sets (Report depth score time nodes moves) v v' line g whole keeps known g
 heard_sets says.Other v v' line g whole keeps known game e h = heard_call v v' line says.Other h.0 g keeps known game e h.1.0 (other_own v h.0 calls.Other h.1.0 tt) h.1.1
 heard_sets (Feature text) v v' line g whole keeps known game e h =
     subst (λ (x : DriverParts). Result (Engine line) v x g) (sym h)
-    (feature_sets v.talk.stage (Engine line) v text g refl (feature_whole line text whole e) (featured_keeps (cleared v) text (cleared_keeps v keeps)) known game
+    (feature_sets v.talk.stage (Engine line) v text g refl (feature_whole line text whole e) (featured_keeps (driver_without_lines v) text (cleared_keeps v keeps)) known game
     (subst (λ (x : Says). OwnBy x (is_thinking v.talk) (now_of v.game) None) e refl))
 
 end_sets : (v v' : DriverParts) (g : Game) → Keeps v → IsKnown v.told g → IsGame v.game → Ends v v' → Result EngineEnd v v' g
 end_sets v v' g keeps known game h =
     subst (λ (x : DriverParts). Result EngineEnd v x g) (sym h)
-    (call_sets EngineEnd v (cleared v) calls.Ended g (cleared_keeps v keeps) refl refl known game tt (others_none v.talk calls.Ended tt))
+    (call_sets EngineEnd v (driver_without_lines v) calls.Ended g (cleared_keeps v keeps) refl refl known game tt (others_none v.talk calls.Ended tt))
 
 -- A RUN
 

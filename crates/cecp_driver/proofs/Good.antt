@@ -25,7 +25,7 @@ use Rattle.driver_talk.specs.declared.talk.Reach.TheVariants as reaches
 use Rattle.driver_talk.specs.declared.talk.WantedSearch.{WantedSearch}
 use Rattle.driver_talk.specs.declared.talk.DriverCall.{DriverCall}
 use Rattle.driver_talk.specs.declared.talk.DriverCall.TheVariants as calls
-use Rattle.driver_talk.specs.Talk.{turn_of, quiet, resume_in, is_free_at, is_awaited, unawaited, stopped, hit, hit_by, resumed, kept, played_by, opened_by, begin_by, begin_from, after_go, after_stop, after_hit, after_pong, after_thought, after_moved, after_resigned, after_ended, after_quit, after_uci, after_ready}
+use Rattle.driver_talk.specs.Talk.{turn_of, quiet, resume_in, is_free_at, is_awaited, without_awaited, stopped, hit, hit_by, resumed, kept, played_by, opened_by, begin_by, begin_from, after_go, after_stop, after_hit, after_pong, after_thought, after_moved, after_resigned, after_ended, after_quit, after_uci, after_ready}
 use Rattle.cecp_driver.specs.declared.told.TheConstants.{MOST_PLIES}
 use Rattle.cecp_driver.specs.SetUp.{ToldGame}
 use Rattle.cecp_driver.specs.Deeds.{FitsDown, CanPush, down_told, board_told}
@@ -37,7 +37,7 @@ talk_of stage gone awaited pings search = record { stage = stage; gone = gone; a
 abbrev pub search_of : GoKind → GoClocks → Move → Phase → OpenSearch
 search_of kind clocks best phase = record { kind = kind; clocks = clocks; kept = best; phase = phase }
 
--- the moves that are given up are legal
+-- the moves that are passed up are legal
 abbrev pub SaysLegal : Game → ToIface → Type 0
 SaysLegal g (ups.Best best) = IfSome best (λ m. legal (now_of g) m ≡ true)
 SaysLegal g (ups.Info thought) = legal (now_of g) thought.best ≡ true
@@ -165,7 +165,7 @@ resume_phase g told gone awaited pings kind clocks best (WaitsToAnalyse (Some ne
 resume_phase g told gone awaited pings kind clocks best p l n t = (tt, tt, tt, (l, n, t))
 
 pong_search : (g : Game) (told : ToldGame) (gone : Bool) (awaited : Option ℕ) (pings : ℕ) (search : Option OpenSearch) (b : Bool) → Serves search g told
-    → IsGood g told (cond b (resume_in search (unawaited (talk_of stages.Open gone awaited pings search))) (quiet (talk_of stages.Open gone awaited pings search)))
+    → IsGood g told (cond b (resume_in search (without_awaited (talk_of stages.Open gone awaited pings search))) (quiet (talk_of stages.Open gone awaited pings search)))
 pong_search g told gone awaited pings None true h = (tt, tt, tt, tt)
 pong_search g told gone awaited pings (Some s) true h = resume_phase g told gone awaited pings s.kind s.clocks s.kept s.phase h.0 h.1 h.2
 pong_search g told gone awaited pings search false h = (tt, tt, tt, h)

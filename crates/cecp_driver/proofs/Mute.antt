@@ -1,4 +1,4 @@
--- Without an open search and without a `go` that is accepted, no move is given up.
+-- Without an open search and without a `go` that is accepted, no move is passed up.
 use Rattle.std.proofs.Common.{◌≡◌, ℕ, Bool, true, false, cond, Option, Some, None, ◌∙◌, refl}
 use Rattle.driver_talk.specs.declared.words.ToIface.{ToIface}
 use Rattle.driver_talk.specs.declared.words.ToIface.TheVariants as ups
@@ -9,7 +9,7 @@ use Rattle.driver_talk.specs.declared.talk.DriverTalk.{DriverTalk}
 use Rattle.driver_talk.specs.declared.talk.DriverTurn.{DriverTurn}
 use Rattle.driver_talk.specs.declared.talk.DriverCall.{DriverCall}
 use Rattle.driver_talk.specs.declared.talk.DriverCall.TheVariants as calls
-use Rattle.driver_talk.specs.Talk.{turn_of, quiet, is_awaited, resume_in, unawaited}
+use Rattle.driver_talk.specs.Talk.{turn_of, quiet, is_awaited, resume_in, without_awaited}
 use Rattle.driver_talk.specs.Laws.{is_accepted}
 use Rattle.driver_talk.proofs.Counts.{talk_of}
 
@@ -26,7 +26,7 @@ pong_mute false r t = tt
 open_mute : (gone : Bool) (awaited : Option ℕ) (pings : ℕ) (c : DriverCall) → is_accepted (talk_of stages.Open gone awaited pings None) c ≡ false → IsMute (turn_of (talk_of stages.Open gone awaited pings None) c).deed.up
 unfolding turn_of
 open_mute gone awaited pings (calls.Go w) e = absurd (cc)
-open_mute gone awaited pings (calls.Pong n) e = pong_mute (is_awaited awaited n) (unawaited (talk_of stages.Open gone awaited pings None)) (talk_of stages.Open gone awaited pings None)
+open_mute gone awaited pings (calls.Pong n) e = pong_mute (is_awaited awaited n) (without_awaited (talk_of stages.Open gone awaited pings None)) (talk_of stages.Open gone awaited pings None)
 open_mute gone awaited pings calls.Other e = tt
 open_mute gone awaited pings calls.Quit e = tt
 open_mute gone awaited pings calls.Uci e = tt

@@ -5,7 +5,7 @@ use Rattle.std.specs.List.{AllByRecursion, before_first, after_first, list_all, 
 use Rattle.peer_words.specs.Tokens.{is_token, is_white, token_end, trim_left}
 use Rattle.cecp_driver.specs.Said.{IsName}
 use Rattle.cecp_driver.proofs.Fed.{IsWhole, dropped, later, taken, trimmed_first}
-use Rattle.driver_lines.specs.Parts.{CutFeature, Feature, cut_by, cut_of, ends_name, found, is_quote, onto, parts, parts_from, parts_within, skipped, value_cut}
+use Rattle.driver_lines.specs.Parts.{CutFeature, Feature, cut_by, cut_of, ends_name, cut_with_feature, is_quote, onto, parts, parts_from, parts_within, cut_without_feature, value_cut}
 
 abbrev IsBlack : List ℕ → Type 0
 IsBlack xs = list_all (λ b. not (is_white b)) xs ≡ true
@@ -35,14 +35,14 @@ record IsCut (c : CutFeature) : Type 0 where
   part : IfSome c.part IsWholeFeature
   left : IsWhole c.rest
 
-named : (name value rest : List ℕ) → IsName name → IsWhole value → IsWhole rest → IsCut (found name value rest)
+named : (name value rest : List ℕ) → IsName name → IsWhole value → IsWhole rest → IsCut (cut_with_feature name value rest)
 named name value rest h k l = record { part = record { name = h; value = k }; left = l }
 
 blank : IsWhole []
 blank = record { no_feed = refl; short = omega arith }
 
 quoted_cut : (q : Bool) (name : List ℕ) (b : ℕ) (bs : List ℕ) → IsName name → IsWhole (b ∷ bs)
-    → IsCut (cond q (found name (before_first is_quote bs) (after_first is_quote bs)) (found name (before_first is_white (b ∷ bs)) (drop (token_end (b ∷ bs)) (b ∷ bs))))
+    → IsCut (cond q (cut_with_feature name (before_first is_quote bs) (after_first is_quote bs)) (cut_with_feature name (before_first is_white (b ∷ bs)) (drop (token_end (b ∷ bs)) (b ∷ bs))))
 quoted_cut true name b bs h k = named name _ _ h (taken _ bs (later b bs k)) (dropped _ bs (later b bs k))
 quoted_cut false name b bs h k = named name _ _ h (taken _ (b ∷ bs) k) (dropped _ (b ∷ bs) k)
 
@@ -50,10 +50,10 @@ value_whole : (name bs : List ℕ) → IsName name → IsWhole bs → IsCut (val
 value_whole name [] h k = named name [] [] h blank blank
 value_whole name (b ∷ bs) h k = quoted_cut (eqb b 34) name b bs h k
 
-skipped_cut : (text : List ℕ) → IsWhole text → IsCut (skipped text)
+skipped_cut : (text : List ℕ) → IsWhole text → IsCut (cut_without_feature text)
 skipped_cut text h = record { part = tt; left = dropped (token_end text) text h }
 
-whole_by : (equals : Bool) (name bs behind : List ℕ) → IsName name → IsWhole bs → IsWhole behind → IsCut (cond equals (value_cut name bs) (skipped behind))
+whole_by : (equals : Bool) (name bs behind : List ℕ) → IsName name → IsWhole bs → IsWhole behind → IsCut (cond equals (value_cut name bs) (cut_without_feature behind))
 whole_by true name bs behind h k l = value_whole name bs h k
 whole_by false name bs behind h k l = skipped_cut behind l
 

@@ -23,7 +23,7 @@ use Rattle.driver_lines.specs.Says.{Says, Move as SaysMove, Over, Pong, Report, 
 use Rattle.driver_lines.specs.Says as says
 use Rattle.driver_lines.specs.Moves.{IsFirstMove, IsShown, IsThought, Names, NamesNone, Writes, WritesNone}
 use Rattle.cecp_driver.specs.declared.driver.DriverParts.{DriverParts}
-use Rattle.cecp_driver.specs.Driver.{Hears, HeardBy, IsAsked, IsHeard, Orders, Wants, acted, cleared, placed_if, thought_call}
+use Rattle.cecp_driver.specs.Driver.{Hears, HeardBy, IsAsked, IsHeard, Orders, Wants, driver_after_call, driver_without_lines, placed_if, thought_call}
 use Rattle.cecp_driver.specs.Script.{Comes, Goes, Takes, last_of, may_come, script_text}
 use Rattle.cecp_driver.specs.Runs.{HasOneScript, IsScript}
 
@@ -109,22 +109,22 @@ heard_one v said c d h k = h ∙ sym k
 orders_one : (v a b : DriverParts) (line : List ℕ) → Orders line v a → Orders line v b → a ≡ b
 orders_one v a b line h k =
     let o = order_in (first_token line) in
-    let w = placed_if o (cleared v) line in
-    h.after ∙ ap (acted w) (asked_one w line o h.call k.call h.asked k.asked) ∙ sym k.after
+    let w = placed_if o (driver_without_lines v) line in
+    h.after ∙ ap (driver_after_call w) (asked_one w line o h.call k.call h.asked k.asked) ∙ sym k.after
 
 heard_by_one : (said : Says) (v a b : DriverParts) → HeardBy said v a → HeardBy said v b → a ≡ b
 heard_by_one (Feature text) v a b h k = h ∙ sym k
-heard_by_one (SaysMove text) v a b h k = h.1.1 ∙ ap (acted v) (heard_one v (SaysMove text) h.0 k.0 h.1.0 k.1.0) ∙ sym k.1.1
-heard_by_one Over v a b h k = h.1.1 ∙ ap (acted v) (heard_one v Over h.0 k.0 h.1.0 k.1.0) ∙ sym k.1.1
-heard_by_one (Pong n) v a b h k = h.1.1 ∙ ap (acted v) (heard_one v (Pong n) h.0 k.0 h.1.0 k.1.0) ∙ sym k.1.1
+heard_by_one (SaysMove text) v a b h k = h.1.1 ∙ ap (driver_after_call v) (heard_one v (SaysMove text) h.0 k.0 h.1.0 k.1.0) ∙ sym k.1.1
+heard_by_one Over v a b h k = h.1.1 ∙ ap (driver_after_call v) (heard_one v Over h.0 k.0 h.1.0 k.1.0) ∙ sym k.1.1
+heard_by_one (Pong n) v a b h k = h.1.1 ∙ ap (driver_after_call v) (heard_one v (Pong n) h.0 k.0 h.1.0 k.1.0) ∙ sym k.1.1
 heard_by_one (Report depth score time nodes moves) v a b h k =
-    h.1.1 ∙ ap (acted v) (heard_one v (Report depth score time nodes moves) h.0 k.0 h.1.0 k.1.0) ∙ sym k.1.1
-heard_by_one says.Other v a b h k = h.1.1 ∙ ap (acted v) (heard_one v says.Other h.0 k.0 h.1.0 k.1.0) ∙ sym k.1.1
+    h.1.1 ∙ ap (driver_after_call v) (heard_one v (Report depth score time nodes moves) h.0 k.0 h.1.0 k.1.0) ∙ sym k.1.1
+heard_by_one says.Other v a b h k = h.1.1 ∙ ap (driver_after_call v) (heard_one v says.Other h.0 k.0 h.1.0 k.1.0) ∙ sym k.1.1
 
 comes_one : (event : Event) (v a b : DriverParts) → Comes event v a → Comes event v b → a ≡ b
 comes_one (Iface line) v a b h k = orders_one v a b line h k
 comes_one IfaceEnd v a b h k = orders_one v a b _ h k
-comes_one (Engine line) v a b h k = heard_by_one (says_in line) (cleared v) a b h k
+comes_one (Engine line) v a b h k = heard_by_one (says_in line) (driver_without_lines v) a b h k
 comes_one EngineEnd v a b h k = h ∙ sym k
 comes_one event v a b h k = absurd h
 

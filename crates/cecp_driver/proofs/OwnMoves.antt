@@ -22,7 +22,7 @@ use Rattle.driver_talk.specs.declared.talk.Reach.TheVariants as reaches
 use Rattle.driver_talk.specs.declared.talk.WantedSearch.{WantedSearch}
 use Rattle.driver_talk.specs.declared.talk.DriverCall.{DriverCall}
 use Rattle.driver_talk.specs.declared.talk.DriverCall.TheVariants as calls
-use Rattle.driver_talk.specs.Talk.{turn_of, quiet, board_of, closed, pinged, next_ping, resume_in, unawaited, is_free, is_open_stage, is_awaited, is_thinking, open_search, stopped, stop_in, hit, hit_by, hit_in, resumed, kept, thought_in, ended_in, gone, played_by, opened_by, begin_by, begin_from, begun, quit_at, uci_at, ready_at, after_begin, after_moved, after_resigned}
+use Rattle.driver_talk.specs.Talk.{turn_of, quiet, board_of, closed, pinged, next_ping, resume_in, without_awaited, is_free, is_open_stage, is_awaited, is_thinking, open_search, stopped, stop_in, hit, hit_by, hit_in, resumed, kept, thought_in, ended_in, without_engine, played_by, opened_by, begin_by, begin_from, begun, quit_at, uci_at, ready_at, after_begin, after_moved, after_resigned}
 
 -- the move that a deed adds to the engine's game
 abbrev pub own_of : BoardChange → Option Move
@@ -171,6 +171,6 @@ others_none t calls.Stop i = stop_none t (open_search t)
 others_none t calls.PonderHit i = hit_in_none t (open_search t)
 others_none t (calls.Moved shown) i = absurd i
 others_none t calls.Resigned i = resigned_none (is_thinking t) t _ refl
-others_none t (calls.Pong n) i = pong_none (is_open_stage t.stage && is_awaited t.awaited n) t (unawaited t) t.search
+others_none t (calls.Pong n) i = pong_none (is_open_stage t.stage && is_awaited t.awaited n) t (without_awaited t) t.search
 others_none t (calls.Thought thought) i = thought_none t (open_search t) thought
-others_none t calls.Ended i = ended_none (gone t) (open_search t)
+others_none t calls.Ended i = ended_none (without_engine t) (open_search t)

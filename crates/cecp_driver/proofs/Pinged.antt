@@ -24,7 +24,7 @@ use Rattle.driver_talk.specs.declared.talk.Reach.TheVariants as reaches
 use Rattle.driver_talk.specs.declared.talk.WantedSearch.{WantedSearch}
 use Rattle.driver_talk.specs.declared.talk.DriverCall.{DriverCall}
 use Rattle.driver_talk.specs.declared.talk.DriverCall.TheVariants as calls
-use Rattle.driver_talk.specs.Talk.{turn_of, quiet, next_ping, board_of, closed, pinged, resume_in, unawaited, is_free, is_open_stage, is_awaited, is_thinking, open_search, stopped, stop_in, hit, hit_by, hit_in, resumed, kept, thought_in, ended_in, gone, played_by, opened_by, begin_by, begin_from, begun, quit_at, uci_at, ready_at, after_begin, unless_gone}
+use Rattle.driver_talk.specs.Talk.{turn_of, quiet, next_ping, board_of, closed, pinged, resume_in, without_awaited, is_free, is_open_stage, is_awaited, is_thinking, open_search, stopped, stop_in, hit, hit_by, hit_in, resumed, kept, thought_in, ended_in, without_engine, played_by, opened_by, begin_by, begin_from, begun, quit_at, uci_at, ready_at, after_begin, unless_gone}
 
 -- the number of a ping that is written
 abbrev pub PingFits : ToEngine → Type 0
@@ -176,6 +176,6 @@ ping_fits t calls.Stop = stop_fits t (open_search t)
 ping_fits t calls.PonderHit = hit_fits t (open_search t)
 ping_fits t (calls.Moved shown) = moved_fits (is_thinking t) t shown
 ping_fits t calls.Resigned = resigned_fits (is_thinking t) t
-ping_fits t (calls.Pong n) = pong_fits (is_open_stage t.stage && is_awaited t.awaited n) t (unawaited t) t.search
+ping_fits t (calls.Pong n) = pong_fits (is_open_stage t.stage && is_awaited t.awaited n) t (without_awaited t) t.search
 ping_fits t (calls.Thought thought) = thought_fits t (open_search t) thought
-ping_fits t calls.Ended = ended_fits (gone t) (open_search t)
+ping_fits t calls.Ended = ended_fits (without_engine t) (open_search t)

@@ -7,7 +7,7 @@ use Rattle.chess_board.specs.Position.{Position}
 use Rattle.chess_board.specs.Place.{legal}
 use Rattle.chess_board.specs.Play.{start_position}
 use Rattle.chess_board.proofs.LegalMoves.{is_legal}
-use Rattle.game_record.specs.Game.{Ply, Game, AreLegal, begun, now_after, now_of, ply_of, with_ply}
+use Rattle.game_record.specs.Game.{Ply, Game, AreLegal, game_from, now_after, now_of, ply_of, with_ply}
 use Rattle.game_record.specs.Game as games
 use Rattle.game_record.specs.Line.{is_standard}
 use Rattle.game_record.proofs.Replays.{now_after-append}
@@ -26,10 +26,10 @@ use Rattle.driver_talk.specs.declared.talk.DriverTurn.{DriverTurn}
 use Rattle.driver_talk.specs.declared.talk.DriverCall.{DriverCall}
 use Rattle.driver_talk.specs.declared.talk.DriverCall.TheVariants as calls
 use Rattle.driver_talk.specs.Talk.{turn_of, after_moved}
-use Rattle.driver_lines.specs.Lines.{Line, Quit, SetBoard, Played, Sd, Go, Analyze}
+use Rattle.driver_lines.specs.Lines.{DownLine, Quit, SetBoard, Played, Sd, Go, Analyze}
 use Rattle.driver_lines.specs.Clocks.{clock_lines, control_lines, depth_lines}
 use Rattle.cecp_driver.specs.declared.told.TheConstants.{MOST_PLIES}
-use Rattle.cecp_driver.specs.SetUp.{ToldGame, continued, played, setup_lines, start_lines}
+use Rattle.cecp_driver.specs.SetUp.{ToldGame, continued, ply_lines, setup_lines, start_lines}
 use Rattle.cecp_driver.specs.Deeds.{down_lines, has_depth, hurry_lines, leave_lines, think_lines}
 use Rattle.cecp_driver.specs.Keeps.{IsTold, Serves, TellsGame}
 use Rattle.cecp_driver.specs.EngineGame.{AllFollow, CanFollow, CanPlay, IsNoQuit, set_by, set_by_all}
@@ -40,41 +40,41 @@ use Rattle.cecp_driver.proofs.Sayable.{IsGame}
 
 -- LINES THAT CAN FOLLOW ONE ANOTHER, NONE OF THEM `quit`
 
-abbrev pub AllFit : Game → List Line → Type 0
+abbrev pub AllFit : Game → List DownLine → Type 0
 AllFit g [] = Unit {0}
 AllFit g (line ∷ lines) = (CanFollow g line × IsNoQuit line) × AllFit (set_by g line) lines
 
-pub follow_of : (g : Game) (lines : List Line) → AllFit g lines → AllFollow g lines
+pub follow_of : (g : Game) (lines : List DownLine) → AllFit g lines → AllFollow g lines
 follow_of g [] h = tt
 follow_of g (l ∷ ls) h = (h.0.0, follow_of (set_by g l) ls h.1)
 
-pub unquit_of : (g : Game) (lines : List Line) → AllFit g lines → AllByRecursion IsNoQuit lines
+pub unquit_of : (g : Game) (lines : List DownLine) → AllFit g lines → AllByRecursion IsNoQuit lines
 unquit_of g [] h = tt
 unquit_of g (l ∷ ls) h = (h.0.1, unquit_of (set_by g l) ls h.1)
 
-fit_then : (g : Game) (a b : List Line) → AllFit g a → AllFit (set_by_all g a) b → AllFit g (a ++ b)
+fit_then : (g : Game) (a b : List DownLine) → AllFit g a → AllFit (set_by_all g a) b → AllFit g (a ++ b)
 fit_then g [] b h k = k
 fit_then g (l ∷ ls) b h k = (h.0, fit_then (set_by g l) ls b h.1 k)
 
 -- neither a move nor `quit`
-abbrev pub IsCalm : Line → Type 0
+abbrev pub IsCalm : DownLine → Type 0
 IsCalm (Played has_usermove m) = ⊥
 IsCalm Quit = ⊥
 IsCalm line = Unit {0}
 
-abbrev pub AreCalm : List Line → Type 0
+abbrev pub AreCalm : List DownLine → Type 0
 AreCalm lines = AllByRecursion IsCalm lines
 
-calm_line : (g : Game) (l : Line) → IsCalm l → CanFollow g l × IsNoQuit l
+calm_line : (g : Game) (l : DownLine) → IsCalm l → CanFollow g l × IsNoQuit l
 calm_line g (Played has_usermove m) c = absurd c
 calm_line g Quit c = absurd c
 calm_line g l c = (tt, tt)
 
-pub calm_fit : (g : Game) (lines : List Line) → AreCalm lines → AllFit g lines
+pub calm_fit : (g : Game) (lines : List DownLine) → AreCalm lines → AllFit g lines
 calm_fit g [] c = tt
 calm_fit g (l ∷ ls) c = (calm_line g l c.0, calm_fit (set_by g l) ls c.1)
 
-calm_then : (a b : List Line) → AreCalm a → AreCalm b → AreCalm (a ++ b)
+calm_then : (a b : List DownLine) → AreCalm a → AreCalm b → AreCalm (a ++ b)
 calm_then [] b c d = d
 calm_then (l ∷ ls) b c d = (c.0, calm_then ls b c.1 d)
 
@@ -83,9 +83,9 @@ calm_then (l ∷ ls) b c d = (c.0, calm_then ls b c.1 d)
 -- the later moves of a game are legal after the earlier ones
 legal_later : (p : Position) (a b : List Ply) → AreLegal p (a ++ b) → AreLegal (now_after p a) b
 legal_later p [] b h = h
-legal_later p (m ∷ ms) b h = legal_later (games.played p m) ms b h.1
+legal_later p (m ∷ ms) b h = legal_later (games.position_after_ply p m) ms b h.1
 
-played_fit : (has_usermove : Bool) (ms : List Ply) (g : Game) → AreLegal (now_of g) ms → length g.moves + length ms ≤ 12000 → AllFit g (played has_usermove ms)
+played_fit : (has_usermove : Bool) (ms : List Ply) (g : Game) → AreLegal (now_of g) ms → length g.moves + length ms ≤ 12000 → AllFit g (ply_lines has_usermove ms)
 played_fit has_usermove [] g h n = tt
 played_fit has_usermove (m ∷ ms) g h n =
     let more : length (g.moves ++ m ∷ []) ≡ length g.moves + 1 = length-append g.moves (m ∷ []) in (
@@ -103,15 +103,15 @@ setup_fit (Some rest) has_usermove eg g r h n =
     let all : length g.moves ≡ length eg.moves + length rest = ap length r.1 ∙ length-append eg.moves rest in
     ((tt, tt), played_fit has_usermove rest eg (legal_later eg.start eg.moves rest start) (omega (arith, n, all)))
 setup_fit None has_usermove eg g r h n =
-    let first = begun start_position in
+    let first = game_from start_position in
     let begins = start_lines g.start in (
       (tt, tt),
       (
         (tt, tt),
         (
           (tt, tt),
-          fit_then first begins (played has_usermove g.moves) (calm_fit first begins (start_calm (is_standard g.start) g.start))
-              (subst (λ (x : Game). AllFit x (played has_usermove g.moves)) (sym (start_sets (is_standard g.start) g.start refl)) (played_fit has_usermove g.moves (begun g.start) h (omega (arith, n)))),
+          fit_then first begins (ply_lines has_usermove g.moves) (calm_fit first begins (start_calm (is_standard g.start) g.start))
+              (subst (λ (x : Game). AllFit x (ply_lines has_usermove g.moves)) (sym (start_sets (is_standard g.start) g.start refl)) (played_fit has_usermove g.moves (game_from g.start) h (omega (arith, n)))),
         ),
       ),
     )

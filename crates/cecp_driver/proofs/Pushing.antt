@@ -10,7 +10,7 @@ use Rattle.chess_board.proofs.Legal.{legal-law}
 use Rattle.game_record.specs.declared.game.PlayFault.{PlayFault}
 use Rattle.game_record.specs.declared.game.PlayFault.TheVariants.{Illegal, TooLong}
 use Rattle.game_record.specs.Game.{Game, ply_of, now_of, with_ply, IsPlayable}
-use Rattle.cecp_driver.specs.Ordered.{push_one, pushed}
+use Rattle.cecp_driver.specs.Ordered.{push_one, game_after_texts}
 
 -- what comes of a try, by the tests of a move
 record IsTried (r : Result (Unit {0}) PlayFault) (left next : Option Game) : Type 0 where
@@ -51,9 +51,9 @@ pub try_refused : (g g' : Game) (m : Move) (o : Option Move) (b : Bool) (r : Res
     → ((r ≡ Err TooLong) ↔ (IsPlayable (now_of g) (ply_of m) × (length g.moves ≡ 12000))) → OnOk r (g' ≡ with_ply g (ply_of m)) → OnFalse b (push_one g o ≡ None)
 try_refused g g' m o b r e f few illegal long ok = on_false b _ (λ t. ap (push_one g) e ∙ (tried g g' m r few illegal long ok).refused (sym f ∙ t))
 
-none_pushed : (ts : List (List ℕ)) → pushed ts None ≡ None
+none_pushed : (ts : List (List ℕ)) → game_after_texts ts None ≡ None
 none_pushed [] = refl
 none_pushed (t ∷ ts) = refl
 
-pub push_none : (ts others : List (List ℕ)) (t : List ℕ) (g : Game) (one : Option Game) → ts ≡ t ∷ others → pushed (t ∷ others) (Some g) ≡ pushed others one → one ≡ None → pushed ts (Some g) ≡ None
-push_none ts others t g one e f n = ap (λ (xs : List (List ℕ)). pushed xs (Some g)) e ∙ f ∙ ap (pushed others) n ∙ none_pushed others
+pub push_none : (ts others : List (List ℕ)) (t : List ℕ) (g : Game) (one : Option Game) → ts ≡ t ∷ others → game_after_texts (t ∷ others) (Some g) ≡ game_after_texts others one → one ≡ None → game_after_texts ts (Some g) ≡ None
+push_none ts others t g one e f n = ap (λ (xs : List (List ℕ)). game_after_texts xs (Some g)) e ∙ f ∙ ap (game_after_texts others) n ∙ none_pushed others

@@ -24,9 +24,9 @@ use Rattle.driver_talk.specs.declared.talk.Reach.TheVariants as reaches
 use Rattle.driver_talk.specs.declared.talk.WantedSearch.{WantedSearch}
 use Rattle.driver_talk.specs.declared.talk.DriverCall.{DriverCall}
 use Rattle.driver_talk.specs.declared.talk.DriverCall.TheVariants as calls
-use Rattle.driver_talk.specs.Talk.{turn_of, quiet, next_ping, board_of, closed, pinged, resume_in, unawaited, is_free, is_open_stage, is_awaited, is_thinking, open_search, stopped, stop_in, hit, hit_by, hit_in, resumed, kept, thought_in, ended_in, gone, played_by, opened_by, begin_by, begin_from, begun, quit_at, uci_at, ready_at, after_begin, unless_gone}
+use Rattle.driver_talk.specs.Talk.{turn_of, quiet, next_ping, board_of, closed, pinged, resume_in, without_awaited, is_free, is_open_stage, is_awaited, is_thinking, open_search, stopped, stop_in, hit, hit_by, hit_in, resumed, kept, thought_in, ended_in, without_engine, played_by, opened_by, begin_by, begin_from, begun, quit_at, uci_at, ready_at, after_begin, unless_gone}
 use Rattle.game_record.specs.Game.{Game}
-use Rattle.driver_lines.specs.Lines.{Line}
+use Rattle.driver_lines.specs.Lines.{DownLine}
 use Rattle.cecp_driver.specs.SetUp.{ToldGame}
 use Rattle.cecp_driver.specs.Deeds.{down_lines}
 use Rattle.cecp_driver.specs.EngineGame.{IsNoQuit, QuitIsLast, has_quit}
@@ -122,7 +122,7 @@ thought_stays : (t : DriverTalk) (o : Option OpenSearch) (thought : Thought) →
 thought_stays t None thought = (refl, refl)
 thought_stays t (Some s) thought = keep_phase t s s.phase thought
 
-ended_stays : (t : DriverTalk) (o : Option OpenSearch) → Stays t (ended_in o (gone t))
+ended_stays : (t : DriverTalk) (o : Option OpenSearch) → Stays t (ended_in o (without_engine t))
 ended_stays t None = (refl, refl)
 ended_stays t (Some s) = (refl, refl)
 
@@ -159,7 +159,7 @@ turn_stays t calls.Stop q = stop_stays t (open_search t)
 turn_stays t calls.PonderHit q = hit_stays t (open_search t)
 turn_stays t (calls.Moved shown) q = if_stays (is_thinking t) t _ (refl, refl)
 turn_stays t calls.Resigned q = if_stays (is_thinking t) t _ (refl, refl)
-turn_stays t (calls.Pong n) q = if_stays (is_open_stage t.stage && is_awaited t.awaited n) t _ (resume_stays (unawaited t) t.search)
+turn_stays t (calls.Pong n) q = if_stays (is_open_stage t.stage && is_awaited t.awaited n) t _ (resume_stays (without_awaited t) t.search)
 turn_stays t (calls.Thought thought) q = thought_stays t (open_search t) thought
 turn_stays t calls.Ended q = ended_stays t (open_search t)
 
@@ -201,7 +201,7 @@ quit_last g told has_usermove t stages.Fresh e = gone_lines t.gone g told has_us
 quit_last g told has_usermove t stages.Open e = gone_lines t.gone g told has_usermove
 quit_last g told has_usermove t stages.Over e = absurd (cc)
 
-unquit_last : (now : Bool) (lines : List Line) → now ≡ false → AllByRecursion IsNoQuit lines → QuitIsLast false now lines
+unquit_last : (now : Bool) (lines : List DownLine) → now ≡ false → AllByRecursion IsNoQuit lines → QuitIsLast false now lines
 unquit_last true lines e h = absurd (cc)
 unquit_last false lines e h = h
 

@@ -13,20 +13,20 @@ use Rattle.chess_board.specs.Play.{IsPosition, start_position}
 use Rattle.chess_board.specs.Spelling.{move_of}
 use Rattle.chess_board.proofs.LegalMoves.{is_legal}
 use Rattle.chess_board.proofs.Start.{start-is}
-use Rattle.game_record.specs.Game.{Ply, Game, AreLegal, begun, now_of, ply_of, with_ply}
+use Rattle.game_record.specs.Game.{Ply, Game, AreLegal, game_from, now_of, ply_of, with_ply}
 use Rattle.game_record.proofs.Replays.{legal-append}
 use Rattle.game_record.specs.Line.{is_standard}
 use Rattle.uci_talk.specs.Lines.{Line as SpokenLine, line_of}
 use Rattle.driver_talk.specs.declared.words.GoClocks.{GoClocks}
 use Rattle.driver_talk.specs.declared.words.ToEngine.{ToEngine}
 use Rattle.driver_talk.specs.declared.words.ToEngine.TheVariants as downs
-use Rattle.driver_lines.specs.Lines.{Line, SetBoard, Played, Go, Analyze, Hurry, Exit, Ping, Sd}
+use Rattle.driver_lines.specs.Lines.{DownLine, SetBoard, Played, Go, Analyze, Hurry, Exit, Ping, Sd}
 use Rattle.driver_lines.specs.Clocks.{capped, clock_lines, control_lines, depth_lines, increment, mine, seconds_up, theirs}
 use Rattle.cecp_driver.specs.Said.{CanBeSaid, IsMove}
-use Rattle.cecp_driver.specs.SetUp.{ToldGame, continued, further, played, setup_lines, start_lines}
+use Rattle.cecp_driver.specs.SetUp.{ToldGame, continued, further, ply_lines, setup_lines, start_lines}
 use Rattle.cecp_driver.specs.Same.{same_ply, same_position}
 use Rattle.cecp_driver.specs.Deeds.{analyse_lines, down_lines, has_depth, hurry_lines, leave_lines, play_lines, think_lines}
-use Rattle.cecp_driver.specs.Ordered.{may_push, ordered_by, ordered_in, push_one, pushed}
+use Rattle.cecp_driver.specs.Ordered.{may_push, ordered_by, ordered_in, push_one, game_after_texts}
 use Rattle.cecp_driver.proofs.Lasting.{left_true, officer}
 use Rattle.cecp_driver.proofs.Starts.{line_good}
 use Rattle.cecp_driver.proofs.Pinged.{PingFits}
@@ -60,31 +60,31 @@ push_game : (g : Game) (o : Option Move) → IsGame g → Maybe (push_one g o)
 push_game g None h = tt
 push_game g (Some m) h = push_by (may_push g m) g m h refl
 
-pushed_game : (ts : List (List ℕ)) (o : Option Game) → Maybe o → Maybe (pushed ts o)
+pushed_game : (ts : List (List ℕ)) (o : Option Game) → Maybe o → Maybe (game_after_texts ts o)
 pushed_game [] o h = h
 pushed_game (t ∷ ts) None h = tt
 pushed_game (t ∷ ts) (Some g) h = pushed_game ts (push_one g (move_of t)) (push_game g (move_of t) h)
 
 ordered_game : (text : List ℕ) (o : Option SpokenLine) → line_of text ≡ o → Maybe (ordered_by o)
 ordered_game text None e = tt
-ordered_game text (Some line) e = pushed_game line.moves (Some (begun line.start)) (record { start = line_good text line e; moves = tt; legal = tt })
+ordered_game text (Some line) e = pushed_game line.moves (Some (game_from line.start)) (record { start = line_good text line e; moves = tt; legal = tt })
 
-pub start_game : IsGame (begun start_position)
+pub start_game : IsGame (game_from start_position)
 start_game = record { start = start-is; moves = tt; legal = tt }
 
-or_start : (o : Option Game) → Maybe o → IsGame (unwrap_or o (begun start_position))
+or_start : (o : Option Game) → Maybe o → IsGame (unwrap_or o (game_from start_position))
 or_start None h = start_game
 or_start (Some g) h = h
 
-pub ordered_is : (text : List ℕ) → IsGame (unwrap_or (ordered_in text) (begun start_position))
+pub ordered_is : (text : List ℕ) → IsGame (unwrap_or (ordered_in text) (game_from start_position))
 ordered_is text = or_start (ordered_in text) (ordered_game text (line_of text) refl)
 
 -- A SET-UP
 
-abbrev AllSaid : List Line → Type 0
+abbrev AllSaid : List DownLine → Type 0
 AllSaid lines = AllByRecursion CanBeSaid lines
 
-all_said : (a b : List Line) → AllSaid a → AllSaid b → AllSaid (a ++ b)
+all_said : (a b : List DownLine) → AllSaid a → AllSaid b → AllSaid (a ++ b)
 all_said [] b h k = k
 all_said (l ∷ ls) b h k = (h.0, all_said ls b h.1 k)
 
@@ -108,7 +108,7 @@ continued_moves : (told : ToldGame) (g : Game) (deep : Bool) → IsGame g → Re
 continued_moves told g deep h =
     continued_by ((told.known && not (told.limited && not deep)) && same_position told.game.start g.start) (further told.game.moves g.moves) (further_moves told.game.moves g.moves h.moves)
 
-played_said : (has_usermove : Bool) (ms : List Ply) → AllByRecursion IsMove ms → AllSaid (played has_usermove ms)
+played_said : (has_usermove : Bool) (ms : List Ply) → AllByRecursion IsMove ms → AllSaid (ply_lines has_usermove ms)
 played_said has_usermove [] h = tt
 played_said has_usermove (m ∷ ms) h = (h.0, played_said has_usermove ms h.1)
 
@@ -119,7 +119,7 @@ start_said false p h = (h, tt)
 setup_said : (o : Option (List Ply)) (has_usermove : Bool) (g : Game) → RestIs o → IsGame g → AllSaid (setup_lines o has_usermove g)
 setup_said (Some rest) has_usermove g r h = (tt, played_said has_usermove rest r)
 setup_said None has_usermove g r h =
-    (tt, (tt, (tt, all_said (start_lines g.start) (played has_usermove g.moves) (start_said (is_standard g.start) g.start h.start) (played_said has_usermove g.moves h.moves))))
+    (tt, (tt, (tt, all_said (start_lines g.start) (ply_lines has_usermove g.moves) (start_said (is_standard g.start) g.start h.start) (played_said has_usermove g.moves h.moves))))
 
 -- CLOCKS
 

@@ -36,7 +36,7 @@ use Rattle.cecp_driver.specs.declared.driver.DriverParts.{DriverParts}
 use Rattle.cecp_driver.specs.declared.features.HasFeatures.{HasFeatures}
 use Rattle.cecp_driver.specs.Features.{greets, greeting, greetings, has_after, name_after}
 use Rattle.cecp_driver.specs.Deeds.{up_text}
-use Rattle.cecp_driver.specs.Driver.{Orders, Hears, HeardBy, Ends, IsAsked, IsHeard, Wants, acted, cleared, features_at, opening, placed, placed_if, taken, thought_call}
+use Rattle.cecp_driver.specs.Driver.{Orders, Hears, HeardBy, Ends, IsAsked, IsHeard, Wants, driver_after_call, driver_without_lines, features_at, opening, driver_after_position, placed_if, driver_after_turn, thought_call}
 use Rattle.cecp_driver.specs.Keeps.{Keeps}
 use Rattle.cecp_driver.specs.Script.{Comes, Goes, IsLine, script_text}
 use Rattle.cecp_driver.specs.Runs.{UpLine, ReadyOk, UciOk, Named, Reports, BestMove, AllGiven, CannotSearch, Given, GivesUp, HasCause, HasLegalMove, HasNoMove, IgnoredBy, IsIgnored, IsOneLine, IsScript, IsSound, RunsAreSound, accepts_go, answer_count, game_asked, is_go, up_line_text, up_lines_text}
@@ -114,7 +114,7 @@ none_closed : (search : Option OpenSearch) → open_count search ≡ 0 → is_op
 none_closed None z e = cc
 none_closed (Some s) z e = cc
 
--- either the game is the one that was asked for, or no move is given up and no search is open
+-- either the game is the one that was asked for, or no move is passed up and no search is open
 abbrev AsksOrMute : Option Game → Game → DriverTurn → Type 0
 AsksOrMute asked g r = (asked ≡ Some g) ⊎ (IsMute r.deed.up × (open_count r.talk.search ≡ 0))
 
@@ -140,8 +140,8 @@ known_by asked g r (inl e) o = e
 known_by asked g r (inr m) o = absurd (none_closed r.talk.search m.1 o)
 
 call_given : (event : Event) (v w : DriverParts) (c : DriverCall) (asked : Option Game) (gos answers : ℕ) → Keeps w → w.up.text ≡ [] → CallFits w.game c → w.talk ≡ v.talk → is_accepted w.talk c ≡ accepts_go event v
-    → (is_open v.talk.search ≡ true → w.game ≡ v.game) → (accepts_go event v ≡ true → w.game ≡ v.game) → (talks.HasNoMove w.talk c → HasNoMove event v) → IsIgnored event v (acted w c)
-    → IsKnown v asked → gos ≡ answers + open_count v.talk.search → Result event v (acted w c) asked gos answers
+    → (is_open v.talk.search ≡ true → w.game ≡ v.game) → (accepts_go event v ≡ true → w.game ≡ v.game) → (talks.HasNoMove w.talk c → HasNoMove event v) → IsIgnored event v (driver_after_call w c)
+    → IsKnown v asked → gos ≡ answers + open_count v.talk.search → Result event v (driver_after_call w c) asked gos answers
 call_given event v w c asked gos answers keeps blank fits talk accepted stays asks cause ignored known counted =
     let r = turn_of w.talk c in
     let up = r.deed.up in
@@ -170,16 +170,16 @@ talk_by : (free : Bool) (v w : DriverParts) → w.talk ≡ v.talk → (cond free
 talk_by true v w e = e
 talk_by false v w e = refl
 
-placed_talk : (o : OrderWord) (v : DriverParts) (line : List ℕ) → (placed_if o (cleared v) line).talk ≡ v.talk
-placed_talk orders.Position v line = talk_by (is_free v.talk) (cleared v) _ refl
+placed_talk : (o : OrderWord) (v : DriverParts) (line : List ℕ) → (placed_if o (driver_without_lines v) line).talk ≡ v.talk
+placed_talk orders.Position v line = talk_by (is_free v.talk) (driver_without_lines v) _ refl
 placed_talk o v line = refl
 
 up_by : (free : Bool) (v w : DriverParts) → v.up.text ≡ [] → w.up.text ≡ [] → (cond free w v).up.text ≡ []
 up_by true v w a b = b
 up_by false v w a b = a
 
-placed_up : (o : OrderWord) (v : DriverParts) (line : List ℕ) → (placed_if o (cleared v) line).up.text ≡ []
-placed_up orders.Position v line = up_by (is_free v.talk) (cleared v) _ refl refl
+placed_up : (o : OrderWord) (v : DriverParts) (line : List ℕ) → (placed_if o (driver_without_lines v) line).up.text ≡ []
+placed_up orders.Position v line = up_by (is_free v.talk) (driver_without_lines v) _ refl refl
 placed_up o v line = refl
 
 open_busy : (stage : DriverStage) (search : Option OpenSearch) → is_open search ≡ true → is_free_at stage search ≡ false
@@ -192,11 +192,11 @@ game_by : (free : Bool) (v w : DriverParts) → free ≡ false → (cond free w 
 game_by true v w e = absurd (cc)
 game_by false v w e = refl
 
-placed_stays : (o : OrderWord) (v : DriverParts) (line : List ℕ) → is_open v.talk.search ≡ true → (placed_if o (cleared v) line).game ≡ v.game
-placed_stays orders.Position v line e = game_by (is_free v.talk) (cleared v) _ (open_busy v.talk.stage v.talk.search e)
+placed_stays : (o : OrderWord) (v : DriverParts) (line : List ℕ) → is_open v.talk.search ≡ true → (placed_if o (driver_without_lines v) line).game ≡ v.game
+placed_stays orders.Position v line e = game_by (is_free v.talk) (driver_without_lines v) _ (open_busy v.talk.stage v.talk.search e)
 placed_stays o v line e = refl
 
-placed_asks : (o : OrderWord) (v : DriverParts) (line : List ℕ) → (is_go o && is_free v.talk) ≡ true → (placed_if o (cleared v) line).game ≡ v.game
+placed_asks : (o : OrderWord) (v : DriverParts) (line : List ℕ) → (is_go o && is_free v.talk) ≡ true → (placed_if o (driver_without_lines v) line).game ≡ v.game
 placed_asks orders.Position v line e = absurd (cc)
 placed_asks o v line e = refl
 
@@ -204,34 +204,34 @@ accepted_is : (o : OrderWord) (v w : DriverParts) (line : List ℕ) (c : DriverC
 accepted_is orders.Go v w line c e a = ap (is_accepted w.talk) a.1.1 ∙ ap (λ (t : DriverTalk). is_free t) e
 accepted_is o v w line c e a = ap (is_accepted w.talk) a
 
-cannot : (v : DriverParts) (line : List ℕ) (w : WantedSearch) → Wants (cleared v) line w → (w.first ≡ None) ⊎ ((v.talk.gone ≡ true) ⊎ (w.reach ≡ reaches.Nothing)) → CannotSearch v
+cannot : (v : DriverParts) (line : List ℕ) (w : WantedSearch) → Wants (driver_without_lines v) line w → (w.first ≡ None) ⊎ ((v.talk.gone ≡ true) ⊎ (w.reach ≡ reaches.Nothing)) → CannotSearch v
 cannot v line w wants (inl e) = inl (subst (λ (x : Option Move). IsFirstMove (now_of v.game) x) e wants.first)
 cannot v line w wants (inr (inl gone)) = inr (inl gone)
 cannot v line w wants (inr (inr none)) = inr (inr (sym wants.reach ∙ none))
 
-order_cause : (o : OrderWord) (v : DriverParts) (line : List ℕ) (c : DriverCall) → IsAsked (placed_if o (cleared v) line) line o c → talks.HasNoMove (placed_if o (cleared v) line).talk c → ((is_go o && is_free v.talk) ≡ true) × CannotSearch v
+order_cause : (o : OrderWord) (v : DriverParts) (line : List ℕ) (c : DriverCall) → IsAsked (placed_if o (driver_without_lines v) line) line o c → talks.HasNoMove (placed_if o (driver_without_lines v) line).talk c → ((is_go o && is_free v.talk) ≡ true) × CannotSearch v
 order_cause orders.Go v line c a lacks = let h = subst (talks.HasNoMove v.talk) a.1.1 lacks in (h.0, cannot v line a.0 a.1.0 h.1)
 order_cause orders.Quit v line c a lacks = absurd (subst (talks.HasNoMove v.talk) a lacks)
 order_cause orders.Uci v line c a lacks = absurd (subst (talks.HasNoMove v.talk) a lacks)
 order_cause orders.IsReady v line c a lacks = absurd (subst (talks.HasNoMove v.talk) a lacks)
 order_cause orders.Stop v line c a lacks = absurd (subst (talks.HasNoMove v.talk) a lacks)
 order_cause orders.PonderHit v line c a lacks = absurd (subst (talks.HasNoMove v.talk) a lacks)
-order_cause orders.Position v line c a lacks = absurd (subst (talks.HasNoMove (placed (cleared v) line).talk) a lacks)
+order_cause orders.Position v line c a lacks = absurd (subst (talks.HasNoMove (driver_after_position (driver_without_lines v) line).talk) a lacks)
 order_cause orders.Other v line c a lacks = absurd (subst (talks.HasNoMove v.talk) a lacks)
 
 order_given : (v v' : DriverParts) (line : List ℕ) (asked : Option Game) (gos answers : ℕ) → Keeps v → IsKnown v asked → gos ≡ answers + open_count v.talk.search → Orders line v v' → Result (Iface line) v v' asked gos answers
 order_given v v' line asked gos answers keeps known counted h =
     let o = order_in (first_token line) in
-    let w = placed_if o (cleared v) line in
+    let w = placed_if o (driver_without_lines v) line in
     let talk : w.talk ≡ v.talk = placed_talk o v line in
     subst (λ (x : DriverParts). Result (Iface line) v x asked gos answers) (sym h.after)
-    (call_given (Iface line) v w h.call asked gos answers (placed_if_keeps o (cleared v) line (cleared_keeps v keeps)) (placed_up o v line) (asked_fits w line o h.call h.asked)
+    (call_given (Iface line) v w h.call asked gos answers (placed_if_keeps o (driver_without_lines v) line (cleared_keeps v keeps)) (placed_up o v line) (asked_fits w line o h.call h.asked)
     talk (accepted_is o v w line h.call talk h.asked) (placed_stays o v line) (placed_asks o v line) (order_cause o v line h.call h.asked) tt known counted)
 
 -- the end of the interface is `quit`
 quit_given : (v v' : DriverParts) (asked : Option Game) (gos answers : ℕ) → Keeps v → IsKnown v asked → gos ≡ answers + open_count v.talk.search → Orders (codes "quit") v v' → Result IfaceEnd v v' asked gos answers
 quit_given v v' asked gos answers keeps known counted h =
-    let w = cleared v in
+    let w = driver_without_lines v in
     let is : h.call ≡ calls.Quit = h.asked in
     subst (λ (x : DriverParts). Result IfaceEnd v x asked gos answers) (sym h.after)
     (call_given IfaceEnd v w h.call asked gos answers (cleared_keeps v keeps) refl (subst (CallFits v.game) (sym is) tt)
@@ -264,29 +264,29 @@ heard_cause v (Report depth score time nodes moves) c h lacks = absurd (thought_
 heard_cause v (Feature text) c h lacks = absurd (subst (talks.HasNoMove v.talk) h lacks)
 heard_cause v says.Other c h lacks = absurd (subst (talks.HasNoMove v.talk) h lacks)
 
-same_taken : (v : DriverParts) (r : DriverTurn) → r ≡ quiet v.talk → taken (cleared v) r ≡ cleared v
-same_taken v r e = ap (taken (cleared v)) e
+same_taken : (v : DriverParts) (r : DriverTurn) → r ≡ quiet v.talk → driver_after_turn (driver_without_lines v) r ≡ driver_without_lines v
+same_taken v r e = ap (driver_after_turn (driver_without_lines v)) e
 
-moved_ignored : (thinks : Bool) (v : DriverParts) (text : List ℕ) (c : DriverCall) (shown : Option Move) → is_thinking v.talk ≡ thinks → c ≡ calls.Moved shown → IgnoredBy (SaysMove text) thinks v (acted (cleared v) c)
+moved_ignored : (thinks : Bool) (v : DriverParts) (text : List ℕ) (c : DriverCall) (shown : Option Move) → is_thinking v.talk ≡ thinks → c ≡ calls.Moved shown → IgnoredBy (SaysMove text) thinks v (driver_after_call (driver_without_lines v) c)
 moved_ignored true v text c shown t e = tt
 moved_ignored false v text c shown t e = same_taken v (turn_of v.talk c) (ap (turn_of v.talk) e ∙ (moves_are_ignored v.talk shown t).0)
 
-over_ignored : (thinks : Bool) (v : DriverParts) (c : DriverCall) → is_thinking v.talk ≡ thinks → c ≡ calls.Resigned → IgnoredBy Over thinks v (acted (cleared v) c)
+over_ignored : (thinks : Bool) (v : DriverParts) (c : DriverCall) → is_thinking v.talk ≡ thinks → c ≡ calls.Resigned → IgnoredBy Over thinks v (driver_after_call (driver_without_lines v) c)
 over_ignored true v c t e = tt
 over_ignored false v c t e = same_taken v (turn_of v.talk c) (ap (turn_of v.talk) e ∙ (moves_are_ignored v.talk None t).1)
 
-heard_ignored : (v : DriverParts) (said : Says) (c : DriverCall) → IsHeard (cleared v) said c → IgnoredBy said (is_thinking v.talk) v (acted (cleared v) c)
+heard_ignored : (v : DriverParts) (said : Says) (c : DriverCall) → IsHeard (driver_without_lines v) said c → IgnoredBy said (is_thinking v.talk) v (driver_after_call (driver_without_lines v) c)
 heard_ignored v (SaysMove text) c h = moved_ignored (is_thinking v.talk) v text c h.0 refl h.1.1
 heard_ignored v Over c h = over_ignored (is_thinking v.talk) v c refl h
 heard_ignored v said c h = tt
 
-heard_call : (v v' : DriverParts) (line : List ℕ) (said : Says) (c : DriverCall) (asked : Option Game) (gos answers : ℕ) → Keeps v → IsKnown v asked → gos ≡ answers + open_count v.talk.search → said ≡ says_in line → IsHeard (cleared v) said c → v' ≡ acted (cleared v) c
+heard_call : (v v' : DriverParts) (line : List ℕ) (said : Says) (c : DriverCall) (asked : Option Game) (gos answers : ℕ) → Keeps v → IsKnown v asked → gos ≡ answers + open_count v.talk.search → said ≡ says_in line → IsHeard (driver_without_lines v) said c → v' ≡ driver_after_call (driver_without_lines v) c
     → Result (Engine line) v v' asked gos answers
 heard_call v v' line said c asked gos answers keeps known counted e heard a =
     subst (λ (x : DriverParts). Result (Engine line) v x asked gos answers) (sym a)
-    (call_given (Engine line) v (cleared v) c asked gos answers (cleared_keeps v keeps) refl (heard_fits (cleared v) said c heard) refl (heard_accepted (cleared v) said c heard)
-    (λ o. refl) (λ o. absurd (cc)) (λ lacks. subst (λ (x : Says). (is_thinking v.talk ≡ true) × GivesUp x (now_of v.game)) e (heard_cause (cleared v) said c heard lacks))
-    (subst (λ (x : Says). IgnoredBy x (is_thinking v.talk) v (acted (cleared v) c)) e (heard_ignored v said c heard)) known counted)
+    (call_given (Engine line) v (driver_without_lines v) c asked gos answers (cleared_keeps v keeps) refl (heard_fits (driver_without_lines v) said c heard) refl (heard_accepted (driver_without_lines v) said c heard)
+    (λ o. refl) (λ o. absurd (cc)) (λ lacks. subst (λ (x : Says). (is_thinking v.talk ≡ true) × GivesUp x (now_of v.game)) e (heard_cause (driver_without_lines v) said c heard lacks))
+    (subst (λ (x : Says). IgnoredBy x (is_thinking v.talk) v (driver_after_call (driver_without_lines v) c)) e (heard_ignored v said c heard)) known counted)
 
 -- FEATURES
 
@@ -340,10 +340,10 @@ plain_given line v v' lines asked gos answers keeps talk game written plain igno
 no_ignored : (line text : List ℕ) (v v' : DriverParts) → Feature text ≡ says_in line → IsIgnored (Engine line) v v'
 no_ignored line text v v' e = subst (λ (x : Says). IgnoredBy x (is_thinking v.talk) v v') e tt
 
-feature_given : (stage : DriverStage) (line text : List ℕ) (v : DriverParts) (asked : Option Game) (gos answers : ℕ) → Feature text ≡ says_in line → IsWhole text → IsCalled v → Keeps (features_at stage (cleared v) text) → IsKnown v asked → gos ≡ answers + open_count v.talk.search
-    → Result (Engine line) v (features_at stage (cleared v) text) asked gos answers
+feature_given : (stage : DriverStage) (line text : List ℕ) (v : DriverParts) (asked : Option Game) (gos answers : ℕ) → Feature text ≡ says_in line → IsWhole text → IsCalled v → Keeps (features_at stage (driver_without_lines v) text) → IsKnown v asked → gos ≡ answers + open_count v.talk.search
+    → Result (Engine line) v (features_at stage (driver_without_lines v) text) asked gos answers
 feature_given stages.Over line text v asked gos answers e w called keeps known counted =
-    plain_given line v (cleared v) [] asked gos answers keeps refl refl refl (record { legal_moves = tt; causes = tt; none = refl; one_line = tt }) (no_ignored line text v (cleared v) e) known counted
+    plain_given line v (driver_without_lines v) [] asked gos answers keeps refl refl refl (record { legal_moves = tt; causes = tt; none = refl; one_line = tt }) (no_ignored line text v (driver_without_lines v) e) known counted
 feature_given stages.Open line text v asked gos answers e w called keeps known counted =
     plain_given line v _ (greet_lines v.has v.name.text (parts text)) asked gos answers keeps refl refl (greet_written v.has v.name.text (parts text)) (greet_plain (Engine line) v asked v.has v.name.text (parts text) called (parts_whole text w))
     (no_ignored line text v _ e) known counted
@@ -351,10 +351,10 @@ feature_given stages.Fresh line text v asked gos answers e w called keeps known 
     plain_given line v _ (greet_lines v.has v.name.text (parts text)) asked gos answers keeps refl refl (greet_written v.has v.name.text (parts text)) (greet_plain (Engine line) v asked v.has v.name.text (parts text) called (parts_whole text w))
     (no_ignored line text v _ e) known counted
 
-heard_given : (said : Says) (v v' : DriverParts) (line : List ℕ) (asked : Option Game) (gos answers : ℕ) → IsWhole line → IsCalled v → Keeps v → IsKnown v asked → gos ≡ answers + open_count v.talk.search → said ≡ says_in line → HeardBy said (cleared v) v' → Result (Engine line) v v' asked gos answers
+heard_given : (said : Says) (v v' : DriverParts) (line : List ℕ) (asked : Option Game) (gos answers : ℕ) → IsWhole line → IsCalled v → Keeps v → IsKnown v asked → gos ≡ answers + open_count v.talk.search → said ≡ says_in line → HeardBy said (driver_without_lines v) v' → Result (Engine line) v v' asked gos answers
 heard_given (Feature text) v v' line asked gos answers whole called keeps known counted e h =
     subst (λ (x : DriverParts). Result (Engine line) v x asked gos answers) (sym h)
-    (feature_given v.talk.stage line text v asked gos answers e (feature_whole line text whole e) called (featured_keeps (cleared v) text (cleared_keeps v keeps)) known counted)
+    (feature_given v.talk.stage line text v asked gos answers e (feature_whole line text whole e) called (featured_keeps (driver_without_lines v) text (cleared_keeps v keeps)) known counted)
 heard_given (SaysMove text) v v' line asked gos answers whole called keeps known counted e h = heard_call v v' line (SaysMove text) h.0 asked gos answers keeps known counted e h.1.0 h.1.1
 heard_given Over v v' line asked gos answers whole called keeps known counted e h = heard_call v v' line Over h.0 asked gos answers keeps known counted e h.1.0 h.1.1
 heard_given (Pong n) v v' line asked gos answers whole called keeps known counted e h = heard_call v v' line (Pong n) h.0 asked gos answers keeps known counted e h.1.0 h.1.1
@@ -365,7 +365,7 @@ heard_given says.Other v v' line asked gos answers whole called keeps known coun
 end_given : (v v' : DriverParts) (asked : Option Game) (gos answers : ℕ) → Keeps v → IsKnown v asked → gos ≡ answers + open_count v.talk.search → Ends v v' → Result EngineEnd v v' asked gos answers
 end_given v v' asked gos answers keeps known counted h =
     subst (λ (x : DriverParts). Result EngineEnd v x asked gos answers) (sym h)
-    (call_given EngineEnd v (cleared v) calls.Ended asked gos answers (cleared_keeps v keeps) refl tt refl refl (λ e. refl) (λ e. absurd (cc)) (λ lacks. lacks) tt known counted)
+    (call_given EngineEnd v (driver_without_lines v) calls.Ended asked gos answers (cleared_keeps v keeps) refl tt refl refl (λ e. refl) (λ e. absurd (cc)) (λ lacks. lacks) tt known counted)
 
 -- RUNS
 

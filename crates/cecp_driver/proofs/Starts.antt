@@ -8,14 +8,14 @@ use Rattle.chess_board.specs.declared.board.Rights.{Rights}
 use Rattle.chess_board.specs.declared.board.BuildFault.{BuildFault}
 use Rattle.chess_board.specs.Board.{Men}
 use Rattle.chess_board.specs.Position.{Position}
-use Rattle.chess_board.specs.Play.{IsPosition, built, fits_board, start_position}
+use Rattle.chess_board.specs.Play.{IsPosition, position_if_built, fits_board, start_position}
 use Rattle.chess_board.proofs.Built.{built-is}
 use Rattle.chess_board.proofs.Start.{start-is}
 use Rattle.fen_text.specs.declared.fault.FenFault.{FenFault}
-use Rattle.fen_text.specs.Fen.{or_fault, position_of_fields, spelled}
+use Rattle.fen_text.specs.Fen.{or_fault, position_of_fields, position_from_fields}
 use Rattle.fen_text.specs.Fields.{is_passed, passant_of, rights_of, side_of}
-use Rattle.fen_text.specs.Squares.{board_of, exactly, fitting, joined, men_of, placed, rank_of, ranks_in, squares_in}
-use Rattle.uci_talk.specs.Lines.{Line, before_moves, behind_moves, if_right, led, line_from, line_in, line_of, line_to, standard_if_alone, start_in}
+use Rattle.fen_text.specs.Squares.{board_of, exactly, men_if_fitting, men_if_both, men_of, men_in_field, rank_of, ranks_in, squares_in}
+use Rattle.uci_talk.specs.Lines.{Line, before_moves, behind_moves, if_right, position_after_texts, line_from, line_in, line_of, line_to, standard_if_alone, start_in}
 use Rattle.peer_words.specs.Tokens.{tokens}
 
 -- A BOARD HAS 64 SQUARES
@@ -27,7 +27,7 @@ record Joins (a b : Option Men) (men : Men) : Type 0 where
   right_is : b ≡ Some right
   whole : men ≡ left ++ right
 
-joins : (a b : Option Men) (men : Men) → joined a b ≡ Some men → Joins a b men
+joins : (a b : Option Men) (men : Men) → men_if_both a b ≡ Some men → Joins a b men
 joins None b men e = absurd (cc)
 joins (Some x) None men e = absurd (cc)
 joins (Some x) (Some y) men e = let same : men ≡ x ++ y = cc in record { left = x; right = y; left_is = refl; right_is = refl; whole = same }
@@ -53,7 +53,7 @@ placed_by : (b : Bool) (ranks : List (List ℕ)) (men : Men) → eqb (length ran
 placed_by true ranks men t e = let eight = (Decides-eqb (length ranks) 8).0 t in let all = men_length ranks men e in omega (arith, eight, all)
 placed_by false ranks men t e = absurd (cc)
 
-fitting_is : (o : Option Men) (men : Men) → fitting o ≡ Some men → o ≡ Some men
+fitting_is : (o : Option Men) (men : Men) → men_if_fitting o ≡ Some men → o ≡ Some men
 fitting_is None men e = e
 fitting_is (Some m) men e = fits_by (fits_board m) m men e
   where
@@ -62,7 +62,7 @@ fitting_is (Some m) men e = fits_by (fits_board m) m men e
     fits_by false m men e = absurd (cc)
 
 board_length : (field : List ℕ) (men : Men) → board_of field ≡ Some men → length men ≡ 64
-board_length field men e = placed_by (eqb (length (ranks_in field)) 8) (ranks_in field) men refl (fitting_is (placed field) men e)
+board_length field men e = placed_by (eqb (length (ranks_in field)) 8) (ranks_in field) men refl (fitting_is (men_in_field field) men e)
 
 -- A PASSED SQUARE IS ON THE BOARD
 
@@ -96,7 +96,7 @@ and_then_is f None x e = absurd (cc)
 and_then_is f (Some text) x e = (text, e)
 
 spelled_good : (men : Option Men) (side : Option Side) (rights : Option Rights) (passant : Option (Option ℕ)) (half full : Option ℕ) (p : Position)
-    → ((m : Men) → men ≡ Some m → length m ≡ 64) → ((o : Option ℕ) → passant ≡ Some o → IsLow o) → spelled men side rights passant half full ≡ Ok p → IsPosition p
+    → ((m : Men) → men ≡ Some m → length m ≡ 64) → ((o : Option ℕ) → passant ≡ Some o → IsLow o) → position_from_fields men side rights passant half full ≡ Ok p → IsPosition p
 spelled_good None side rights passant half full p h k e = absurd (cc)
 spelled_good (Some men) None rights passant half full p h k e = absurd (cc)
 spelled_good (Some men) (Some side) None passant half full p h k e = absurd (cc)
@@ -144,7 +144,7 @@ to_good p moves (Some q) line h e = let same : p ≡ line.start = ap (λ (o : Op
 
 from_good : (o : Option Position) (moves : List (List ℕ)) (line : Line) → ((p : Position) → o ≡ Some p → IsPosition p) → line_from o moves ≡ Some line → IsPosition line.start
 from_good None moves line h e = absurd (cc)
-from_good (Some p) moves line h e = to_good p moves (led moves (Some p)) line (h p refl) e
+from_good (Some p) moves line h e = to_good p moves (position_after_texts moves (Some p)) line (h p refl) e
 
 pub line_good : (text : List ℕ) (line : Line) → line_of text ≡ Some line → IsPosition line.start
 unfolding line_of

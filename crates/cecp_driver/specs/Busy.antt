@@ -9,13 +9,13 @@ use Rattle.driver_talk.specs.Laws.{IsBusy, run}
 use Rattle.driver_lines.specs.Words.{ordered_in as order_in}
 use Rattle.driver_lines.specs.Says.{says_in}
 use Rattle.cecp_driver.specs.declared.driver.DriverParts.{DriverParts}
-use Rattle.cecp_driver.specs.Driver.{IsAsked, IsHeard, cleared, placed_if}
+use Rattle.cecp_driver.specs.Driver.{IsAsked, IsHeard, driver_without_lines, placed_if}
 
 -- the call to the talk that an event is
 abbrev pub IsCallOf : Event → DriverParts → DriverCall → Type 0
-IsCallOf (Iface line) v call = IsAsked (placed_if (order_in (first_token line)) (cleared v) line) line (order_in (first_token line)) call
+IsCallOf (Iface line) v call = IsAsked (placed_if (order_in (first_token line)) (driver_without_lines v) line) line (order_in (first_token line)) call
 IsCallOf IfaceEnd v call = call ≡ calls.Quit
-IsCallOf (Engine line) v call = IsHeard (cleared v) (says_in line) call
+IsCallOf (Engine line) v call = IsHeard (driver_without_lines v) (says_in line) call
 IsCallOf EngineEnd v call = call ≡ calls.Ended
 IsCallOf event v call = ⊥
 

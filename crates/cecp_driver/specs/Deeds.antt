@@ -10,9 +10,9 @@ use Rattle.driver_talk.specs.declared.words.ToEngine.{ToEngine}
 use Rattle.driver_talk.specs.declared.words.ToEngine.TheVariants as downs
 use Rattle.driver_talk.specs.declared.words.BoardChange.{BoardChange}
 use Rattle.driver_talk.specs.declared.words.BoardChange.TheVariants as boards
-use Rattle.driver_lines.specs.Lines.{Line, XBoard, Protover, Quit, Force, Go, Analyze, Hurry, Exit, Ping, best_text, info_text, ended}
+use Rattle.driver_lines.specs.Lines.{DownLine, XBoard, Protover, Quit, Force, Go, Analyze, Hurry, Exit, Ping, best_text, info_text, line_with_feed}
 use Rattle.driver_lines.specs.Clocks.{clock_lines}
-use Rattle.cecp_driver.specs.SetUp.{ToldGame, continued, setup_lines, set_up, limited, moved, lost}
+use Rattle.cecp_driver.specs.SetUp.{ToldGame, continued, setup_lines, set_up, told_with_limit, told_after_ply, told_without_game}
 use Rattle.cecp_driver.specs.declared.told.TheConstants.{MOST_PLIES}
 
 abbrev pub has_depth : GoClocks → Bool
@@ -22,9 +22,9 @@ has_depth c = not (c.depth == 0)
 
 abbrev pub up_text : ToIface → List ℕ
 up_text ups.Nothing = []
-up_text ups.Ready = ended (codes "readyok")
-up_text (ups.Best best) = ended (best_text best)
-up_text (ups.Info thought) = ended (info_text thought)
+up_text ups.Ready = line_with_feed (codes "readyok")
+up_text (ups.Best best) = line_with_feed (best_text best)
+up_text (ups.Info thought) = line_with_feed (info_text thought)
 
 -- the moves have texts
 abbrev pub CanSay : ToIface → Type 0
@@ -34,24 +34,24 @@ CanSay up = Unit {0}
 
 -- TO THE ENGINE
 
-abbrev pub hurry_lines : Bool → List Line
+abbrev pub hurry_lines : Bool → List DownLine
 hurry_lines hurried = if hurried then Hurry ∷ [] else []
 
-abbrev pub leave_lines : Option ℕ → List Line
+abbrev pub leave_lines : Option ℕ → List DownLine
 leave_lines None = []
 leave_lines (Some n) = Exit ∷ Ping n ∷ []
 
-abbrev pub think_lines : Game → GoClocks → Bool → List Line
+abbrev pub think_lines : Game → GoClocks → Bool → List DownLine
 think_lines game clocks hurried = clock_lines (now_of game).side clocks ++ (Go ∷ hurry_lines hurried)
 
-abbrev pub play_lines : ToldGame → Game → Bool → GoClocks → Bool → List Line
+abbrev pub play_lines : ToldGame → Game → Bool → GoClocks → Bool → List DownLine
 play_lines told game has_usermove clocks hurried = setup_lines (continued told game (has_depth clocks)) has_usermove game ++ think_lines game clocks hurried
 
-abbrev pub analyse_lines : ToldGame → Game → Bool → GoClocks → Option ℕ → List Line
+abbrev pub analyse_lines : ToldGame → Game → Bool → GoClocks → Option ℕ → List DownLine
 analyse_lines told game has_usermove clocks ping = setup_lines (continued told game (has_depth clocks)) has_usermove game ++ (Analyze ∷ leave_lines ping)
 
 -- the lines that are written, by what the engine was given before, and the ordered game
-abbrev pub down_lines : ToldGame → Game → Bool → ToEngine → List Line
+abbrev pub down_lines : ToldGame → Game → Bool → ToEngine → List DownLine
 down_lines told game has_usermove downs.Nothing = []
 down_lines told game has_usermove downs.Greeting = XBoard ∷ Protover ∷ []
 down_lines told game has_usermove downs.Quit = Quit ∷ []
@@ -70,15 +70,15 @@ FitsDown game down = Unit {0}
 
 -- what the engine was given then
 abbrev pub down_told : Game → ToEngine → ToldGame → ToldGame
-down_told game (downs.Play clocks hurried) told = limited (set_up told game (has_depth clocks)) (has_depth clocks)
-down_told game (downs.Resume clocks) told = limited told (has_depth clocks)
+down_told game (downs.Play clocks hurried) told = told_with_limit (set_up told game (has_depth clocks)) (has_depth clocks)
+down_told game (downs.Resume clocks) told = told_with_limit told (has_depth clocks)
 down_told game (downs.Analyse clocks ping) told = set_up told game (has_depth clocks)
 down_told game down told = told
 
 abbrev pub board_told : BoardChange → ToldGame → ToldGame
 board_told boards.Same told = told
-board_told (boards.Moved m) told = moved told (ply_of m)
-board_told boards.Lost told = lost told
+board_told (boards.Moved m) told = told_after_ply told (ply_of m)
+board_told boards.Lost told = told_without_game told
 
 -- there is room for the engine's move
 abbrev pub CanPush : BoardChange → ToldGame → Type 0

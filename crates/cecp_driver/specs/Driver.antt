@@ -5,7 +5,7 @@ use Rattle.line_io.specs.Out.{Text, empty, with}
 use Rattle.peer_words.specs.Tokens.{tokens, first_token}
 use Rattle.chess_board.specs.declared.board.Move.{Move}
 use Rattle.chess_board.specs.Play.{start_position}
-use Rattle.game_record.specs.Game.{Game, begun, now_of, ply_of}
+use Rattle.game_record.specs.Game.{Game, game_from, now_of, ply_of}
 use Rattle.uci_talk.specs.Kinds.{kind_asked}
 use Rattle.driver_talk.specs.declared.words.Thought.{Thought}
 use Rattle.driver_talk.specs.declared.talk.DriverStage.{DriverStage}
@@ -38,12 +38,12 @@ use Rattle.cecp_driver.specs.Ordered.{ordered_in}
 use Rattle.cecp_driver.specs.Deeds.{up_text, CanSay, down_lines, FitsDown, down_told, board_told, CanPush}
 
 -- nothing was given yet
-abbrev pub cleared : DriverParts → DriverParts
-cleared v = record { talk = v.talk; has = v.has; name = v.name; is_ordered = v.is_ordered; game = v.game; told = v.told; up = empty v.up.room; down = empty v.down.room }
+abbrev pub driver_without_lines : DriverParts → DriverParts
+driver_without_lines v = record { talk = v.talk; has = v.has; name = v.name; is_ordered = v.is_ordered; game = v.game; told = v.told; up = empty v.up.room; down = empty v.down.room }
 
 -- A turn: its lines are given, and what the engine was given is kept.
-abbrev pub taken : DriverParts → DriverTurn → DriverParts
-taken v r = record {
+abbrev pub driver_after_turn : DriverParts → DriverTurn → DriverParts
+driver_after_turn v r = record {
   talk = r.talk;
   has = v.has;
   name = v.name;
@@ -54,8 +54,8 @@ taken v r = record {
   down = with v.down (lines_text (down_lines v.told v.game v.has.usermove r.deed.down));
 }
 
-abbrev pub acted : DriverParts → DriverCall → DriverParts
-acted v call = taken v (turn_of v.talk call)
+abbrev pub driver_after_call : DriverParts → DriverCall → DriverParts
+driver_after_call v call = driver_after_turn v (turn_of v.talk call)
 
 -- the lines of a turn can be written
 pub record CanTake (v : DriverParts) (r : DriverTurn) : Type 0 where
@@ -85,14 +85,14 @@ pub record Wants (v : DriverParts) (line : List ℕ) (w : WantedSearch) : Type 0
   pub reach : w.reach ≡ reach_of v
 
 -- a `position`, if no search is open
-abbrev pub placed : DriverParts → List ℕ → DriverParts
-placed v line =
+abbrev pub driver_after_position : DriverParts → List ℕ → DriverParts
+driver_after_position v line =
     if is_free v.talk
-    then record { talk = v.talk; has = v.has; name = v.name; is_ordered = is_some (ordered_in line); game = unwrap_or (ordered_in line) (begun start_position); told = v.told; up = v.up; down = v.down }
+    then record { talk = v.talk; has = v.has; name = v.name; is_ordered = is_some (ordered_in line); game = unwrap_or (ordered_in line) (game_from start_position); told = v.told; up = v.up; down = v.down }
     else v
 
 abbrev pub placed_if : OrderWord → DriverParts → List ℕ → DriverParts
-placed_if orders.Position v line = placed v line
+placed_if orders.Position v line = driver_after_position v line
 placed_if ordered v line = v
 
 -- what an order asks for, besides a position
@@ -135,8 +135,8 @@ features_at stage v text = record {
 }
 
 -- the features of a line, before `quit`
-abbrev pub featured : DriverParts → List ℕ → DriverParts
-featured v text = features_at v.talk.stage v text
+abbrev pub driver_after_features : DriverParts → List ℕ → DriverParts
+driver_after_features v text = features_at v.talk.stage v text
 
 -- CALLS
 
@@ -149,7 +149,7 @@ opening = record {
   has = no_features;
   name = empty LINE_LIMIT;
   is_ordered = false;
-  game = begun start_position;
+  game = game_from start_position;
   told = none_told;
   up = empty UP_ROOM;
   down = empty DOWN_ROOM;
@@ -157,8 +157,8 @@ opening = record {
 
 pub record OrdersBy (ordered : OrderWord) (line : List ℕ) (v v' : DriverParts) : Type 0 where
   pub call : DriverCall
-  pub asked : IsAsked (placed_if ordered (cleared v) line) line ordered call
-  pub after : v' ≡ acted (placed_if ordered (cleared v) line) call
+  pub asked : IsAsked (placed_if ordered (driver_without_lines v) line) line ordered call
+  pub after : v' ≡ driver_after_call (placed_if ordered (driver_without_lines v) line) call
 
 -- what comes of an order
 abbrev pub Orders : List ℕ → DriverParts → DriverParts → Type 0
@@ -170,13 +170,13 @@ IsPlain (Feature text) = ⊥
 IsPlain said = Unit {0}
 
 abbrev pub HeardBy : Says → DriverParts → DriverParts → Type 0
-HeardBy (Feature text) v v' = v' ≡ featured v text
-HeardBy said v v' = (call : DriverCall) × (IsHeard v said call × (v' ≡ acted v call))
+HeardBy (Feature text) v v' = v' ≡ driver_after_features v text
+HeardBy said v v' = (call : DriverCall) × (IsHeard v said call × (v' ≡ driver_after_call v call))
 
 -- what comes of a line of the engine
 abbrev pub Hears : List ℕ → DriverParts → DriverParts → Type 0
-Hears line v v' = HeardBy (says_in line) (cleared v) v'
+Hears line v v' = HeardBy (says_in line) (driver_without_lines v) v'
 
 -- what comes of the end of the engine
 abbrev pub Ends : DriverParts → DriverParts → Type 0
-Ends v v' = v' ≡ acted (cleared v) calls.Ended
+Ends v v' = v' ≡ driver_after_call (driver_without_lines v) calls.Ended

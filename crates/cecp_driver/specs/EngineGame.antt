@@ -4,13 +4,13 @@ use Rattle.std.specs.List.{AllByRecursion}
 use Rattle.chess_board.specs.declared.board.Move.{Move}
 use Rattle.chess_board.specs.Position.{Position}
 use Rattle.chess_board.specs.Play.{start_position}
-use Rattle.game_record.specs.Game.{Ply, Game, IsPlayable, begun, now_of, ply_of, with_ply}
+use Rattle.game_record.specs.Game.{Ply, Game, IsPlayable, game_from, now_of, ply_of, with_ply}
 use Rattle.game_record.specs.Keeps.{most_plies}
 use Rattle.line_io.specs.Event.{Event, Engine}
 use Rattle.driver_talk.specs.declared.talk.DriverStage.{DriverStage}
 use Rattle.driver_talk.specs.declared.talk.DriverStage.TheVariants as stages
 use Rattle.driver_talk.specs.Talk.{is_thinking}
-use Rattle.driver_lines.specs.Lines.{Line, Quit, New, SetBoard, Played, Go, Analyze, lines_text}
+use Rattle.driver_lines.specs.Lines.{DownLine, Quit, New, SetBoard, Played, Go, Analyze, lines_text}
 use Rattle.driver_lines.specs.Says.{Says, Move as SaysMove, says_in}
 use Rattle.driver_lines.specs.Moves.{IsShown}
 use Rattle.cecp_driver.specs.declared.driver.DriverParts.{DriverParts}
@@ -19,18 +19,18 @@ use Rattle.cecp_driver.specs.Said.{CanBeSaid}
 use Rattle.cecp_driver.specs.Script.{Goes}
 
 -- what a line does to the game of an engine: `new`, `setboard` and moves set it, and nothing else does
-abbrev pub set_by : Game → Line → Game
-set_by g New = begun start_position
-set_by g (SetBoard p) = begun p
+abbrev pub set_by : Game → DownLine → Game
+set_by g New = game_from start_position
+set_by g (SetBoard p) = game_from p
 set_by g (Played has_usermove m) = with_ply g m
 set_by g line = g
 
-abbrev pub set_by_all : Game → List Line → Game
+abbrev pub set_by_all : Game → List DownLine → Game
 set_by_all g [] = g
 set_by_all g (line ∷ lines) = set_by_all (set_by g line) lines
 
 -- At each `go` and each `analyze` among these lines the engine's game is the ordered one.
-abbrev pub SearchesOn : Game → Game → List Line → Type 0
+abbrev pub SearchesOn : Game → Game → List DownLine → Type 0
 SearchesOn ordered g [] = Unit {0}
 SearchesOn ordered g (Go ∷ lines) = (g ≡ ordered) × SearchesOn ordered g lines
 SearchesOn ordered g (Analyze ∷ lines) = (g ≡ ordered) × SearchesOn ordered g lines
@@ -41,15 +41,15 @@ abbrev pub CanPlay : Game → Ply → Type 0
 CanPlay g m = IsPlayable (now_of g) m × (length g.moves < most_plies)
 
 -- a move can be played in the engine's game; all other lines can be taken
-abbrev pub CanFollow : Game → Line → Type 0
+abbrev pub CanFollow : Game → DownLine → Type 0
 CanFollow g (Played has_usermove m) = CanPlay g m
 CanFollow g line = Unit {0}
 
-abbrev pub AllFollow : Game → List Line → Type 0
+abbrev pub AllFollow : Game → List DownLine → Type 0
 AllFollow g [] = Unit {0}
 AllFollow g (line ∷ lines) = CanFollow g line × AllFollow (set_by g line) lines
 
-abbrev pub IsNoQuit : Line → Type 0
+abbrev pub IsNoQuit : DownLine → Type 0
 IsNoQuit Quit = ⊥
 IsNoQuit line = Unit {0}
 
@@ -59,7 +59,7 @@ has_quit stages.Over = true
 has_quit stage = false
 
 -- `quit` is written alone, if the interface gives it, and nothing after it: by whether it was given before, and now
-abbrev pub QuitIsLast : Bool → Bool → List Line → Type 0
+abbrev pub QuitIsLast : Bool → Bool → List DownLine → Type 0
 QuitIsLast true now lines = (lines ≡ []) × (now ≡ true)
 QuitIsLast false true lines = (lines ≡ []) ⊎ (lines ≡ Quit ∷ [])
 QuitIsLast false false lines = AllByRecursion IsNoQuit lines
@@ -69,7 +69,7 @@ OwnBy (SaysMove text) true p own = IsShown p text own
 OwnBy (SaysMove text) false p own = own ≡ None
 OwnBy said thinks p own = own ≡ None
 
--- the engine's own move in an event: a legal one behind `move`, if it thinks on its move
+-- the engine's own move in an event: a legal one after `move`, if it thinks on its move
 abbrev pub IsOwn : Event → DriverParts → Option Move → Type 0
 IsOwn (Engine line) v own = OwnBy (says_in line) (is_thinking v.talk) (now_of v.game) own
 IsOwn event v own = own ≡ None
@@ -80,7 +80,7 @@ with_own g (Some m) = with_ply g (ply_of m)
 
 -- The lines that were written for an event, and the engine's game before and after.
 pub record Sets (event : Event) (v v' : DriverParts) (g g' : Game) : Type 0 where
-  pub lines : List Line
+  pub lines : List DownLine
   pub written : v'.down.text ≡ lines_text lines
   pub said : AllByRecursion CanBeSaid lines
   pub on : SearchesOn v'.game g lines

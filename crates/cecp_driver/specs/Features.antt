@@ -2,7 +2,7 @@
 use Rattle.std.specs.Prelude.{ℕ, Bool, ◌&&◌, ◌||◌, not, if◌then◌else◌, List, [], ◌∷◌, ◌++◌, ◌+◌, length, codes, Option, Some, None}
 use Rattle.std.specs.Str.{bytes_eq}
 use Rattle.driver_lines.specs.Parts.{Feature, CutFeature}
-use Rattle.driver_lines.specs.Lines.{Line, Accepted, Rejected, named}
+use Rattle.driver_lines.specs.Lines.{DownLine, Accepted, Rejected, name_or_usual}
 use Rattle.cecp_driver.specs.declared.features.HasFeatures.{HasFeatures}
 use Rattle.line_io.specs.Lines.{line_feed}
 
@@ -17,10 +17,10 @@ is_on name f = bytes_eq f.name name && bytes_eq f.value (codes "1")
 abbrev pub rejects : Feature → Bool
 rejects f = (((is_on (codes "san") f || has_word (codes "option") f) || has_word (codes "memory") f) || has_word (codes "smp") f) || has_word (codes "egt") f
 
-abbrev pub answer_line : Feature → Line
+abbrev pub answer_line : Feature → DownLine
 answer_line f = if rejects f then Rejected f.name else Accepted f.name
 
-abbrev pub answers : List Feature → List Line
+abbrev pub answers : List Feature → List DownLine
 answers [] = []
 answers (f ∷ fs) = answer_line f ∷ answers fs
 
@@ -52,7 +52,7 @@ greets h f = not h.done && is_on (codes "done") f
 
 -- then the interface gets the name and `uciok`
 abbrev pub greeting : HasFeatures → List ℕ → Feature → List ℕ
-greeting h name f = if greets h f then (codes "id name " ++ named name ++ line_feed ∷ []) ++ (codes "uciok" ++ line_feed ∷ []) else []
+greeting h name f = if greets h f then (codes "id name " ++ name_or_usual name ++ line_feed ∷ []) ++ (codes "uciok" ++ line_feed ∷ []) else []
 
 abbrev pub greetings : HasFeatures → List ℕ → List Feature → List ℕ
 greetings h name [] = []

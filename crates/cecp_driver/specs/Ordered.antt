@@ -3,7 +3,7 @@ use Rattle.std.specs.Prelude.{ℕ, nat_lt, Bool, ◌&&◌, if◌then◌else◌, 
 use Rattle.chess_board.specs.declared.board.Move.{Move}
 use Rattle.chess_board.specs.Place.{legal}
 use Rattle.chess_board.specs.Spelling.{move_of}
-use Rattle.game_record.specs.Game.{Game, begun, now_of, ply_of, with_ply}
+use Rattle.game_record.specs.Game.{Game, game_from, now_of, ply_of, with_ply}
 use Rattle.uci_talk.specs.Lines.{Line, line_of}
 use Rattle.game_record.specs.Keeps.{most_plies}
 
@@ -16,14 +16,14 @@ push_one g None = None
 push_one g (Some m) = if may_push g m then Some (with_ply g (ply_of m)) else None
 
 -- the game after the moves that these texts name
-abbrev pub pushed : List (List ℕ) → Option Game → Option Game
-pushed [] g = g
-pushed (t ∷ ts) None = None
-pushed (t ∷ ts) (Some g) = pushed ts (push_one g (move_of t))
+abbrev pub game_after_texts : List (List ℕ) → Option Game → Option Game
+game_after_texts [] g = g
+game_after_texts (t ∷ ts) None = None
+game_after_texts (t ∷ ts) (Some g) = game_after_texts ts (push_one g (move_of t))
 
 abbrev pub ordered_by : Option Line → Option Game
 ordered_by None = None
-ordered_by (Some line) = pushed line.moves (Some (begun line.start))
+ordered_by (Some line) = game_after_texts line.moves (Some (game_from line.start))
 
 -- the game that a `position` line orders, if it can be read and has no more than 12,000 moves
 abbrev pub ordered_in : List ℕ → Option Game

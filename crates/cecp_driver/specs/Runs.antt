@@ -17,10 +17,10 @@ use Rattle.driver_lines.specs.declared.words.OrderWord.TheVariants as orders
 use Rattle.driver_lines.specs.Words.{ordered_in as order_in}
 use Rattle.driver_lines.specs.Says.{Says, Move as SaysMove, Over, says_in}
 use Rattle.driver_lines.specs.Moves.{NamesNone}
-use Rattle.driver_lines.specs.Lines.{best_text, info_text, named, ended}
+use Rattle.driver_lines.specs.Lines.{best_text, info_text, name_or_usual, line_with_feed}
 use Rattle.cecp_driver.specs.declared.driver.DriverParts.{DriverParts}
 use Rattle.cecp_driver.specs.declared.driver.TheConstants.{LINE_LIMIT}
-use Rattle.cecp_driver.specs.Driver.{cleared, opening, reach_of}
+use Rattle.cecp_driver.specs.Driver.{driver_without_lines, opening, reach_of}
 use Rattle.cecp_driver.specs.Script.{Goes, script_text}
 use Rattle.cecp_driver.specs.EngineGame.{AllOn}
 use Rattle.cecp_driver.specs.Busy.{AllBusy}
@@ -53,11 +53,11 @@ pub data UpLine : Type 0 where
   BestMove : (best : Option Move) → UpLine
 
 abbrev pub up_line_text : UpLine → List ℕ
-up_line_text ReadyOk = ended (codes "readyok")
-up_line_text UciOk = ended (codes "uciok")
-up_line_text (Named name) = codes "id name " ++ named name ++ line_feed ∷ []
-up_line_text (Reports thought) = ended (info_text thought)
-up_line_text (BestMove best) = ended (best_text best)
+up_line_text ReadyOk = line_with_feed (codes "readyok")
+up_line_text UciOk = line_with_feed (codes "uciok")
+up_line_text (Named name) = codes "id name " ++ name_or_usual name ++ line_feed ∷ []
+up_line_text (Reports thought) = line_with_feed (info_text thought)
+up_line_text (BestMove best) = line_with_feed (best_text best)
 
 abbrev pub up_lines_text : List UpLine → List ℕ
 up_lines_text [] = []
@@ -93,7 +93,7 @@ CannotSearch v =
     ((m : Move) → IsLegal (now_of v.game) m.from.index m.to.index m.promotion → ⊥)
     ⊎ ((v.talk.gone ≡ true) ⊎ (reach_of v ≡ reaches.Nothing))
 
--- the engine names no legal move behind `move`, resigns, or claims a result
+-- the engine names no legal move after `move`, resigns, or claims a result
 abbrev pub GivesUp : Says → Position → Type 0
 GivesUp (SaysMove text) p = NamesNone p text
 GivesUp Over p = Unit {0}
@@ -112,8 +112,8 @@ HasCause event v line = Unit {0}
 
 -- A move, a resignation or a result changes nothing unless the engine thinks on its move.
 abbrev pub IgnoredBy : Says → Bool → DriverParts → DriverParts → Type 0
-IgnoredBy (SaysMove text) false v v' = v' ≡ cleared v
-IgnoredBy Over false v v' = v' ≡ cleared v
+IgnoredBy (SaysMove text) false v v' = v' ≡ driver_without_lines v
+IgnoredBy Over false v v' = v' ≡ driver_without_lines v
 IgnoredBy said thinks v v' = Unit {0}
 
 abbrev pub IsIgnored : Event → DriverParts → DriverParts → Type 0

@@ -6,7 +6,7 @@ use Rattle.chess_board.specs.Text.{IsOfficer}
 use Rattle.game_record.specs.Game.{Ply, ply_of}
 use Rattle.line_io.specs.Event.{has_feed}
 use Rattle.peer_words.specs.Tokens.{is_token}
-use Rattle.driver_lines.specs.Lines.{Line, SetBoard, Played, St, Level, Time, Otim, Sd, Ping, Accepted, Rejected}
+use Rattle.driver_lines.specs.Lines.{DownLine, SetBoard, Played, St, Level, Time, Otim, Sd, Ping, Accepted, Rejected}
 use Rattle.cecp_driver.specs.declared.driver.TheConstants.{LINE_LIMIT}
 
 -- a move of squares and officers
@@ -20,7 +20,7 @@ pub record IsName (name : List ℕ) : Type 0 where
   pub short : length name ≤ LINE_LIMIT
 
 -- a position, a move, numbers of so many digits, a name
-abbrev pub CanBeSaid : Line → Type 0
+abbrev pub CanBeSaid : DownLine → Type 0
 CanBeSaid (SetBoard p) = IsPosition p
 CanBeSaid (Played has_usermove m) = IsMove m
 CanBeSaid (St seconds) = seconds < 10 ^ 6

@@ -2,9 +2,9 @@
 use Rattle.std.specs.Prelude.{ℕ, ◌==◌, Bool, true, false, not, ◌&&◌, ◌||◌, if◌then◌else◌, List, [], ◌∷◌, ◌++◌, map, is_some, Option, Some, None}
 use Rattle.chess_board.specs.Position.{Position}
 use Rattle.chess_board.specs.Play.{start_position}
-use Rattle.game_record.specs.Game.{Ply, Game, begun, with_ply}
+use Rattle.game_record.specs.Game.{Ply, Game, game_from, with_ply}
 use Rattle.game_record.specs.Line.{is_standard}
-use Rattle.driver_lines.specs.Lines.{Line, New, Force, Post, SetBoard, Played}
+use Rattle.driver_lines.specs.Lines.{DownLine, New, Force, Post, SetBoard, Played}
 use Rattle.cecp_driver.specs.Same.{same_position, same_ply}
 
 -- Whether the engine's game is known, whether it has a depth limit, and the game that it was given last.
@@ -14,9 +14,9 @@ pub record ToldGame : Type 0 where
   pub game : Game
 
 abbrev pub none_told : ToldGame
-none_told = record { known = false; limited = false; game = begun start_position }
+none_told = record { known = false; limited = false; game = game_from start_position }
 
--- the moves behind those that are known, if the others begin with these
+-- the moves after those that are known, if the others begin with these
 abbrev pub further : List Ply → List Ply → Option (List Ply)
 further [] moves = Some moves
 further (k ∷ ks) [] = None
@@ -30,28 +30,29 @@ continued told game has_depth =
     then further told.game.moves game.moves
     else None
 
-abbrev pub played : Bool → List Ply → List Line
-played has_usermove [] = []
-played has_usermove (m ∷ moves) = Played has_usermove m ∷ played has_usermove moves
+abbrev pub ply_lines : Bool → List Ply → List DownLine
+ply_lines has_usermove [] = []
+ply_lines has_usermove (m ∷ moves) = Played has_usermove m ∷ ply_lines has_usermove moves
 
-abbrev pub start_lines : Position → List Line
+abbrev pub start_lines : Position → List DownLine
 start_lines start = if is_standard start then [] else SetBoard start ∷ []
 
 -- the further moves alone, or all of the game
-abbrev pub setup_lines : Option (List Ply) → Bool → Game → List Line
-setup_lines (Some moves) has_usermove game = Force ∷ played has_usermove moves
-setup_lines None has_usermove game = New ∷ Force ∷ Post ∷ (start_lines game.start ++ played has_usermove game.moves)
+abbrev pub setup_lines : Option (List Ply) → Bool → Game → List DownLine
+setup_lines (Some moves) has_usermove game = Force ∷ ply_lines has_usermove moves
+setup_lines None has_usermove game = New ∷ Force ∷ Post ∷ (start_lines game.start ++ ply_lines has_usermove game.moves)
 
 -- after a set-up
 abbrev pub set_up : ToldGame → Game → Bool → ToldGame
 set_up told game has_depth = record { known = true; limited = is_some (continued told game has_depth) && told.limited; game = game }
 
-abbrev pub limited : ToldGame → Bool → ToldGame
-limited told has_depth = record { known = told.known; limited = told.limited || has_depth; game = told.game }
+abbrev pub told_with_limit : ToldGame → Bool → ToldGame
+told_with_limit told has_depth = record { known = told.known; limited = told.limited || has_depth; game = told.game }
 
 -- after a legal move of the engine
-abbrev pub moved : ToldGame → Ply → ToldGame
-moved told m = record { known = told.known; limited = told.limited; game = with_ply told.game m }
+abbrev pub told_after_ply : ToldGame → Ply → ToldGame
+told_after_ply told m =
+    record { known = told.known; limited = told.limited; game = with_ply told.game m }
 
-abbrev pub lost : ToldGame → ToldGame
-lost told = record { known = false; limited = told.limited; game = told.game }
+abbrev pub told_without_game : ToldGame → ToldGame
+told_without_game told = record { known = false; limited = told.limited; game = told.game }

@@ -3,7 +3,7 @@ ghost use Rattle.std.specs.Prelude.{◌≡◌, ◌+◌, ◌≤◌, ◌∷◌, �
 ghost use Rattle.line_io.specs.Out.{with};
 ghost use Rattle.game_record.specs.Game.{ply_of};
 ghost use Rattle.driver_lines.specs.Lines.{line_text, lines_text};
-ghost use Rattle.cecp_driver.specs.SetUp.{limited, set_up, continued, setup_lines, moved, lost};
+ghost use Rattle.cecp_driver.specs.SetUp.{told_with_limit, set_up, continued, setup_lines, told_after_ply, told_without_game};
 ghost use Rattle.cecp_driver.specs.Deeds.{has_depth, up_text, CanSay, down_lines, FitsDown, down_told, hurry_lines, leave_lines, board_told, CanPush, play_lines, think_lines, analyse_lines};
 ghost use Rattle.cecp_driver.specs.declared.told.TheConstants.{SETUP, MOST_PLIES};
 ghost use Rattle.cecp_driver.specs.declared.deeds.TheConstants.{STEP};
@@ -23,7 +23,7 @@ fn has_depth(clocks: &GoClocks) -> bool
     clocks.depth != 0
 }
 
-/// Writes what is given up.
+/// Writes what is passed up.
 pub(crate) fn write_up(up: ToIface, out: &mut Out)
     requires say { CanSay up }
     requires room { length out.old.text + 160 ≤ out.old.room }
@@ -84,7 +84,7 @@ fn write_greeting(out: &mut Out)
 fn write_think(clocks: &GoClocks, hurried: bool, told: &mut ToldGame, game: &Game, out: &mut Out)
     requires room { length out.old.text + 210 ≤ out.old.room }
     ensures text { out.new ≡ with out.old (lines_text (think_lines game.now clocks.now hurried)) }
-    ensures told { told.new ≡ limited told.old (has_depth clocks.now) }
+    ensures told { told.new ≡ told_with_limit told.old (has_depth clocks.now) }
 {
     write_clocks(game.now().side(), clocks, out);
     write_word(b"go", out);
@@ -106,7 +106,7 @@ fn write_play(
     ensures text { out.new
         ≡ with out.old (lines_text (play_lines told.old game.now has_usermove clocks.now hurried)) }
     ensures told { told.new
-        ≡ limited (set_up told.old game.now (has_depth clocks.now)) (has_depth clocks.now) }
+        ≡ told_with_limit (set_up told.old game.now (has_depth clocks.now)) (has_depth clocks.now) }
 {
     told.set_up(game, has_usermove, has_depth(clocks), out);
     write_think(clocks, hurried, told, game, out);

@@ -5,7 +5,7 @@ ghost use Rattle.line_io.specs.Out.{empty, with};
 ghost use Rattle.driver_talk.specs.Talk.{turn_of, is_free};
 ghost use Rattle.driver_lines.specs.Says.{engine_message_of, Report, Feature};
 ghost use Rattle.peer_words.specs.Tokens.{tokens};
-ghost use Rattle.cecp_driver.specs.Driver.{cleared, taken, acted, opening, CanTake, CanAct, reach_of, Wants, placed, IsAsked, IsHeard, featured, HeardBy, IsPlain};
+ghost use Rattle.cecp_driver.specs.Driver.{driver_without_lines, driver_after_turn, driver_after_call, opening, CanTake, CanAct, reach_of, Wants, driver_after_position, IsAsked, IsHeard, driver_after_features, HeardBy, IsPlain};
 ghost use Rattle.cecp_driver.specs.declared.driver.TheConstants.{LINE_LIMIT, UP_ROOM, DOWN_ROOM};
 
 use crate::deeds::{note_board, write_down, write_up};
@@ -49,7 +49,7 @@ pub(crate) struct DriverParts {
 
 impl DriverParts {
     fn clear(&mut self)
-        ensures { self.new ≡ cleared self.old }
+        ensures { self.new ≡ driver_without_lines self.old }
     {
         self.up.clear();
         self.down.clear();
@@ -58,7 +58,7 @@ impl DriverParts {
     // Gives the lines of a turn.
     fn take(&mut self, turn: DriverTurn)
         requires { CanTake self.old turn }
-        ensures { self.new ≡ taken self.old turn }
+        ensures { self.new ≡ driver_after_turn self.old turn }
     {
         let deed = turn.deed;
         write_up(deed.up, &mut self.up);
@@ -76,7 +76,7 @@ impl DriverParts {
     // What comes of a call.
     fn act(&mut self, call: DriverCall)
         requires { CanAct self.old call }
-        ensures { self.new ≡ acted self.old call }
+        ensures { self.new ≡ driver_after_call self.old call }
     {
         let turn = self.talk.step(call);
         self.take(turn);
@@ -110,7 +110,7 @@ impl DriverParts {
 
     // Takes a position, if one is accepted.
     fn place(&mut self, line: &[u8])
-        ensures { self.new ≡ placed self.old line.now }
+        ensures { self.new ≡ driver_after_position self.old line.now }
     {
         if self.talk.is_free() {
             self.is_ordered = take_position(line, &mut self.game);
@@ -172,7 +172,7 @@ impl DriverParts {
         requires name { length text.now ≤ self.old.name.room }
         requires up { length self.old.up.text + self.old.name.room + 30 ≤ self.old.up.room }
         requires down { length self.old.down.text + 6 * length text.now ≤ self.old.down.room }
-        ensures { self.new ≡ featured self.old text.now }
+        ensures { self.new ≡ driver_after_features self.old text.now }
     {
         if matches!(self.talk.stage, DriverStage::Over) {
             return;

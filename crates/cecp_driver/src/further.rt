@@ -9,7 +9,7 @@ ghost use Rattle.cecp_driver.specs.SetUp.{further};
 use crate::same::is_same_move;
 use chess_board::Move;
 
-/// The moves behind those that are known. None if the moves do not begin with these.
+/// The moves after those that are known. None if the moves do not begin with these.
 pub(crate) fn further_moves<'a>(known: &[Move], moves: &'a [Move]) -> Option<&'a [Move]>
     ensures value { option_map (λ r. plies_of r.now) result
         ≡ further (plies_of known.now) (plies_of moves.now) }

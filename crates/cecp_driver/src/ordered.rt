@@ -5,8 +5,8 @@ ghost use Rattle.std.specs.Option.{unwrap_or};
 ghost use Rattle.peer_words.specs.Tokens.{tokens};
 ghost use Rattle.chess_board.specs.Play.{start_position};
 ghost use Rattle.chess_board.specs.Spelling.{move_of};
-ghost use Rattle.game_record.specs.Game.{begun};
-ghost use Rattle.cecp_driver.specs.Ordered.{push_one, pushed, ordered_in};
+ghost use Rattle.game_record.specs.Game.{game_from};
+ghost use Rattle.cecp_driver.specs.Ordered.{push_one, game_after_texts, ordered_in};
 
 use chess_board::{Position, read_move};
 use game_record::Game;
@@ -27,8 +27,9 @@ fn push_text(text: &[u8], game: &mut Game) -> bool
 
 /// Plays the moves that the tokens of a text name. False if one may not be played.
 fn push_all(moves: &[u8], game: &mut Game) -> bool
-    ensures played { OnTrue result (pushed (tokens moves.now) (Some game.old) ≡ Some game.new) }
-    ensures not { OnFalse result (pushed (tokens moves.now) (Some game.old) ≡ None) }
+    ensures played { OnTrue result (game_after_texts (tokens moves.now) (Some game.old)
+        ≡ Some game.new) }
+    ensures not { OnFalse result (game_after_texts (tokens moves.now) (Some game.old) ≡ None) }
 {
     let mut others = moves;
     while let Some((token, after)) = next_token(others) {
@@ -43,7 +44,7 @@ fn push_all(moves: &[u8], game: &mut Game) -> bool
 /// Sets a game to what a `position` line orders. False if it orders none; the game is a new one then.
 pub(crate) fn take_position(line: &[u8], game: &mut Game) -> bool
     ensures there { result ≡ is_some (ordered_in line.now) }
-    ensures game { game.new ≡ unwrap_or (ordered_in line.now) (begun start_position) }
+    ensures game { game.new ≡ unwrap_or (ordered_in line.now) (game_from start_position) }
 {
     if let Some(said) = spoken(line) {
         game.reset(said.start);

@@ -5,7 +5,7 @@ ghost use Rattle.line_io.specs.Out.{with};
 ghost use Rattle.chess_board.specs.Text.{IsOfficer};
 ghost use Rattle.game_record.specs.Game.{plies_of};
 ghost use Rattle.driver_lines.specs.Lines.{lines_text};
-ghost use Rattle.cecp_driver.specs.SetUp.{played};
+ghost use Rattle.cecp_driver.specs.SetUp.{ply_lines};
 
 use chess_board::Move;
 use driver_lines::write_moved;
@@ -15,7 +15,8 @@ use line_io::Out;
 pub(crate) fn write_played(moves: &[Move], has_usermove: bool, out: &mut Out)
     requires officers { AllByRecursion (λ m. IsOfficer m.promotion) (plies_of moves.now) }
     requires room { length out.old.text + 15 * length moves.now ≤ out.old.room }
-    ensures text { out.new ≡ with out.old (lines_text (played has_usermove (plies_of moves.now))) }
+    ensures text { out.new
+        ≡ with out.old (lines_text (ply_lines has_usermove (plies_of moves.now))) }
     ensures short { length out.new.text ≤ length out.old.text + 15 * length moves.now }
 {
     let mut rest = moves;

@@ -5,9 +5,9 @@ ghost use Rattle.std.specs.List.{AllByRecursion};
 ghost use Rattle.line_io.specs.Out.{with};
 ghost use Rattle.chess_board.specs.Text.{IsOfficer};
 ghost use Rattle.chess_board.specs.Place.{legal};
-ghost use Rattle.game_record.specs.Game.{begun, ply_of, plies_of, with_ply};
+ghost use Rattle.game_record.specs.Game.{game_from, ply_of, plies_of, with_ply};
 ghost use Rattle.driver_lines.specs.Lines.{SetBoard, line_text, lines_text};
-ghost use Rattle.cecp_driver.specs.SetUp.{continued, start_lines, setup_lines, set_up, limited, moved, lost, none_told};
+ghost use Rattle.cecp_driver.specs.SetUp.{continued, start_lines, setup_lines, set_up, told_with_limit, told_after_ply, told_without_game, none_told};
 ghost use Rattle.cecp_driver.specs.declared.told.TheConstants.{SETUP, MOST_TOLD, MOST_PLIES};
 
 use crate::further::further_moves;
@@ -167,7 +167,7 @@ impl ToldGame {
 
     /// A depth limit was set, or none.
     pub(crate) fn limit(&mut self, has_depth: bool)
-        ensures { self.new ≡ limited self.old has_depth }
+        ensures { self.new ≡ told_with_limit self.old has_depth }
     {
         self.is_limited = self.is_limited || has_depth;
     }
@@ -175,14 +175,14 @@ impl ToldGame {
     /// The engine played a move.
     pub(crate) fn push(&mut self, m: Move)
         requires { length self.old.game.moves ≤ MOST_PLIES }
-        ensures { self.new ≡ moved self.old (ply_of m) }
+        ensures { self.new ≡ told_after_ply self.old (ply_of m) }
     {
         self.moves.push_reserved(m);
     }
 
     /// Nothing is known any more.
     pub(crate) fn lose(&mut self)
-        ensures { self.new ≡ lost self.old }
+        ensures { self.new ≡ told_without_game self.old }
     {
         self.is_known = false;
     }

@@ -26,7 +26,7 @@ use Rattle.cecp_lines.specs.declared.reply.Spelling.{Spelling}
 use Rattle.cecp_lines.specs.declared.reply.Reply.{Reply as CodeReply}
 use Rattle.cecp_lines.specs.Replies as told
 use Rattle.cecp_lines.specs.Replies.{Reply, reply_of, reply_text, reason_text, user_error_text, outcome_text, hint_text, current_text, is_name_byte, is_feature_name, IsWritable, IsMoveText, AreMoves, IsRepeated, IsReply, Fits, SpellsReply}
-use Rattle.cecp_iface_side.specs.ReplyReading.{stripped, is_space, number_field, score_field, fixed_lines, fixed_of, reason_of, named_feature, feature_at, feature_in, is_repeated, error_of, error_at, error_in, short_pong, pong_in, last_in, stat01_in, hint_in, thinking_of, thinking_in, with_front, or_front, reply_in}
+use Rattle.cecp_iface_side.specs.ReplyReading.{rest_after_front, is_space, number_field, score_field, fixed_lines, fixed_of, reason_of, named_feature, feature_at, feature_in, is_repeated, error_of, error_at, error_in, short_pong, pong_in, last_in, stat01_in, hint_in, thinking_of, thinking_in, with_front, or_front, reply_in}
 use Rattle.cecp_iface_side.proofs.Plain.{decimal_written, move_written}
 use Rattle.cecp_iface_side.proofs.Rereads.{cut_position, after_cut, number_reads, score_reads}
 use Rattle.cecp_iface_side.proofs.Lists.{spelling_read, hint_read, last_read}
@@ -68,8 +68,8 @@ error_text words line = simp append_assoc
 error_read : (r : Reason) (line : List ℕ) → IsRepeated r line → error_in (reason_text r ++ (41 ∷ (58 ∷ 32 ∷ line))) ≡ Some (told.Error r line)
 error_read r line h =
     ap (λ o. error_at o (reason_text r ++ (41 ∷ (58 ∷ 32 ∷ line)))) (cut_position 41 (reason_text r) (58 ∷ 32 ∷ line) (reason_solid r))
-    ∙ ap (λ t. error_of (reason_of t) (stripped (codes "): ") (drop (length (reason_text r)) (reason_text r ++ (41 ∷ (58 ∷ 32 ∷ line)))))) (take-append_seam (reason_text r) (41 ∷ (58 ∷ 32 ∷ line)))
-    ∙ ap (λ t. error_of (reason_of (reason_text r)) (stripped (codes "): ") t)) (drop-append_seam (reason_text r) (41 ∷ (58 ∷ 32 ∷ line)))
+    ∙ ap (λ t. error_of (reason_of t) (rest_after_front (codes "): ") (drop (length (reason_text r)) (reason_text r ++ (41 ∷ (58 ∷ 32 ∷ line)))))) (take-append_seam (reason_text r) (41 ∷ (58 ∷ 32 ∷ line)))
+    ∙ ap (λ t. error_of (reason_of (reason_text r)) (rest_after_front (codes "): ") t)) (drop-append_seam (reason_text r) (41 ∷ (58 ∷ 32 ∷ line)))
     ∙ ap (λ o. error_of o (Some line)) (reason_found r)
     ∙ ap (λ b. cond b (Some (told.Error r line)) None) (repeats r line h)
 

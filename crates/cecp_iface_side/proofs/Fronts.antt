@@ -9,29 +9,29 @@ use Rattle.std.proofs.lemmas.List.Sums.{prefix_len-le-length}
 use denote.Ref.{Bor}
 use Rattle.std.proofs.lemmas.List.Splits.{slice_split_first}
 use Rattle.cecp_lines.specs.declared.reply.Spelling.{Spelling}
-use Rattle.cecp_iface_side.specs.ReplyReading.{stripped, is_space, is_move_text, are_moves}
+use Rattle.cecp_iface_side.specs.ReplyReading.{rest_after_front, is_space, is_move_text, are_moves}
 
-strip_step : (f b : ℕ) (fs bs rest : List ℕ) (t : Bool) → eqb f b ≡ t → (stripped fs bs ≡ Some rest → bs ≡ fs ++ rest) → cond t (stripped fs bs) None ≡ Some rest → b ∷ bs ≡ (f ∷ fs) ++ rest
+strip_step : (f b : ℕ) (fs bs rest : List ℕ) (t : Bool) → eqb f b ≡ t → (rest_after_front fs bs ≡ Some rest → bs ≡ fs ++ rest) → cond t (rest_after_front fs bs) None ≡ Some rest → b ∷ bs ≡ (f ∷ fs) ++ rest
 strip_step f b fs bs rest true e k h = let same : f ≡ b = (Decides-eqb f b).0 e in let more = k h in cc
 strip_step f b fs bs rest false e k h = absurd (cc)
 
-pub stripped_is : (front line rest : List ℕ) → stripped front line ≡ Some rest → line ≡ front ++ rest
+pub stripped_is : (front line rest : List ℕ) → rest_after_front front line ≡ Some rest → line ≡ front ++ rest
 stripped_is [] line rest h = cc
 stripped_is (f ∷ fs) [] rest h = absurd (cc)
 stripped_is (f ∷ fs) (b ∷ bs) rest h = strip_step f b fs bs rest (eqb f b) refl (stripped_is fs bs rest) h
 
-pub stripped_front : (front rest : List ℕ) → stripped front (front ++ rest) ≡ Some rest
+pub stripped_front : (front rest : List ℕ) → rest_after_front front (front ++ rest) ≡ Some rest
 stripped_front [] rest = refl
 stripped_front (f ∷ fs) rest = rw ((Decides-eqb f f).1 refl) (stripped_front fs rest)
 
-no_front : (front line : List ℕ) (o : Option (List ℕ)) → stripped front line ≡ o → ((rest : List ℕ) → line ≢ front ++ rest) → None ≡ o
+no_front : (front line : List ℕ) (o : Option (List ℕ)) → rest_after_front front line ≡ o → ((rest : List ℕ) → line ≢ front ++ rest) → None ≡ o
 no_front front line None e h = refl
 no_front front line (Some rest) e h = absurd (h rest (stripped_is front line rest e))
 
 -- what `strip_prefix` gives
-pub front_found : (front line : List ℕ) (r : Option (Bor (List ℕ))) → MatchOption r ((rest : List ℕ) → line ≢ front ++ rest) (λ x. line ≡ front ++ x.now) → option_map (λ t. t.now) r ≡ stripped front line
-front_found front line None h = no_front front line (stripped front line) refl h
-front_found front line (Some x) h = sym (ap (stripped front) h ∙ stripped_front front x.now)
+pub front_found : (front line : List ℕ) (r : Option (Bor (List ℕ))) → MatchOption r ((rest : List ℕ) → line ≢ front ++ rest) (λ x. line ≡ front ++ x.now) → option_map (λ t. t.now) r ≡ rest_after_front front line
+front_found front line None h = no_front front line (rest_after_front front line) refl h
+front_found front line (Some x) h = sym (ap (rest_after_front front) h ∙ stripped_front front x.now)
 
 -- A LIST OF MOVES
 

@@ -11,7 +11,7 @@ use Rattle.std.proofs.lemmas.List.Sums.{split_at_first, passes_at_first}
 use lib.IntN.{pos, negsuc}
 use mir.Val.{SFits}
 use mir.Syntax.{w64}
-use Rattle.cecp_iface_side.specs.ReplyReading.{written, positive_score, negative_score, written_signed, is_space, cut_at, with_rest, field_of, number_field, score_field}
+use Rattle.cecp_iface_side.specs.ReplyReading.{number_in_64_bits, positive_score, negative_score, written_signed, is_space, cut_at, with_rest, field_of, number_field, score_field}
 use Rattle.cecp_iface_side.proofs.Plain.{written_is}
 
 -- a text cut at the first byte of a kind
@@ -40,7 +40,7 @@ field_by read text (Some at) p e h =
 
 pub number_is : (text : List ℕ) (p : ℕ × List ℕ) → number_field text ≡ Some p → (text ≡ decimal p.0 ++ (32 ∷ p.1)) × (p.0 < 2 ^ 64)
 number_is text p h =
-    let f = field_by written text (position is_space text) p refl h in
+    let f = field_by number_in_64_bits text (position is_space text) p refl h in
     let w = written_is f.0 p.0 f.1 in
     (f.2 ∙ ap (λ t. t ++ (32 ∷ p.1)) w.0, w.1)
 
@@ -65,13 +65,13 @@ positive_is (Some n) z h =
     let lt : n < 2 ^ 63 = grind (arith, nat_tests, c.0) in
     (n, refl, sym (ap signed_decimal c.1), subst (SFits w64) c.1 (record { sfits = omega arith }))
 
-signed_by : (text : List ℕ) (b : Bool) (z : ℤ) → starts_with_minus text ≡ b → cond b (negative_score (written (drop 1 text))) (positive_score (written text)) ≡ Some z → (text ≡ signed_decimal z) × SFits w64 z
+signed_by : (text : List ℕ) (b : Bool) (z : ℤ) → starts_with_minus text ≡ b → cond b (negative_score (number_in_64_bits (drop 1 text))) (positive_score (number_in_64_bits text)) ≡ Some z → (text ≡ signed_decimal z) × SFits w64 z
 signed_by text true z e h =
-    let n = negative_is (written (drop 1 text)) z h in
+    let n = negative_is (number_in_64_bits (drop 1 text)) z h in
     let w = written_is (drop 1 text) n.0 n.1 in
     (minus_by text e ∙ ap (λ ds. 45 ∷ ds) w.0 ∙ sym n.2, n.3)
 signed_by text false z e h =
-    let n = positive_is (written text) z h in
+    let n = positive_is (number_in_64_bits text) z h in
     let w = written_is text n.0 n.1 in
     (w.0 ∙ sym n.2, n.3)
 

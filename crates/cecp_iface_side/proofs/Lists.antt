@@ -13,7 +13,7 @@ use Rattle.chess_board.specs.Text.{text_of}
 use Rattle.cecp_lines.specs.declared.reply.Spelling.{Spelling}
 use Rattle.cecp_lines.specs.declared.reply.Spelling.TheVariants.{Coordinates, San}
 use Rattle.cecp_lines.specs.Replies.{hint_text, current_text, IsWritable, IsMoveText, AreMoves}
-use Rattle.cecp_iface_side.specs.ReplyReading.{stripped, written, written_move, is_space, is_paren, is_move_text, are_moves, is_hint, spelling_of, last_at, last_in, hint_at, hint_of, hint_in}
+use Rattle.cecp_iface_side.specs.ReplyReading.{rest_after_front, number_in_64_bits, written_move, is_space, is_paren, is_move_text, are_moves, is_hint, spelling_of, last_at, last_in, hint_at, hint_of, hint_in}
 use Rattle.cecp_iface_side.proofs.Plain.{decimal_written, move_written}
 use Rattle.cecp_iface_side.proofs.Rereads.{cut_position, no_position, after_cut, decimal_solid}
 use Rattle.cecp_iface_side.proofs.Sans.{move_text_solid, no_both}
@@ -70,26 +70,26 @@ spelling_read San hint pv w a =
 
 -- HINTS
 
-no_paren_first : (t more : List ℕ) → 0 < length t → list_all (λ b. not (eqb b 40)) t ≡ true → stripped (codes "(") (t ++ more) ≡ None
+no_paren_first : (t more : List ℕ) → 0 < length t → list_all (λ b. not (eqb b 40)) t ≡ true → rest_after_front (codes "(") (t ++ more) ≡ None
 no_paren_first [] more some h = absurd (omega arith)
 no_paren_first (b ∷ t) more some h =
     let other = (and_parts (not (eqb b 40)) (list_all (λ c. not (eqb c 40)) t) h).0 in
     let e : eqb 40 b ≡ false = grind (arith, nat_tests) in
     rw e refl
 
-no_paren : (s : Spelling) (t : List ℕ) (ts : List (List ℕ)) → AreTexts s (t ∷ ts) → stripped (codes "(") (join_with_byte 32 (t ∷ ts)) ≡ None
-no_paren s t [] h = let k = move_text_solid s t h.0 in ap (stripped (codes "(")) (sym (append-nil t)) ∙ no_paren_first t [] k.some k.opening
+no_paren : (s : Spelling) (t : List ℕ) (ts : List (List ℕ)) → AreTexts s (t ∷ ts) → rest_after_front (codes "(") (join_with_byte 32 (t ∷ ts)) ≡ None
+no_paren s t [] h = let k = move_text_solid s t h.0 in ap (rest_after_front (codes "(")) (sym (append-nil t)) ∙ no_paren_first t [] k.some k.opening
 no_paren s t (u ∷ ts) h = let k = move_text_solid s t h.0 in no_paren_first t (32 ∷ join_with_byte 32 (u ∷ ts)) k.some k.opening
 
-no_paren_by : (s : Spelling) (pv : List ℕ) (ts : List (List ℕ)) → 0 < length ts → AreTexts s ts → pv ≡ join_with_byte 32 ts → stripped (codes "(") pv ≡ None
+no_paren_by : (s : Spelling) (pv : List ℕ) (ts : List (List ℕ)) → 0 < length ts → AreTexts s ts → pv ≡ join_with_byte 32 ts → rest_after_front (codes "(") pv ≡ None
 no_paren_by s pv [] some h e = absurd (omega arith)
-no_paren_by s pv (t ∷ ts) some h e = ap (stripped (codes "(")) e ∙ no_paren s t ts h
+no_paren_by s pv (t ∷ ts) some h e = ap (rest_after_front (codes "(")) e ∙ no_paren s t ts h
 
 hint_inner : (t pv : List ℕ) → list_all (λ b. not (eqb b 41)) t ≡ true → hint_at (position is_paren (t ++ (41 ∷ (32 ∷ pv)))) (t ++ (41 ∷ (32 ∷ pv))) ≡ Some (Some t, pv)
 hint_inner t pv h =
     ap (λ o. hint_at o (t ++ (41 ∷ (32 ∷ pv)))) (cut_position 41 t (32 ∷ pv) h)
-    ∙ ap (λ x. option_map (λ rest. (Some x, rest)) (stripped (codes ") ") (drop (length t) (t ++ (41 ∷ (32 ∷ pv)))))) (take-append_seam t (41 ∷ (32 ∷ pv)))
-    ∙ ap (λ x. option_map (λ rest. (Some t, rest)) (stripped (codes ") ") x)) (drop-append_seam t (41 ∷ (32 ∷ pv)))
+    ∙ ap (λ x. option_map (λ rest. (Some x, rest)) (rest_after_front (codes ") ") (drop (length t) (t ++ (41 ∷ (32 ∷ pv)))))) (take-append_seam t (41 ∷ (32 ∷ pv)))
+    ∙ ap (λ x. option_map (λ rest. (Some t, rest)) (rest_after_front (codes ") ") x)) (drop-append_seam t (41 ∷ (32 ∷ pv)))
 
 inner_text : (t pv : List ℕ) → (t ++ (41 ∷ 32 ∷ [])) ++ pv ≡ t ++ (41 ∷ (32 ∷ pv))
 inner_text t pv = simp append_assoc
@@ -107,7 +107,7 @@ last_read n None h w =
     ∙ ap (option_map (λ k. (k, None))) (decimal_written n h)
 last_read n (Some m) h w =
     ap (λ o. last_at o (decimal n ++ (32 ∷ text_of m))) (cut_position 32 (decimal n) (text_of m) (decimal_solid n h))
-    ∙ ap (λ t. option_and_then (λ k. option_map (λ x. (k, Some x)) (written_move (drop (length (decimal n) + 1) (decimal n ++ (32 ∷ text_of m))))) (written t)) (take-append_seam (decimal n) (32 ∷ text_of m))
+    ∙ ap (λ t. option_and_then (λ k. option_map (λ x. (k, Some x)) (written_move (drop (length (decimal n) + 1) (decimal n ++ (32 ∷ text_of m))))) (number_in_64_bits t)) (take-append_seam (decimal n) (32 ∷ text_of m))
     ∙ ap (λ o. option_and_then (λ k. option_map (λ x. (k, Some x)) (written_move (drop (length (decimal n) + 1) (decimal n ++ (32 ∷ text_of m))))) o) (decimal_written n h)
     ∙ ap (λ t. option_map (λ x. (n, Some x)) (written_move t)) (after_cut 32 (decimal n) (text_of m))
     ∙ ap (option_map (λ x. (n, Some x))) (move_written m w)

@@ -18,7 +18,7 @@ use Rattle.peer_words.proofs.Written.{decimal_digits}
 use Rattle.peer_words.proofs.Sizes.{all_digits}
 use Rattle.chess_board.specs.Spelling.{move_of}
 use Rattle.cecp_lines.specs.Replies.{IsWritable}
-use Rattle.cecp_iface_side.specs.ReplyReading.{is_plain, plain, of_64_bits, written, same_text, written_move}
+use Rattle.cecp_iface_side.specs.ReplyReading.{is_plain, plain, of_64_bits, number_in_64_bits, same_text, written_move}
 use Rattle.chess_board.proofs.Spelled.{spells_move, read_officer}
 use Rattle.cecp_lines.proofs.Spellings.{bind_some}
 
@@ -29,7 +29,7 @@ model = record { to = λ ds h. h; from = λ ds h. h; same = λ ds h. refl }
 plain_tests : (text : List ℕ) → is_plain text ≡ true → (0 < length text) × (get_or text 0 0 ≡ 48 → length text ≡ 1) × (list_all is_ascii_digit text ≡ true)
 plain_tests text h = (grind (arith, nat_tests), grind (arith, nat_tests), grind (arith, nat_tests))
 
-pub written_is : (text : List ℕ) (n : ℕ) → written text ≡ Some n → (text ≡ decimal n) × (n < 2 ^ 64)
+pub written_is : (text : List ℕ) (n : ℕ) → number_in_64_bits text ≡ Some n → (text ≡ decimal n) × (n < 2 ^ 64)
 written_is text n h =
     let b = bind_some of_64_bits (plain text) n h in
     let small = cond_some (ltb b.0 (2 ^ 64)) b.0 n b.2 in
@@ -46,7 +46,7 @@ zero_first (suc k) h e = absurd (omega (arith, first_decimal (suc k) (omega arit
 plain_by : (ds : List ℕ) → 0 < length ds → length ds ≤ 20 → (get_or ds 0 0 ≡ 48 → length ds ≡ 1) → list_all is_ascii_digit ds ≡ true → is_plain ds ≡ true
 plain_by ds a b c d = grind (arith, nat_tests)
 
-pub decimal_written : (n : ℕ) → n < 2 ^ 64 → written (decimal n) ≡ Some n
+pub decimal_written : (n : ℕ) → n < 2 ^ 64 → number_in_64_bits (decimal n) ≡ Some n
 decimal_written n h =
     let is = decimal_is_IsNumeral n h in
     let good = plain_by (decimal n) is.0.0 (length-decimal-le 20 n (omega arith) (omega arith) h) (zero_first n h) (decimal_digits n h) in

@@ -18,7 +18,7 @@ use Rattle.chess_board.specs.Board.{file_of, rank_of}
 use Rattle.chess_board.specs.Text.{text_of, promotion_text}
 use Rattle.peer_words.proofs.Runs.{all_of, prefix_whole, prefix_stops}
 use Rattle.peer_words.proofs.Written.{decimal_digits, no_sign}
-use Rattle.cecp_iface_side.specs.ReplyReading.{written, positive_score, negative_score, written_signed, cut, cut_at, with_rest, field_of, number_field, score_field}
+use Rattle.cecp_iface_side.specs.ReplyReading.{number_in_64_bits, positive_score, negative_score, written_signed, parts_at_space, cut_at, with_rest, field_of, number_field, score_field}
 use Rattle.cecp_iface_side.proofs.Plain.{decimal_written}
 
 -- a text cut at the first byte of a kind
@@ -38,7 +38,7 @@ no_position k xs h =
 pub after_cut : (k : ℕ) (xs ys : List ℕ) → drop (length xs + 1) (xs ++ (k ∷ ys)) ≡ ys
 after_cut k xs ys = drop-append-add xs (k ∷ ys) 1
 
-field_reads : {A : Type 0} (read : List ℕ → Option A) (xs ys : List ℕ) (x : A) → list_all (λ b. not (eqb b 32)) xs ≡ true → read xs ≡ Some x → field_of read (cut (xs ++ (32 ∷ ys))) ≡ Some (x, ys)
+field_reads : {A : Type 0} (read : List ℕ → Option A) (xs ys : List ℕ) (x : A) → list_all (λ b. not (eqb b 32)) xs ≡ true → read xs ≡ Some x → field_of read (parts_at_space (xs ++ (32 ∷ ys))) ≡ Some (x, ys)
 field_reads read xs ys x h e =
     ap (λ o. field_of read (cut_at o (xs ++ (32 ∷ ys)))) (cut_position 32 xs ys h)
     ∙ ap (λ t. with_rest (read t) (drop (length xs + 1) (xs ++ (32 ∷ ys)))) (take-append_seam xs (32 ∷ ys))
@@ -52,7 +52,7 @@ pub decimal_solid : (n : ℕ) → n < 2 ^ 64 → list_all (λ b. not (eqb b 32))
 decimal_solid n h = all_of is_ascii_digit (λ b. not (eqb b 32)) no_space_digit (decimal n) (decimal_digits n h)
 
 pub number_reads : (n : ℕ) (more : List ℕ) → n < 2 ^ 64 → number_field (decimal n ++ (32 ∷ more)) ≡ Some (n, more)
-number_reads n more h = field_reads written (decimal n) more n (decimal_solid n h) (decimal_written n h)
+number_reads n more h = field_reads number_in_64_bits (decimal n) more n (decimal_solid n h) (decimal_written n h)
 
 -- SCORES
 
@@ -62,7 +62,7 @@ signed_reads (pos n) h =
     let wide : n < 2 ^ 64 = omega arith in
     let t : ltb n (2 ^ 63) ≡ true = grind (arith, nat_tests) in
     let sign = no_sign (decimal n) (decimal_is_IsNumeral n wide).0.0 (decimal_digits n wide) in
-    ap (λ b. cond b (negative_score (written (drop 1 (decimal n)))) (positive_score (written (decimal n)))) sign
+    ap (λ b. cond b (negative_score (number_in_64_bits (drop 1 (decimal n)))) (positive_score (number_in_64_bits (decimal n)))) sign
     ∙ ap positive_score (decimal_written n wide)
     ∙ ap (λ b. cond b (Some (pos n)) None) t
 signed_reads (negsuc k) h =

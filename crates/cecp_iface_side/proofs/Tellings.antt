@@ -22,7 +22,7 @@ use Rattle.cecp_lines.specs.declared.reply.Spelling.TheVariants.{Coordinates, Sa
 use Rattle.cecp_lines.specs.declared.reply.Reply.{Reply as CodeReply}
 use Rattle.cecp_lines.specs.Replies as told
 use Rattle.cecp_lines.specs.Replies.{Reply, reply_of, reason_text, field, hint_text, current_text, is_feature_name, IsWritable, IsMoveText, AreMoves, IsRepeated, SpellsReply}
-use Rattle.cecp_iface_side.specs.ReplyReading.{stripped, written, written_move, is_space, is_paren, is_move_text, are_moves, is_hint, have_spelling, spelling_of, number_field, score_field, fixed_lines, fixed_of, reason_words, reason_of, feature_at, feature_in, is_repeated, error_of, error_at, error_in, short_pong, pong_in, last_at, last_in, stat01_in, hint_at, hint_of, hint_in, thinking_of, thinking_in, behind, of_move, with_front, or_front, reply_in}
+use Rattle.cecp_iface_side.specs.ReplyReading.{rest_after_front, number_in_64_bits, written_move, is_space, is_paren, is_move_text, are_moves, is_hint, have_spelling, spelling_of, number_field, score_field, fixed_lines, fixed_of, reason_words, reason_of, feature_at, feature_in, is_repeated, error_of, error_at, error_in, short_pong, pong_in, last_at, last_in, stat01_in, hint_at, hint_of, hint_in, thinking_of, thinking_in, behind, of_move, with_front, or_front, reply_in}
 use Rattle.cecp_lines.specs.Reading.{is_equals}
 use Rattle.cecp_lines.proofs.Spellings.{bind_some}
 use Rattle.cecp_iface_side.proofs.Fronts.{stripped_is}
@@ -64,7 +64,7 @@ error_parts text (Some r) (Some line) t k h =
     let c = cond_some (is_repeated r line) (told.Error r line) t h in
     subst (λ (u : Reply). SpellsReply text u) c.1 (k r line refl refl c.0)
 
-error_tells : (text : List ℕ) (at : ℕ) (r : Reason) (line : List ℕ) → reason_of (take at text) ≡ Some r → stripped (codes "): ") (drop at text) ≡ Some line → is_repeated r line ≡ true → SpellsReply (codes "Error (" ++ text) (told.Error r line)
+error_tells : (text : List ℕ) (at : ℕ) (r : Reason) (line : List ℕ) → reason_of (take at text) ≡ Some r → rest_after_front (codes "): ") (drop at text) ≡ Some line → is_repeated r line ≡ true → SpellsReply (codes "Error (" ++ text) (told.Error r line)
 error_tells text at r line e f g = record {
   form = repeated r line g;
   fits = tt;
@@ -73,11 +73,11 @@ error_tells text at r line e f g = record {
 
 error_by : (text : List ℕ) (o : Option ℕ) (t : Reply) → error_at o text ≡ Some t → SpellsReply (codes "Error (" ++ text) t
 error_by text None t h = absurd (cc)
-error_by text (Some at) t h = error_parts (codes "Error (" ++ text) (reason_of (take at text)) (stripped (codes "): ") (drop at text)) t (λ r line e f g. error_tells text at r line e f g) h
+error_by text (Some at) t h = error_parts (codes "Error (" ++ text) (reason_of (take at text)) (rest_after_front (codes "): ") (drop at text)) t (λ r line e f g. error_tells text at r line e f g) h
 
 pong_tells : (text : List ℕ) (t : Reply) → pong_in text ≡ Some t → SpellsReply (codes "pong " ++ text) t
 pong_tells text t h =
-    let b = bind_some short_pong (written text) t h in
+    let b = bind_some short_pong (number_in_64_bits text) t h in
     let c = cond_some (ltb b.0 (2 ^ 32)) (told.Pong b.0) t b.2 in
     let low : b.0 < 2 ^ 32 = grind (arith, nat_tests, c.0) in
     subst (λ (u : Reply). SpellsReply (codes "pong " ++ text) u) c.1 (record { form = tt; fits = low; text = ap (λ x. codes "pong " ++ x) (written_is text b.0 b.1).0 })
@@ -88,7 +88,7 @@ move_tells front text says t k h =
     let w = written_move_is text b.0 b.1 in
     subst (λ (u : Reply). SpellsReply (front ++ text) u) b.2 (subst (λ (x : List ℕ). SpellsReply (front ++ x) (says b.0)) (sym w.0) (k b.0 w.1))
 
-behind_by : (line front : List ℕ) (o : Option (List ℕ)) (read : List ℕ → Option Reply) (other : Option Reply) (t : Reply) → stripped front line ≡ o → ((text : List ℕ) → read text ≡ Some t → SpellsReply (front ++ text) t) → (other ≡ Some t → SpellsReply line t) → behind o read other ≡ Some t → SpellsReply line t
+behind_by : (line front : List ℕ) (o : Option (List ℕ)) (read : List ℕ → Option Reply) (other : Option Reply) (t : Reply) → rest_after_front front line ≡ o → ((text : List ℕ) → read text ≡ Some t → SpellsReply (front ++ text) t) → (other ≡ Some t → SpellsReply line t) → behind o read other ≡ Some t → SpellsReply line t
 behind_by line front None read other t e k l h = l h
 behind_by line front (Some text) read other t e k l h = subst (λ (x : List ℕ). SpellsReply x t) (sym (stripped_is front line text e)) (k text h)
 
@@ -96,11 +96,11 @@ behind_by line front (Some text) read other t e k l h = subst (λ (x : List ℕ)
 
 last_by : (text : List ℕ) (o : Option ℕ) (p : ℕ × Option AnyMove) → position is_space text ≡ o → last_at o text ≡ Some p → (p.0 < 2 ^ 64) × IfSome p.1 IsWritable × (text ≡ decimal p.0 ++ current_text p.1)
 last_by text None p e h =
-    let b = map_some (λ n. (n, None)) (written text) p h in
+    let b = map_some (λ n. (n, None)) (number_in_64_bits text) p h in
     let w = written_is text b.0 b.1 in
     subst (λ (q : ℕ × Option AnyMove). (q.0 < 2 ^ 64) × IfSome q.1 IsWritable × (text ≡ decimal q.0 ++ current_text q.1)) b.2 (w.1, tt, w.0 ∙ sym (append-nil (decimal b.0)))
 last_by text (Some at) p e h =
-    let b = bind_some (λ n. option_map (λ m. (n, Some m)) (written_move (drop (at + 1) text))) (written (take at text)) p h in
+    let b = bind_some (λ n. option_map (λ m. (n, Some m)) (written_move (drop (at + 1) text))) (number_in_64_bits (take at text)) p h in
     let d = map_some (λ m. (b.0, Some m)) (written_move (drop (at + 1) text)) p b.2 in
     let w = written_is (take at text) b.0 b.1 in
     let m = written_move_is (drop (at + 1) text) d.0 d.1 in
@@ -173,15 +173,15 @@ chosen_by hint pv false false s e f h = absurd (cc)
 spelling_is : (hint : Option (List ℕ)) (pv : List ℕ) (s : Spelling) → spelling_of hint pv ≡ Some s → IfSome hint (IsMoveText s) × AreMoves s pv
 spelling_is hint pv s h = chosen_by hint pv (have_spelling Coordinates hint pv) (have_spelling San hint pv) s refl refl h
 
-hint_inner : (text inner : List ℕ) (o : Option ℕ) (p : Option (List ℕ) × List ℕ) → stripped (codes "(") text ≡ Some inner → hint_at o inner ≡ Some p → text ≡ hint_text p.0 ++ p.1
+hint_inner : (text inner : List ℕ) (o : Option ℕ) (p : Option (List ℕ) × List ℕ) → rest_after_front (codes "(") text ≡ Some inner → hint_at o inner ≡ Some p → text ≡ hint_text p.0 ++ p.1
 hint_inner text inner None p e h = absurd (cc)
 hint_inner text inner (Some at) p e h =
-    let d = map_some (λ pv. (Some (take at inner), pv)) (stripped (codes ") ") (drop at inner)) p h in
+    let d = map_some (λ pv. (Some (take at inner), pv)) (rest_after_front (codes ") ") (drop at inner)) p h in
     let whole : inner ≡ take at inner ++ (codes ") " ++ d.0) = sym (take-append-drop at inner) ∙ ap (λ x. take at inner ++ x) (stripped_is (codes ") ") (drop at inner) d.0 d.1) in
     subst (λ (q : Option (List ℕ) × List ℕ). text ≡ hint_text q.0 ++ q.1) d.2
     (stripped_is (codes "(") text inner e ∙ ap (λ x. 40 ∷ x) whole ∙ simp append_assoc)
 
-hint_by : (text : List ℕ) (o : Option (List ℕ)) (p : Option (List ℕ) × List ℕ) → stripped (codes "(") text ≡ o → hint_of o text ≡ Some p → text ≡ hint_text p.0 ++ p.1
+hint_by : (text : List ℕ) (o : Option (List ℕ)) (p : Option (List ℕ) × List ℕ) → rest_after_front (codes "(") text ≡ o → hint_of o text ≡ Some p → text ≡ hint_text p.0 ++ p.1
 hint_by text None p e h =
     let same : (None, text) ≡ p = cc in
     subst (λ (q : Option (List ℕ) × List ℕ). text ≡ hint_text q.0 ++ q.1) same refl
@@ -203,7 +203,7 @@ thinking_tells text t h =
     let b = score_is depth.0.1 score.0 score.1 in
     let c = number_is score.0.1 time.0 time.1 in
     let d = number_is time.0.1 nodes.0 nodes.1 in
-    let e = hint_by nodes.0.1 (stripped (codes "(") nodes.0.1) hint.0 refl hint.1 in
+    let e = hint_by nodes.0.1 (rest_after_front (codes "(") nodes.0.1) hint.0 refl hint.1 in
     let whole : text ≡ field (decimal depth.0.0) ++ field (signed_decimal score.0.0) ++ field (decimal time.0.0) ++ field (decimal nodes.0.0) ++ hint_text hint.0.0 ++ hint.0.1 =
     a.0 ∙ ap (λ x. decimal depth.0.0 ++ (32 ∷ x)) (b.0 ∙ ap (λ x. signed_decimal score.0.0 ++ (32 ∷ x)) (c.0 ∙ ap (λ x. decimal time.0.0 ++ (32 ∷ x)) (d.0 ∙ ap (λ x. decimal nodes.0.0 ++ (32 ∷ x)) e)))
     ∙ thinking_text (decimal depth.0.0) (signed_decimal score.0.0) (decimal time.0.0) (decimal nodes.0.0) (hint_text hint.0.0) hint.0.1 in
@@ -213,14 +213,14 @@ thinking_tells text t h =
 
 front_tells : (line : List ℕ) (t : Reply) → with_front line ≡ Some t → SpellsReply line t
 front_tells line t h =
-    behind_by line (codes "feature ") (stripped (codes "feature ") line) feature_in _ t refl (λ text k. feature_by text (position is_equals text) t refl k)
-    (behind_by line (codes "move ") (stripped (codes "move ") line) (of_move (λ m. told.Move m)) _ t refl (λ text k. move_tells (codes "move ") text (λ m. told.Move m) t (λ m w. record { form = w; fits = tt; text = refl }) k)
-    (behind_by line (codes "Illegal move: ") (stripped (codes "Illegal move: ") line) (of_move (λ m. told.Illegal m)) _ t refl (λ text k. move_tells (codes "Illegal move: ") text (λ m. told.Illegal m) t (λ m w. record { form = w; fits = tt; text = refl }) k)
-    (behind_by line (codes "Illegal move (game too long): ") (stripped (codes "Illegal move (game too long): ") line) (of_move (λ m. told.IllegalLong m)) _ t refl (λ text k. move_tells (codes "Illegal move (game too long): ") text (λ m. told.IllegalLong m) t (λ m w. record { form = w; fits = tt; text = refl }) k)
-    (behind_by line (codes "Error (") (stripped (codes "Error (") line) error_in _ t refl (λ text k. error_by text (position is_paren text) t k)
-    (behind_by line (codes "pong ") (stripped (codes "pong ") line) pong_in _ t refl (λ text k. pong_tells text t k)
-    (behind_by line (codes "Hint: ") (stripped (codes "Hint: ") line) (of_move (λ m. told.Hint m)) _ t refl (λ text k. move_tells (codes "Hint: ") text (λ m. told.Hint m) t (λ m w. record { form = w; fits = tt; text = refl }) k)
-    (behind_by line (codes "stat01: ") (stripped (codes "stat01: ") line) stat01_in (thinking_in line) t refl (λ text k. stat01_tells text t k)
+    behind_by line (codes "feature ") (rest_after_front (codes "feature ") line) feature_in _ t refl (λ text k. feature_by text (position is_equals text) t refl k)
+    (behind_by line (codes "move ") (rest_after_front (codes "move ") line) (of_move (λ m. told.Move m)) _ t refl (λ text k. move_tells (codes "move ") text (λ m. told.Move m) t (λ m w. record { form = w; fits = tt; text = refl }) k)
+    (behind_by line (codes "Illegal move: ") (rest_after_front (codes "Illegal move: ") line) (of_move (λ m. told.Illegal m)) _ t refl (λ text k. move_tells (codes "Illegal move: ") text (λ m. told.Illegal m) t (λ m w. record { form = w; fits = tt; text = refl }) k)
+    (behind_by line (codes "Illegal move (game too long): ") (rest_after_front (codes "Illegal move (game too long): ") line) (of_move (λ m. told.IllegalLong m)) _ t refl (λ text k. move_tells (codes "Illegal move (game too long): ") text (λ m. told.IllegalLong m) t (λ m w. record { form = w; fits = tt; text = refl }) k)
+    (behind_by line (codes "Error (") (rest_after_front (codes "Error (") line) error_in _ t refl (λ text k. error_by text (position is_paren text) t k)
+    (behind_by line (codes "pong ") (rest_after_front (codes "pong ") line) pong_in _ t refl (λ text k. pong_tells text t k)
+    (behind_by line (codes "Hint: ") (rest_after_front (codes "Hint: ") line) (of_move (λ m. told.Hint m)) _ t refl (λ text k. move_tells (codes "Hint: ") text (λ m. told.Hint m) t (λ m w. record { form = w; fits = tt; text = refl }) k)
+    (behind_by line (codes "stat01: ") (rest_after_front (codes "stat01: ") line) stat01_in (thinking_in line) t refl (λ text k. stat01_tells text t k)
     (λ k. thinking_tells line t k)))))))) h
 
 told_by : (line : List ℕ) (o : Option CodeReply) (t : Reply) → fixed_of line ≡ o → or_front o line ≡ Some t → SpellsReply line t

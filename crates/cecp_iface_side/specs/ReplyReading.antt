@@ -25,10 +25,10 @@ use Rattle.cecp_lines.specs.Replies.{Reply, reply_of, is_feature_name}
 use Rattle.peer_words.specs.Bytes.{digit_zero, blank, right_parenthesis}
 
 -- what follows a front
-abbrev pub stripped : List ℕ → List ℕ → Option (List ℕ)
-stripped [] line = Some line
-stripped (f ∷ fs) [] = None
-stripped (f ∷ fs) (b ∷ bs) = if f == b then stripped fs bs else None
+abbrev pub rest_after_front : List ℕ → List ℕ → Option (List ℕ)
+rest_after_front [] line = Some line
+rest_after_front (f ∷ fs) [] = None
+rest_after_front (f ∷ fs) (b ∷ bs) = if f == b then rest_after_front fs bs else None
 
 -- up to 20 digits without a leading zero
 abbrev pub is_plain : List ℕ → Bool
@@ -41,8 +41,8 @@ abbrev pub of_64_bits : ℕ → Option ℕ
 of_64_bits n = if nat_lt n (2 ^ 64) then Some n else None
 
 -- a number below 2^64 as it is written
-abbrev pub written : List ℕ → Option ℕ
-written text = option_and_then of_64_bits (plain text)
+abbrev pub number_in_64_bits : List ℕ → Option ℕ
+number_in_64_bits text = option_and_then of_64_bits (plain text)
 
 abbrev pub positive_score : Option ℕ → Option ℤ
 positive_score None = None
@@ -53,7 +53,7 @@ negative_score None = None
 negative_score (Some n) = if nat_le 1 n && nat_le n (2 ^ 63) then Some (neg_ℤ (pos n)) else None
 
 abbrev pub written_signed : List ℕ → Option ℤ
-written_signed text = if starts_with_minus text then negative_score (written (drop 1 text)) else positive_score (written text)
+written_signed text = if starts_with_minus text then negative_score (number_in_64_bits (drop 1 text)) else positive_score (number_in_64_bits text)
 
 abbrev pub same_text : List ℕ → AnyMove → Option AnyMove
 same_text text m = if bytes_eq (text_of m) text then Some m else None
@@ -79,8 +79,8 @@ abbrev pub cut_at : Option ℕ → List ℕ → Option (List ℕ × List ℕ)
 cut_at None text = None
 cut_at (Some at) text = Some (take at text, drop (at + 1) text)
 
-abbrev pub cut : List ℕ → Option (List ℕ × List ℕ)
-cut text = cut_at (position is_space text) text
+abbrev pub parts_at_space : List ℕ → Option (List ℕ × List ℕ)
+parts_at_space text = cut_at (position is_space text) text
 
 -- a number, a blank, and what follows
 abbrev pub with_rest : {A : Type 0} → Option A → List ℕ → Option (A × List ℕ)
@@ -92,10 +92,10 @@ field_of read None = None
 field_of read (Some parts) = with_rest (read parts.0) parts.1
 
 abbrev pub number_field : List ℕ → Option (ℕ × List ℕ)
-number_field text = field_of written (cut text)
+number_field text = field_of number_in_64_bits (parts_at_space text)
 
 abbrev pub score_field : List ℕ → Option (ℤ × List ℕ)
-score_field text = field_of written_signed (cut text)
+score_field text = field_of written_signed (parts_at_space text)
 
 -- THE LINES WITHOUT ARGUMENTS
 
@@ -151,7 +151,7 @@ is_paren b = b == right_parenthesis
 
 abbrev pub error_at : Option ℕ → List ℕ → Option Reply
 error_at None text = None
-error_at (Some at) text = error_of (reason_of (take at text)) (stripped (codes "): ") (drop at text))
+error_at (Some at) text = error_of (reason_of (take at text)) (rest_after_front (codes "): ") (drop at text))
 
 abbrev pub error_in : List ℕ → Option Reply
 error_in text = error_at (position is_paren text) text
@@ -160,12 +160,12 @@ abbrev pub short_pong : ℕ → Option Reply
 short_pong n = if nat_lt n (2 ^ 32) then Some (told.Pong n) else None
 
 abbrev pub pong_in : List ℕ → Option Reply
-pong_in text = option_and_then short_pong (written text)
+pong_in text = option_and_then short_pong (number_in_64_bits text)
 
 -- the last number and the current move of a `stat01` line
 abbrev pub last_at : Option ℕ → List ℕ → Option (ℕ × Option AnyMove)
-last_at None text = option_map (λ n. (n, None)) (written text)
-last_at (Some at) text = option_and_then (λ n. option_map (λ m. (n, Some m)) (written_move (drop (at + 1) text))) (written (take at text))
+last_at None text = option_map (λ n. (n, None)) (number_in_64_bits text)
+last_at (Some at) text = option_and_then (λ n. option_map (λ m. (n, Some m)) (written_move (drop (at + 1) text))) (number_in_64_bits (take at text))
 
 abbrev pub last_in : List ℕ → Option (ℕ × Option AnyMove)
 last_in text = last_at (position is_space text) text
@@ -179,14 +179,14 @@ stat01_in text =
 -- a hint in parentheses before a blank, if the text begins with one
 abbrev pub hint_at : Option ℕ → List ℕ → Option (Option (List ℕ) × List ℕ)
 hint_at None text = None
-hint_at (Some at) text = option_map (λ pv. (Some (take at text), pv)) (stripped (codes ") ") (drop at text))
+hint_at (Some at) text = option_map (λ pv. (Some (take at text), pv)) (rest_after_front (codes ") ") (drop at text))
 
 abbrev pub hint_of : Option (List ℕ) → List ℕ → Option (Option (List ℕ) × List ℕ)
 hint_of None text = Some (None, text)
 hint_of (Some inner) text = hint_at (position is_paren inner) inner
 
 abbrev pub hint_in : List ℕ → Option (Option (List ℕ) × List ℕ)
-hint_in text = hint_of (stripped (codes "(") text) text
+hint_in text = hint_of (rest_after_front (codes "(") text) text
 
 abbrev pub is_hint : Spelling → Option (List ℕ) → Bool
 is_hint spelling None = true
@@ -222,14 +222,14 @@ of_move says text = option_map says (written_move text)
 
 abbrev pub with_front : List ℕ → Option Reply
 with_front line =
-    behind (stripped (codes "feature ") line) feature_in
-    (behind (stripped (codes "move ") line) (of_move (λ m. told.Move m))
-    (behind (stripped (codes "Illegal move: ") line) (of_move (λ m. told.Illegal m))
-    (behind (stripped (codes "Illegal move (game too long): ") line) (of_move (λ m. told.IllegalLong m))
-    (behind (stripped (codes "Error (") line) error_in
-    (behind (stripped (codes "pong ") line) pong_in
-    (behind (stripped (codes "Hint: ") line) (of_move (λ m. told.Hint m))
-    (behind (stripped (codes "stat01: ") line) stat01_in
+    behind (rest_after_front (codes "feature ") line) feature_in
+    (behind (rest_after_front (codes "move ") line) (of_move (λ m. told.Move m))
+    (behind (rest_after_front (codes "Illegal move: ") line) (of_move (λ m. told.Illegal m))
+    (behind (rest_after_front (codes "Illegal move (game too long): ") line) (of_move (λ m. told.IllegalLong m))
+    (behind (rest_after_front (codes "Error (") line) error_in
+    (behind (rest_after_front (codes "pong ") line) pong_in
+    (behind (rest_after_front (codes "Hint: ") line) (of_move (λ m. told.Hint m))
+    (behind (rest_after_front (codes "stat01: ") line) stat01_in
     (thinking_in line))))))))
 
 abbrev pub or_front : Option CodeReply → List ℕ → Option Reply

@@ -4,7 +4,7 @@ ghost use Rattle.std.specs.Option.{option_map};
 ghost use Rattle.std.specs.List.{list_all};
 ghost use Rattle.cecp_lines.specs.Replies.{Reply as AnyReply, reply_of, SpellsReply, is_feature_name, is_name_byte};
 ghost use Rattle.cecp_lines.specs.Reading.{is_equals};
-ghost use Rattle.cecp_iface_side.specs.ReplyReading.{stripped, is_paren, fixed_of, reason_of, feature_in, is_repeated, error_in, pong_in};
+ghost use Rattle.cecp_iface_side.specs.ReplyReading.{rest_after_front, is_paren, fixed_of, reason_of, feature_in, is_repeated, error_in, pong_in};
 ghost use Rattle.cecp_iface_side.specs.ReplyReading.{last_in, stat01_in, hint_in, thinking_in, with_front, reply_in};
 
 use crate::move_texts::{read_written_move, spelling_of};
@@ -72,7 +72,7 @@ fn reason_named(words: &[u8]) -> Option<Reason>
 
 /// What follows a front.
 fn behind_front<'a>(front: &[u8], line: &'a [u8]) -> Option<&'a [u8]>
-    ensures { option_map (λ t. t.now) result ≡ stripped front.now line.now }
+    ensures { option_map (λ t. t.now) result ≡ rest_after_front front.now line.now }
 {
     line.strip_prefix(front)
 }

@@ -1,7 +1,7 @@
 // Numbers of 64 bits as replies write them.
 ghost use Rattle.std.specs.Prelude.{◌≡◌, ◌<◌, ◌^◌, position, IfSome};
 ghost use Rattle.std.specs.Option.{option_map};
-ghost use Rattle.cecp_iface_side.specs.ReplyReading.{plain, written, written_signed, is_space, number_field, score_field};
+ghost use Rattle.cecp_iface_side.specs.ReplyReading.{plain, number_in_64_bits, written_signed, is_space, number_field, score_field};
 
 /// The number that up to 20 digits without a leading zero write.
 fn read_plain(text: &[u8]) -> Option<u128>
@@ -22,7 +22,7 @@ fn read_plain(text: &[u8]) -> Option<u128>
 
 /// A number of 64 bits as it is written.
 pub(crate) fn read_written(text: &[u8]) -> Option<u64>
-    ensures value { result ≡ written text.now }
+    ensures value { result ≡ number_in_64_bits text.now }
     ensures below { IfSome result (λ n. n < 2 ^ 64) }
 {
     let n = read_plain(text)?;

@@ -15,7 +15,7 @@ use Rattle.cecp_lines.specs.Messages as says
 use Rattle.cecp_lines.specs.Messages.{IfaceMsg}
 use Rattle.chess_board.specs.Spelling.{move_of}
 use Rattle.cecp_lines.specs.Words.{command_of, is_ignored}
-use Rattle.cecp_lines.specs.Reading.{is_empty, only_token, version, base_time, level_of, is_equals, value_at, setting_of, argument, move_or_unknown, other_line, command_line, reading, HasArgument, HasLevel, HasMove, HasSetting, IsMoveAlone, Spells, IsUnknown, IsBad, SpellsOneMessage}
+use Rattle.cecp_lines.specs.Reading.{is_empty, only_token, version, base_time, level_of, is_equals, value_at, setting_of, argument, move_or_unknown, other_line, command_line, message_or_fault, HasArgument, HasLevel, HasMove, HasSetting, IsMoveAlone, Spells, IsUnknown, IsBad, SpellsOneMessage}
 use Rattle.chess_board.proofs.Spelled.{move_spells, spells_move}
 use Rattle.cecp_lines.proofs.LineTokens.{heads, no_tokens, alone, two, tokens_word}
 use Rattle.cecp_lines.proofs.Tables.{move_no_command, ignored_command}
@@ -33,17 +33,17 @@ two_faults h = absurd (cc)
 some_first : (line : List ℕ) (c : ℕ) (cs : List ℕ) → first_token line ≡ c ∷ cs → first_token line ≡ [] → ⊥
 some_first line c cs e h = absurd (cc)
 
-begun : (line word : List ℕ) → first_token line ≡ word → reading line ≡ command_line (command_of word) line
+begun : (line word : List ℕ) → first_token line ≡ word → message_or_fault line ≡ command_line (command_of word) line
 begun line word e = ap (λ w. command_line (command_of w) line) e
 
 read_argument : {A : Type 0} (f : A → IfaceMsg) (read : List ℕ → Option A) (line word : List ℕ) (x : A) → HasArgument line word read x → option_map f (option_and_then read (only_token (rest line))) ≡ Some (f x)
 read_argument f read line word x h = let t = two line word h.0 h.1 in ap (λ o. option_map f (option_and_then read o)) t.1 ∙ ap (λ o. option_map f o) h.2
 
 -- a command whose one argument is read
-read_with : {A : Type 0} (f : A → IfaceMsg) (read : List ℕ → Option A) (line word : List ℕ) (x : A) → HasArgument line word read x → command_line (command_of word) line ≡ ok_or (option_map f (option_and_then read (only_token (rest line)))) BadArgument → reading line ≡ Ok (f x)
+read_with : {A : Type 0} (f : A → IfaceMsg) (read : List ℕ → Option A) (line word : List ℕ) (x : A) → HasArgument line word read x → command_line (command_of word) line ≡ ok_or (option_map f (option_and_then read (only_token (rest line)))) BadArgument → message_or_fault line ≡ Ok (f x)
 read_with f read line word x h e = let t = two line word h.0 h.1 in begun line word t.0 ∙ e ∙ ap (λ o. ok_or o BadArgument) (read_argument f read line word x h)
 
-moved_alone : (line t : List ℕ) (m : Move) → tokens line ≡ t ∷ [] → MoveSpells t m → reading line ≡ Ok (says.UserMove m)
+moved_alone : (line t : List ℕ) (m : Move) → tokens line ≡ t ∷ [] → MoveSpells t m → message_or_fault line ≡ Ok (says.UserMove m)
 moved_alone line [] m e h = absurd h
 moved_alone line (c ∷ cs) m e h =
     let a = alone line (c ∷ cs) e in
@@ -53,11 +53,11 @@ moved_alone line (c ∷ cs) m e h =
     ∙ ap (λ more. other_line (c ∷ cs) more) a.1
     ∙ ap move_or_unknown (spells_move (c ∷ cs) m h)
 
-read_moved : (line : List ℕ) (m : Move) → HasMove line m → reading line ≡ Ok (says.UserMove m)
+read_moved : (line : List ℕ) (m : Move) → HasMove line m → message_or_fault line ≡ Ok (says.UserMove m)
 read_moved line m (inl h) = read_with (λ x. says.UserMove x) move_of line (codes "usermove") m (h.0, h.1, spells_move h.0 m h.2) refl
 read_moved line m (inr h) = moved_alone line h.0 m h.1 h.2
 
-read_version : (line : List ℕ) (n : ℕ) → HasArgument line (codes "protover") number n → 2 ≤ n → reading line ≡ Ok (says.Protover n)
+read_version : (line : List ℕ) (n : ℕ) → HasArgument line (codes "protover") number n → 2 ≤ n → message_or_fault line ≡ Ok (says.Protover n)
 read_version line n h low =
     let t = two line (codes "protover") h.0 h.1 in
     let ge : leb 2 n ≡ true = grind (arith, nat_tests) in
@@ -66,7 +66,7 @@ read_version line n h low =
     ∙ ap (λ o. ok_or (option_and_then version o) BadArgument) h.2
     ∙ ap (λ b. ok_or (cond b (Some (says.Protover n)) None) BadArgument) ge
 
-read_level : (line : List ℕ) (mps base inc : ℕ) → HasLevel line mps base inc → reading line ≡ Ok (says.Level mps base inc)
+read_level : (line : List ℕ) (mps base inc : ℕ) → HasLevel line mps base inc → message_or_fault line ≡ Ok (says.Level mps base inc)
 read_level line mps base inc h =
     let one = heads line (codes "level") (h.0 ∷ h.1 ∷ h.2 ∷ []) h.3 in
     let next = heads (rest line) h.0 (h.1 ∷ h.2 ∷ []) one.after in
@@ -83,7 +83,7 @@ named : (name : List ℕ) (value : Option (List ℕ)) → 0 < length name → se
 named [] value h = absurd (omega arith)
 named (c ∷ cs) value h = refl
 
-read_setting : (line name : List ℕ) (value : Option (List ℕ)) → first_token line ≡ codes "option" → HasSetting (rest line) name value → reading line ≡ Ok (says.SetOption name value)
+read_setting : (line name : List ℕ) (value : Option (List ℕ)) → first_token line ≡ codes "option" → HasSetting (rest line) name value → message_or_fault line ≡ Ok (says.SetOption name value)
 read_setting line name value e h =
     begun line (codes "option") e
     ∙ ap (λ n. ok_or (setting_of n (value_at (position is_equals (rest line)) (rest line))) BadArgument) (sym h.1)
@@ -94,23 +94,23 @@ some_path : (kind path : List ℕ) → 0 < length path → cond (is_empty path) 
 some_path kind [] h = absurd (omega arith)
 some_path kind (c ∷ cs) h = refl
 
-read_path : (line kind path : List ℕ) → first_token line ≡ codes "egtpath" → kind ≡ first_token (rest line) → path ≡ rest (rest line) → 0 < length path → reading line ≡ Ok (says.EgtPath kind path)
+read_path : (line kind path : List ℕ) → first_token line ≡ codes "egtpath" → kind ≡ first_token (rest line) → path ≡ rest (rest line) → 0 < length path → message_or_fault line ≡ Ok (says.EgtPath kind path)
 read_path line kind path e f g h =
     begun line (codes "egtpath") e
     ∙ ap (λ p. ok_or (cond (is_empty p) None (Some (says.EgtPath (first_token (rest line)) p))) BadArgument) (sym g)
     ∙ ap (λ k. ok_or (cond (is_empty path) None (Some (says.EgtPath k path))) BadArgument) (sym f)
     ∙ ap (λ o. ok_or o BadArgument) (some_path kind path h)
 
-read_blank : (line : List ℕ) → tokens line ≡ [] → reading line ≡ Ok says.Blank
+read_blank : (line : List ℕ) → tokens line ≡ [] → message_or_fault line ≡ Ok says.Blank
 read_blank line h = let e = no_tokens line h in begun line [] e ∙ ap (λ w. other_line w (rest line)) e
 
-read_ignored : (line text : List ℕ) → is_ignored (first_token line) ≡ true → text ≡ trimmed line → reading line ≡ Ok (says.Ignored text)
+read_ignored : (line text : List ℕ) → is_ignored (first_token line) ≡ true → text ≡ trimmed line → message_or_fault line ≡ Ok (says.Ignored text)
 read_ignored line text h e = ap (λ o. command_line o line) (ignored_command (first_token line) h) ∙ ap (λ t. Ok (says.Ignored t)) (sym e)
 
-read_board : (line text : List ℕ) → first_token line ≡ codes "setboard" → text ≡ rest line → reading line ≡ Ok (says.SetBoard text)
+read_board : (line text : List ℕ) → first_token line ≡ codes "setboard" → text ≡ rest line → message_or_fault line ≡ Ok (says.SetBoard text)
 read_board line text e f = begun line (codes "setboard") e ∙ ap (λ t. Ok (says.SetBoard t)) (sym f)
 
-pub spells_reading : (line : List ℕ) (m : IfaceMsg) → Spells line m → reading line ≡ Ok m
+pub spells_reading : (line : List ℕ) (m : IfaceMsg) → Spells line m → message_or_fault line ≡ Ok m
 spells_reading line says.Blank h = read_blank line h
 spells_reading line (says.Ignored text) h = read_ignored line text h.0 h.1
 spells_reading line (says.Protover n) h = read_version line n h.0 h.1
@@ -148,7 +148,7 @@ unknown_by line (Some Ignored) e h = absurd (cc)
 unknown_by line (Some (Bare word)) e h = absurd (cc)
 unknown_by line (Some (With verb)) e h = absurd (bad_or (argument verb (rest line)) h)
 
-pub reading_unknown : (line : List ℕ) → reading line ≡ Err UnknownCommand → IsUnknown line
+pub reading_unknown : (line : List ℕ) → message_or_fault line ≡ Err UnknownCommand → IsUnknown line
 reading_unknown line h = unknown_by line (command_of (first_token line)) refl h
 
 unknown_move : (line w : List ℕ) (o : Option Move) → is_empty w ≡ false → first_token line ≡ w → rest line ≡ [] → move_of w ≡ o → ((m : Move) → IsMoveAlone line m → ⊥) → move_or_unknown o ≡ Err UnknownCommand
@@ -163,16 +163,16 @@ unknown_word : (line w : List ℕ) → first_token line ≡ w → (w ≡ [] → 
 unknown_word line [] e some k = absurd (some refl)
 unknown_word line (c ∷ cs) e some k = unknown_more line (c ∷ cs) (rest line) refl e refl k
 
-pub unknown_reading : (line : List ℕ) → IsUnknown line → reading line ≡ Err UnknownCommand
+pub unknown_reading : (line : List ℕ) → IsUnknown line → message_or_fault line ≡ Err UnknownCommand
 unknown_reading line h = ap (λ o. command_line o line) h.1 ∙ unknown_word line (first_token line) refl h.0 h.2
 
-pub reading_bad : (line : List ℕ) → reading line ≡ Err BadArgument → IsBad line
+pub reading_bad : (line : List ℕ) → message_or_fault line ≡ Err BadArgument → IsBad line
 reading_bad line h = (λ m s. not_read m (sym (spells_reading line m s) ∙ h), λ u. two_faults (sym (unknown_reading line u) ∙ h))
 
-bad_by : (line : List ℕ) (r : Result IfaceMsg IfaceFault) → reading line ≡ r → IsBad line → r ≡ Err BadArgument
+bad_by : (line : List ℕ) (r : Result IfaceMsg IfaceFault) → message_or_fault line ≡ r → IsBad line → r ≡ Err BadArgument
 bad_by line (Ok m) e h = absurd (h.0 m (reading_spells line m e))
 bad_by line (Err UnknownCommand) e h = absurd (h.1 (reading_unknown line e))
 bad_by line (Err BadArgument) e h = refl
 
-pub bad_reading : (line : List ℕ) → IsBad line → reading line ≡ Err BadArgument
-bad_reading line h = bad_by line (reading line) refl h
+pub bad_reading : (line : List ℕ) → IsBad line → message_or_fault line ≡ Err BadArgument
+bad_reading line h = bad_by line (message_or_fault line) refl h

@@ -18,7 +18,7 @@ use Rattle.cecp_lines.specs.declared.reply.Outcome.{Outcome}
 use Rattle.cecp_lines.specs.declared.reply.Outcome.TheVariants as outcomes
 use Rattle.cecp_lines.specs.declared.reply.Spelling.{Spelling}
 use Rattle.cecp_lines.specs.Replies as told
-use Rattle.cecp_lines.specs.Replies.{Reply, reply_text, reason_text, user_error_text, outcome_text, field, hint_text, hint_size, current_text, Fits, borrowed}
+use Rattle.cecp_lines.specs.Replies.{Reply, reply_text, reason_text, user_error_text, outcome_text, field, hint_text, hint_size, current_text, Fits, borrowed_length}
 
 decimal_short : (n : ℕ) → n < 2 ^ 64 → length (decimal n) ≤ 20
 decimal_short n h = length-decimal-le 20 n (omega arith) (omega arith) h
@@ -76,7 +76,7 @@ thinking_short depth score time nodes spelling hint pv f =
     let e = hint_short hint in
     omega (arith, thinking_parts (decimal depth) (signed_decimal score) (decimal time) (decimal nodes) (hint_text hint) pv)
 
-pub told_short : (t : Reply) → Fits t → length (reply_text t) ≤ 128 + borrowed t
+pub told_short : (t : Reply) → Fits t → length (reply_text t) ≤ 128 + borrowed_length t
 told_short (told.Feature name value) f = omega (arith, four_parts (codes "feature ") name (codes "=") value)
 told_short (told.Move m) f = omega (arith, two_parts (codes "move ") (text_of m), move_length m)
 told_short (told.Illegal m) f = omega (arith, two_parts (codes "Illegal move: ") (text_of m), move_length m)

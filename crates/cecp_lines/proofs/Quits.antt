@@ -8,7 +8,7 @@ use Rattle.peer_words.specs.Tokens.{first_token}
 use Rattle.cecp_lines.specs.declared.iface.IfaceFault.{IfaceFault}
 use Rattle.cecp_lines.specs.Messages as says
 use Rattle.cecp_lines.specs.Messages.{IfaceMsg}
-use Rattle.cecp_lines.specs.Reading.{reading}
+use Rattle.cecp_lines.specs.Reading.{message_or_fault}
 use Rattle.cecp_lines.specs.Quit.{is_quit, is_quit_message}
 use Rattle.cecp_lines.proofs.Spellings.{reading_spells}
 use Rattle.cecp_lines.proofs.Complete.{spells_reading}
@@ -22,4 +22,4 @@ quit_first line =
     let decides = bytes_eq-Decides (first_token line) (codes "quit") in
     both_ways (bytes_eq (first_token line) (codes "quit")) (is_quit line)
     (λ e. ap is_quit_message (spells_reading line says.Quit (decides.0 e)))
-    (λ h. decides.1 (reading_spells line says.Quit (quit_message (reading line) h)))
+    (λ h. decides.1 (reading_spells line says.Quit (quit_message (message_or_fault line) h)))

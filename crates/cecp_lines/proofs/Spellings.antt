@@ -17,7 +17,7 @@ use Rattle.cecp_lines.specs.Messages as says
 use Rattle.cecp_lines.specs.Messages.{IfaceMsg}
 use Rattle.chess_board.specs.Spelling.{move_of}
 use Rattle.cecp_lines.specs.Words.{command_of}
-use Rattle.cecp_lines.specs.Reading.{is_empty, only_token, version, protover, base_time, level, level_of, is_equals, name_at, value_at, setting_of, bare_message, argument, move_or_unknown, other_line, command_line, reading, HasArgument, HasLevel, Spells}
+use Rattle.cecp_lines.specs.Reading.{is_empty, only_token, version, protover, base_time, level, level_of, is_equals, name_at, value_at, setting_of, bare_message, argument, move_or_unknown, other_line, command_line, message_or_fault, HasArgument, HasLevel, Spells}
 use Rattle.chess_board.proofs.Spelled.{move_spells}
 use Rattle.cecp_lines.proofs.LineTokens.{tokens_word, one_token}
 use Rattle.cecp_lines.proofs.Tables.{verb_text, found_means}
@@ -146,5 +146,5 @@ command_spells line (Some (Bare word)) m e h =
     subst (λ (n : IfaceMsg). Spells line n) same (found_means (first_token line) (Bare word) e line refl)
 command_spells line (Some (With verb)) m e h = argument_spells verb line m (found_means (first_token line) (With verb) e) (ok_some (argument verb (rest line)) m h)
 
-pub reading_spells : (line : List ℕ) (m : IfaceMsg) → reading line ≡ Ok m → Spells line m
+pub reading_spells : (line : List ℕ) (m : IfaceMsg) → message_or_fault line ≡ Ok m → Spells line m
 reading_spells line m h = command_spells line (command_of (first_token line)) m refl h

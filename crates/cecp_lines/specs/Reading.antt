@@ -137,8 +137,8 @@ command_line (Some (With verb)) line = ok_or (argument verb (rest line)) BadArgu
 command_line None line = other_line (first_token line) (rest line)
 
 -- the message that a line spells, or why it spells none
-abbrev pub reading : List ℕ → Result IfaceMsg IfaceFault
-reading line = command_line (command_of (first_token line)) line
+abbrev pub message_or_fault : List ℕ → Result IfaceMsg IfaceFault
+message_or_fault line = command_line (command_of (first_token line)) line
 
 -- THE RELATION, ROW BY ROW
 

@@ -180,12 +180,12 @@ hint_size None = 0
 hint_size (Some text) = length text
 
 -- how many bytes of a reply's text are borrowed
-abbrev pub borrowed : Reply → ℕ
-borrowed (Feature name value) = length name + length value
-borrowed (Error reason line) = length line
-borrowed (Thinking depth score time nodes spelling hint pv) = hint_size hint + length pv
-borrowed _ = 0
+abbrev pub borrowed_length : Reply → ℕ
+borrowed_length (Feature name value) = length name + length value
+borrowed_length (Error reason line) = length line
+borrowed_length (Thinking depth score time nodes spelling hint pv) = hint_size hint + length pv
+borrowed_length _ = 0
 
 -- No text is longer than its borrowed bytes and 128 more.
 abbrev pub RepliesAreShort : Type 0
-RepliesAreShort = (t : Reply) → Fits t → length (reply_text t) ≤ 128 + borrowed t
+RepliesAreShort = (t : Reply) → Fits t → length (reply_text t) ≤ 128 + borrowed_length t

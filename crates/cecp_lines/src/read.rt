@@ -3,7 +3,7 @@ ghost use Rattle.std.specs.Prelude.{◌≡◌, ◌↔◌, Ok, Err, ◌+◌, ◌*
 ghost use Rattle.std.specs.Option.{option_map, option_and_then};
 ghost use Rattle.cecp_lines.specs.Messages.{IfaceMsg as AnyIfaceMsg, message_of, read_as};
 ghost use Rattle.cecp_lines.specs.declared.iface.IfaceFault.TheVariants.{UnknownCommand, BadArgument};
-ghost use Rattle.cecp_lines.specs.Reading.{reading, Spells, IsUnknown, IsBad, only_token, bare_message, argument, protover, base_time, level, setting, egt_path, other_line, is_colon, is_equals};
+ghost use Rattle.cecp_lines.specs.Reading.{message_or_fault, Spells, IsUnknown, IsBad, only_token, bare_message, argument, protover, base_time, level, setting, egt_path, other_line, is_colon, is_equals};
 
 use crate::iface::{IfaceFault, IfaceMsg};
 use crate::words::{BareWord, Command, Verb, command_named};
@@ -180,7 +180,7 @@ fn read_other<'a>(word: &[u8], rest: &[u8]) -> Result<IfaceMsg<'a>, IfaceFault>
 
 /// The message that a line spells, by what its first token means.
 fn read_message(line: &[u8]) -> Result<IfaceMsg<'_>, IfaceFault>
-    ensures { read_as result ≡ reading line.now }
+    ensures { read_as result ≡ message_or_fault line.now }
 {
     let (word, rest) = split_token(line);
     match command_named(word) {
@@ -194,7 +194,7 @@ fn read_message(line: &[u8]) -> Result<IfaceMsg<'_>, IfaceFault>
 /// The message that a line of the interface spells (Chess Engine Communication Protocol, version 2,
 /// section "Commands from xboard to the engine"). The line has no line feed.
 pub fn read_iface(line: &[u8]) -> Result<IfaceMsg<'_>, IfaceFault>
-    ensures value { read_as result ≡ reading line.now }
+    ensures value { read_as result ≡ message_or_fault line.now }
     // A message is read if and only if the line spells it.
     ensures spelled { (m : AnyIfaceMsg) → (read_as result ≡ Ok m) ↔ Spells line.now m }
     // Which fault it is.

@@ -9,7 +9,7 @@ use Rattle.chess_board.specs.Board.{Men, man_at, other, is_of, is_king, is_rook,
 use Rattle.chess_board.specs.Attack.{is_pawn_strike, is_ahead}
 use Rattle.chess_board.specs.Position.{Position}
 use Rattle.chess_board.specs.Rules.{is_en_passant, is_legal, is_at, fifth_rank, sixth_rank, beside}
-use Rattle.chess_board.specs.Play.{AreMen, AreRights, IsPosition, Takeable, can_take, fits_board, fits_kings, at_home, rights_at_home, built, settled, settled_at, is_supported, top_count}
+use Rattle.chess_board.specs.Play.{AreMen, AreRights, IsPosition, Takeable, can_take, fits_board, fits_kings, at_home, rights_at_home, position_if_built, with_legal_passant, settled_at, is_supported, top_count}
 use Rattle.chess_board.proofs.Below.{some_below-found}
 
 pub board_fits : (men : Men) → AreMen men → fits_board men ≡ true
@@ -56,7 +56,7 @@ abbrev counted : Position → Rights → ℕ → ℕ → Position
 counted p rights half full = record p { rights = rights; half = half; full = full }
 
 -- a position is what its own parts make
-pub built-same : (p : Position) → IsPosition p → built p ≡ Ok p
+pub built-same : (p : Position) → IsPosition p → position_if_built p ≡ Ok p
 built-same p is =
     let board = board_fits p.men is.men in
     let kings = kings_fit p is in
@@ -65,8 +65,8 @@ built-same p is =
     let full : max 1 (min p.full top_count) ≡ p.full = omega (arith, is.full.0, is.full.1) in
     let same : counted p (rights_at_home p.men p.rights) (min p.half top_count) (max 1 (min p.full top_count)) ≡ counted p p.rights p.half p.full = cc in
     let still : settled_at p p.passant ≡ p = settled_same p p.passant is.passant in
-    let last : settled (counted p (rights_at_home p.men p.rights) (min p.half top_count) (max 1 (min p.full top_count))) ≡ p =
-    subst (λ (q : Position). settled q ≡ p) (sym same) still in
+    let last : with_legal_passant (counted p (rights_at_home p.men p.rights) (min p.half top_count) (max 1 (min p.full top_count))) ≡ p =
+    subst (λ (q : Position). with_legal_passant q ≡ p) (sym same) still in
     rw (board, kings) (ap Ok last)
 
 ahead_rank : (side : Side) (rank to : ℕ) → rank ≡ fifth_rank side → is_ahead side rank to 1 ≡ true → to ≡ sixth_rank side

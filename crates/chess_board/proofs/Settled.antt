@@ -10,7 +10,7 @@ use Rattle.chess_board.specs.Board.{Men, man_at, is_pawn, squares}
 use Rattle.chess_board.specs.Position.{Position}
 use Rattle.chess_board.specs.Rules.{is_en_passant, is_legal}
 use Rattle.chess_board.specs.Laws.{CanTake}
-use Rattle.chess_board.specs.Play.{can_take, settled, settled_at}
+use Rattle.chess_board.specs.Play.{can_take, with_legal_passant, settled_at}
 use Rattle.chess_board.proofs.Below.{some_below-hit, some_below-found, squares-is}
 use Rattle.chess_board.proofs.Legal.{PawnAt, PassantAt, legal-law}
 
@@ -37,14 +37,14 @@ with_own p o e =
     whole
 
 -- all but the passant square is as it was
-pub settled-only : (p : Position) → settled p ≡ with_passant p (settled p).passant
+pub settled-only : (p : Position) → with_legal_passant p ≡ with_passant p (with_legal_passant p).passant
 settled-only p =
     elim p.passant as (λ v. p.passant ≡ v → settled_at p v ≡ with_passant p (settled_at p v).passant) [
       | None ↦ λ e. sym (with_own p p.passant refl)
       | Some s ↦ λ e. elim (can_take p s) as (λ v. cond v p (with_passant p None) ≡ with_passant p (cond v p (with_passant p None)).passant) [ true ↦ sym (with_own p p.passant refl) | false ↦ refl ]
     ] refl
 
-pub settled-passant : (p : Position) (at : ℕ) → ((settled p).passant ≡ Some at) ↔ ((p.passant ≡ Some at) × CanTake (with_passant (settled p) (Some at)) at)
+pub settled-passant : (p : Position) (at : ℕ) → ((with_legal_passant p).passant ≡ Some at) ↔ ((p.passant ≡ Some at) × CanTake (with_passant (with_legal_passant p) (Some at)) at)
 settled-passant p at =
     elim p.passant as (λ v. p.passant ≡ v → ((settled_at p v).passant ≡ Some at) ↔ ((p.passant ≡ Some at) × CanTake (with_passant (settled_at p v) (Some at)) at)) [
       | None ↦ λ e. (λ h. let no' : None ≡ Some at = sym e ∙ h in absurd (cc), λ h. let h0 = h.0 in let no' : None ≡ Some at = sym e ∙ h0 in absurd (cc))

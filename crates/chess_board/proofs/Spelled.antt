@@ -8,7 +8,7 @@ use Rattle.chess_board.specs.declared.board.Kind.TheVariants.{Knight, Bishop, Ro
 use Rattle.chess_board.specs.declared.board.Move.{Move}
 use Rattle.chess_board.specs.Text.{Spells, SquareSpells, promotion_of, IsOfficer}
 use Rattle.chess_board.proofs.Places.{square_same}
-use Rattle.chess_board.specs.Spelling.{square_if, square_named, move_from, promoted, move_of}
+use Rattle.chess_board.specs.Spelling.{square_if, square_named, move_from, move_with_promotion, move_of}
 
 if_there : (n : ℕ) (s : Square) (b : Bool) (e : ltb n 64 ≡ b) → n ≡ s.index → square_if n b e ≡ Some s
 if_there n s true e h = ap Some (square_same _ s h)
@@ -71,11 +71,11 @@ from_parts (Some a) None p m h = absurd (cc)
 to_parts : (a b : Option Square) (p : Option Kind) (m : Move) → a ≡ Some m.from → b ≡ Some m.to → p ≡ m.promotion → move_from a b p ≡ Some m
 to_parts a b p m e f g = rw (e, f, g) refl
 
-promoted_parts : (a b : Option Square) (p : Option Kind) (m : Move) → promoted a b p ≡ Some m → (a ≡ Some m.from) × (b ≡ Some m.to) × (p ≡ m.promotion) × IsSome p
+promoted_parts : (a b : Option Square) (p : Option Kind) (m : Move) → move_with_promotion a b p ≡ Some m → (a ≡ Some m.from) × (b ≡ Some m.to) × (p ≡ m.promotion) × IsSome p
 promoted_parts a b None m h = absurd (cc)
 promoted_parts a b (Some k) m h = let parts = from_parts a b (Some k) m h in (parts.0, parts.1, parts.2, refl)
 
-promoted_from : (a b : Option Square) (p : Option Kind) → IsSome p → promoted a b p ≡ move_from a b p
+promoted_from : (a b : Option Square) (p : Option Kind) → IsSome p → move_with_promotion a b p ≡ move_from a b p
 promoted_from a b None h = absurd (cc)
 promoted_from a b (Some k) h = refl
 

@@ -12,7 +12,7 @@ use Rattle.chess_board.specs.Board.{Man, Men, man_at, other, is_of, is_king, is_
 use Rattle.chess_board.specs.Attack.{is_checked}
 use Rattle.chess_board.specs.Position.{Position}
 use Rattle.chess_board.specs.Laws.{CanTake}
-use Rattle.chess_board.specs.Play.{IsPosition, Takeable, fits_board, fits_kings, at_home, rights_at_home, built, settled, is_supported, is_end_rank, is_any_pawn, top_count}
+use Rattle.chess_board.specs.Play.{IsPosition, Takeable, fits_board, fits_kings, at_home, rights_at_home, position_if_built, with_legal_passant, is_supported, is_end_rank, is_any_pawn, top_count}
 use Rattle.chess_board.specs.Lawful.{AreHome, NoEndPawn, FitsBoard, FitsKings, IsLawful, Settles, Builds}
 use Rattle.chess_board.proofs.Below.{each_below-at, each_below-all, squares-is}
 use Rattle.chess_board.proofs.Bools.{same_side-refl}
@@ -121,12 +121,12 @@ lawful-is p is = record {
 abbrev given_as : Position → Position
 given_as given = record given { rights = rights_at_home given.men given.rights; half = min given.half top_count; full = max 1 (min given.full top_count) }
 
-settles : (given : Position) → Settles given (settled (given_as given))
+settles : (given : Position) → Settles given (with_legal_passant (given_as given))
 settles given =
     let q = given_as given in
     let only = settled-only q in
     let men = given.men in
-    let rights : (settled q).rights ≡ rights_at_home men given.rights = ap (λ (p : Position). p.rights) only in
+    let rights : (with_legal_passant q).rights ≡ rights_at_home men given.rights = ap (λ (p : Position). p.rights) only in
     record {
       men = ap (λ (p : Position). p.men) only;
       side = ap (λ (p : Position). p.side) only;
@@ -139,11 +139,11 @@ settles given =
       full = ap (λ (p : Position). p.full) only;
     }
 
-pub builds-is : (given : Position) → Builds given (built given)
+pub builds-is : (given : Position) → Builds given (position_if_built given)
 builds-is given =
-    elim (fits_board given.men) as (λ v. fits_board given.men ≡ v → Builds given (cond (not v) (Err Board) (cond (not (fits_kings given.men given.side)) (Err Kings) (Ok (settled (given_as given)))))) [
+    elim (fits_board given.men) as (λ v. fits_board given.men ≡ v → Builds given (cond (not v) (Err Board) (cond (not (fits_kings given.men given.side)) (Err Kings) (Ok (with_legal_passant (given_as given)))))) [
       | false ↦ λ e fits. false≢true (sym e ∙ (board-law given.men).1 fits)
-      | true ↦ λ board. elim (fits_kings given.men given.side) as (λ v. fits_kings given.men given.side ≡ v → Builds given (cond (not v) (Err Kings) (Ok (settled (given_as given))))) [
+      | true ↦ λ board. elim (fits_kings given.men given.side) as (λ v. fits_kings given.men given.side ≡ v → Builds given (cond (not v) (Err Kings) (Ok (with_legal_passant (given_as given))))) [
         | false ↦ λ e. ((board-law given.men).0 board, λ fits. false≢true (sym e ∙ (kings-law given.men given.side).1 fits))
         | true ↦ λ kings. ((board-law given.men).0 board, (kings-law given.men given.side).0 kings, settles given)
       ] refl

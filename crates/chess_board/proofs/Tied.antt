@@ -13,19 +13,19 @@ use Rattle.chess_board.specs.Board.{Man, Men, man_at, is_of, is_empty, is_king, 
 use Rattle.chess_board.specs.Attack.{is_diagonal, is_straight, is_clear, reaches, attacks, attacks_as, is_attacked, is_checked}
 use Rattle.chess_board.specs.Position.{Position}
 use Rattle.chess_board.specs.Reach.{has, Nears, Shields, Frees}
-use Rattle.chess_board.specs.Rules.{moved, men_after, is_en_passant, promotes, becomes}
+use Rattle.chess_board.specs.Rules.{men_after_step, men_after, is_en_passant, promotes, becomes}
 use Rattle.chess_board.proofs.Below.{each_below-at, each_below-all, some_below-none, some_below-found, some_square-hit, squares-is}
 use Rattle.chess_board.proofs.Sets.{has-either}
 use Rattle.chess_board.proofs.Moved.{man_at-moved}
 use Rattle.chess_board.proofs.Prepared.{promoted-king}
 use Rattle.chess_board.proofs.Plays.{not_other}
 
-arrived : (men : Men) (side : Side) (piece : Kind) (from to : ℕ) (promotion : Option Kind) → length men ≡ 64 → to < 64 → man_at (moved men side piece from to promotion) to ≡ Some (side, becomes piece promotion)
+arrived : (men : Men) (side : Side) (piece : Kind) (from to : ℕ) (promotion : Option Kind) → length men ≡ 64 → to < 64 → man_at (men_after_step men side piece from to promotion) to ≡ Some (side, becomes piece promotion)
 arrived men side piece from to promotion size low =
     let long : length (set men from None) ≡ 64 = length-set men from None ∙ size in
     get_or-set_same (set men from None) to (Some (side, becomes piece promotion)) None (omega arith)
 
-left : (men : Men) (side : Side) (piece : Kind) (from to : ℕ) (promotion : Option Kind) → length men ≡ 64 → from < 64 → from ≢ to → man_at (moved men side piece from to promotion) from ≡ None
+left : (men : Men) (side : Side) (piece : Kind) (from to : ℕ) (promotion : Option Kind) → length men ≡ 64 → from < 64 → from ≢ to → man_at (men_after_step men side piece from to promotion) from ≡ None
 left men side piece from to promotion size low apart =
     get_or-set_other (set men from None) to from (Some (side, becomes piece promotion)) None apart ∙ get_or-set_same men from None None (omega arith)
 
@@ -97,17 +97,17 @@ shields_right men side x k a b shields s low apart out e = shields s low apart (
 
 -- what attacks the king's square after the move attacked it before
 still_attacks : (men : Men) (side : Side) (piece : Kind) (from to x k set' : ℕ) (promotion : Option Kind) → length men ≡ 64 → from < 64 → to < 64 → x < 64 → Shields men (other side) x k set' → has set' from ≡ false →
-    attacks (moved men side piece from to promotion) (other side) x k ≡ true → attacks men (other side) x k ≡ true
+    attacks (men_after_step men side piece from to promotion) (other side) x k ≡ true → attacks men (other side) x k ≡ true
 still_attacks men side piece from to x k set' promotion size fl low xl shields out e =
     ⊎_elim (λ (here : x ≡ to).
-    let man = ap (man_at (moved men side piece from to promotion)) here ∙ arrived men side piece from to promotion size low in
-    let mine : attacks (moved men side piece from to promotion) (other side) x k ≡ false = rw man (rw (not_other side) refl) in
+    let man = ap (man_at (men_after_step men side piece from to promotion)) here ∙ arrived men side piece from to promotion size low in
+    let mine : attacks (men_after_step men side piece from to promotion) (other side) x k ≡ false = rw man (rw (not_other side) refl) in
     absurd (false≢true (sym mine ∙ e)))
     (λ (t : x ≢ to).
     ⊎_elim (λ (here : x ≡ from).
     let apart : from ≢ to = λ same. t (here ∙ same) in
-    let man = ap (man_at (moved men side piece from to promotion)) here ∙ left men side piece from to promotion size fl apart in
-    let none : attacks (moved men side piece from to promotion) (other side) x k ≡ false = rw man refl in
+    let man = ap (man_at (men_after_step men side piece from to promotion)) here ∙ left men side piece from to promotion size fl apart in
+    let none : attacks (men_after_step men side piece from to promotion) (other side) x k ≡ false = rw man refl in
     absurd (false≢true (sym none ∙ e)))
     (λ (f : x ≢ from).
     let gone : Men = set men from None in
@@ -119,7 +119,7 @@ still_attacks men side piece from to x k set' promotion size fl low xl shields o
     (cases_eq x to)
 
 -- no man but the one that moves changes its square
-plain : (p : Position) (piece : Kind) (from to : ℕ) (promotion : Option Kind) → p.passant ≡ None → is_king_kind piece ≡ false → men_after p piece from to promotion ≡ moved p.men p.side piece from to promotion
+plain : (p : Position) (piece : Kind) (from to : ℕ) (promotion : Option Kind) → p.passant ≡ None → is_king_kind piece ≡ false → men_after p piece from to promotion ≡ men_after_step p.men p.side piece from to promotion
 unfolding men_after is_en_passant
 plain p Pawn from to promotion none e = rw none refl
 plain p Knight from to promotion none e = refl
@@ -143,7 +143,7 @@ unfolding is_checked is_attacked
 unpinned p k from to shields piece promotion size quiet none kl alone fl tl man promoted king shielded off =
     let men = p.men in
     let plain' : is_king_kind piece ≡ false = sym (own_kind p.side piece) ∙ sym (ap (is_king p.side) man) ∙ king in
-    let after = moved men p.side piece from to promotion in
+    let after = men_after_step men p.side piece from to promotion in
     let still : is_checked after p.side ≡ false = some_below-none squares (λ at. is_king p.side (man_at after at) && is_attacked after (other p.side) at) (λ at less. false_from_ne_true _ (λ hit.
     let low : at < 64 = subst (λ (n : ℕ). at < n) squares-is less in
     let parts = and_parts (is_king p.side (man_at after at)) (is_attacked after (other p.side) at) hit in

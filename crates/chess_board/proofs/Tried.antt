@@ -7,7 +7,7 @@ use Rattle.chess_board.specs.Attack.{is_checked}
 use Rattle.chess_board.specs.Board.{Men, man_at}
 use Rattle.chess_board.specs.Laws.{IsLegal}
 use Rattle.chess_board.specs.Place.{legal, after_if_legal}
-use Rattle.chess_board.specs.Play.{follow, settled, position_after}
+use Rattle.chess_board.specs.Play.{follow, with_legal_passant, position_after}
 use Rattle.chess_board.specs.Position.{Position}
 use Rattle.chess_board.specs.Rules.{men_after, promotes, reaches_to}
 use Rattle.chess_board.proofs.Bounded.{legal_reach}
@@ -30,13 +30,13 @@ pub left_unsafe : (p : Position) (m : Move) (piece : Kind) → man_at p.men m.fr
 left_unsafe p m piece man reach fit checked = left_none p m (legal_reach p p.side piece m.from.index m.to.index m.promotion man reach ∙ rw (fit, checked) refl)
 
 left_by : (p : Position) (m : Move) (piece : Kind) (left : Position) → legal p m ≡ true → man_at p.men m.from.index ≡ Some (p.side, piece)
-    → left ≡ settled (follow p piece m.from.index m.to.index m.promotion) → Some left ≡ after_if_legal p m
+    → left ≡ with_legal_passant (follow p piece m.from.index m.to.index m.promotion) → Some left ≡ after_if_legal p m
 unfolding position_after
 left_by p m piece left e man is = rw (e, man) (ap (λ (q : Position). Some q) is)
 
 pub left_some : (p : Position) (m : Move) (piece : Kind) (left : Position) → man_at p.men m.from.index ≡ Some (p.side, piece) → reaches_to p m.from.index m.to.index ≡ true
     → promotes p.side piece m.to.index m.promotion ≡ true → is_checked (men_after p piece m.from.index m.to.index m.promotion) p.side ≡ false
-    → left ≡ settled (follow p piece m.from.index m.to.index m.promotion) → Some left ≡ after_if_legal p m
+    → left ≡ with_legal_passant (follow p piece m.from.index m.to.index m.promotion) → Some left ≡ after_if_legal p m
 left_some p m piece left man reach fit quiet is =
     left_by p m piece left (legal_reach p p.side piece m.from.index m.to.index m.promotion man reach ∙ rw (fit, quiet) refl) man is
 

@@ -8,8 +8,8 @@ use Rattle.chess_board.specs.declared.board.Kind.TheVariants.{Pawn, Knight, Bish
 use Rattle.chess_board.specs.Board.{Man, Men, man_at, is_empty, is_pawn_kind, rank_of}
 use Rattle.chess_board.specs.Laws.{IsLegal}
 use Rattle.chess_board.specs.Position.{Position}
-use Rattle.chess_board.specs.Rules.{becomes, goes, moved, taken, hopped, prepared, men_after, beside, king_home, is_en_passant, castles_short, castles_long}
-use Rattle.chess_board.specs.Play.{IsPosition, AreRights, half_after, follow, settled, position_after, top_count}
+use Rattle.chess_board.specs.Rules.{becomes, goes, men_after_step, men_without_passant, men_after_castling, men_beside_move, men_after, beside, king_home, is_en_passant, castles_short, castles_long}
+use Rattle.chess_board.specs.Play.{IsPosition, AreRights, half_after, follow, with_legal_passant, position_after, top_count}
 use Rattle.chess_board.proofs.Moved.{apart}
 use Rattle.chess_board.proofs.Prepared.{IsMove, IsForward, move_of_legal, promoted-officer, pawn_ahead}
 use Rattle.chess_board.proofs.Keeps.{short_parts, long_parts, short_rook, long_rook, home_between, rook-is}
@@ -46,43 +46,43 @@ total-set : (men : Men) (i : ℕ) (y : Man) → i < length men → total (set me
 total-set men i y h = let n : 0 + i ≡ i = omega arith in subst (λ (k : ℕ). total (set men i y) + worth k (man_at men i) ≡ total men + worth k y) n (worth_from-set 0 men i y h)
 
 total-moved : (men : Men) (side : Side) (piece : Kind) (from to : ℕ) (promotion : Option Kind) → length men ≡ 64 → from < 64 → to < 64 → from ≢ to →
-    total (moved men side piece from to promotion) + (worth to (man_at men to) + worth from (man_at men from)) ≡ total men + worth to (Some (side, becomes piece promotion))
+    total (men_after_step men side piece from to promotion) + (worth to (man_at men to) + worth from (man_at men from)) ≡ total men + worth to (Some (side, becomes piece promotion))
 total-moved men side piece from to promotion whole f t other =
     let less : from < length men = rw whole f in
     let left = total-set men from None less in
     let less' : to < length (set men from None) = rw (length-set, whole) t in
     let reached = total-set (set men from None) to (Some (side, becomes piece promotion)) less' in
     let target : man_at (set men from None) to ≡ man_at men to = get_or-set_other men from to None None (λ e. other (sym e)) in
-    let reached' : total (moved men side piece from to promotion) + worth to (man_at men to) ≡ total (set men from None) + worth to (Some (side, becomes piece promotion)) = rw target at reached in
+    let reached' : total (men_after_step men side piece from to promotion) + worth to (man_at men to) ≡ total (set men from None) + worth to (Some (side, becomes piece promotion)) = rw target at reached in
     omega arith
 
 -- what else a move changes adds nothing
-hopped_total : (men : Men) (side : Side) (rook next : ℕ) → length men ≡ 64 → rook < 64 → next < 64 → rook ≢ next → man_at men rook ≡ Some (side, Rook) → total (moved men side Rook rook next None) ≤ total men
+hopped_total : (men : Men) (side : Side) (rook next : ℕ) → length men ≡ 64 → rook < 64 → next < 64 → rook ≢ next → man_at men rook ≡ Some (side, Rook) → total (men_after_step men side Rook rook next None) ≤ total men
 hopped_total men side rook next whole r b ne there =
     let sums = total-moved men side Rook rook next None whole r b ne in
-    let sums' : total (moved men side Rook rook next None) + (worth next (man_at men next) + worth rook (Some (side, Rook))) ≡ total men + worth next (Some (side, Rook)) = rw there at sums in
+    let sums' : total (men_after_step men side Rook rook next None) + (worth next (man_at men next) + worth rook (Some (side, Rook))) ≡ total men + worth next (Some (side, Rook)) = rw there at sums in
     omega arith
 
-king_total : (p : Position) (from to : ℕ) → length p.men ≡ 64 → AreRights p.men p.rights → total (prepared p King from to) ≤ total p.men
+king_total : (p : Position) (from to : ℕ) → length p.men ≡ 64 → AreRights p.men p.rights → total (men_beside_move p King from to) ≤ total p.men
 king_total p from to whole rights =
     let home = king_home p.side in
     let between = home_between p.side in
-    elim (castles_short p from to) as (λ v. castles_short p from to ≡ v → total (hopped p.men p.side home v (castles_long p from to)) ≤ total p.men) [
+    elim (castles_short p from to) as (λ v. castles_short p from to ≡ v → total (men_after_castling p.men p.side home v (castles_long p from to)) ≤ total p.men) [
       | true ↦ λ e. hopped_total p.men p.side (home + 3) (home + 1) whole (omega arith) (omega arith) (omega arith) (rook-is p.side _ (short_rook p rights (short_parts p from to e).right))
-      | false ↦ λ _. elim (castles_long p from to) as (λ v. castles_long p from to ≡ v → total (hopped p.men p.side home false v) ≤ total p.men) [
+      | false ↦ λ _. elim (castles_long p from to) as (λ v. castles_long p from to ≡ v → total (men_after_castling p.men p.side home false v) ≤ total p.men) [
         | true ↦ λ e. hopped_total p.men p.side (home - 4) (home - 1) whole (omega arith) (omega arith) (omega arith) (rook-is p.side _ (long_rook p rights (long_parts p from to e).right))
         | false ↦ λ _. omega arith
       ] refl
     ] refl
 
-pawn_total : (p : Position) (from to : ℕ) → length p.men ≡ 64 → from < 64 → to < 64 → total (prepared p Pawn from to) ≤ total p.men
+pawn_total : (p : Position) (from to : ℕ) → length p.men ≡ 64 → from < 64 → to < 64 → total (men_beside_move p Pawn from to) ≤ total p.men
 pawn_total p from to whole f t =
     let low : beside from to < 64 = grind arith in
     let less : beside from to < length p.men = rw whole low in
     let sums = total-set p.men (beside from to) None less in
-    elim (is_en_passant p from to) as (λ v. total (taken p.men v (beside from to)) ≤ total p.men) [ true ↦ omega arith | false ↦ omega arith ]
+    elim (is_en_passant p from to) as (λ v. total (men_without_passant p.men v (beside from to)) ≤ total p.men) [ true ↦ omega arith | false ↦ omega arith ]
 
-prepared_total : (p : Position) (piece : Kind) (from to : ℕ) → length p.men ≡ 64 → AreRights p.men p.rights → from < 64 → to < 64 → total (prepared p piece from to) ≤ total p.men
+prepared_total : (p : Position) (piece : Kind) (from to : ℕ) → length p.men ≡ 64 → AreRights p.men p.rights → from < 64 → to < 64 → total (men_beside_move p piece from to) ≤ total p.men
 prepared_total p Pawn from to whole rights f t = pawn_total p from to whole f t
 prepared_total p King from to whole rights f t = king_total p from to whole rights
 prepared_total p Knight from to whole rights f t = omega arith
@@ -130,10 +130,10 @@ men_wear_as p from to promotion is f t m =
     let ready = prepared_ready p m.piece from to is.men is.rights f t m.man in
     let can = can_move p from to promotion f t m ready in
     let before = prepared_total p m.piece from to is.men.whole is.rights f t in
-    let sums = total-moved (prepared p m.piece from to) p.side m.piece from to promotion ready.are.whole f t (apart can) in
-    let sums' : total (moved (prepared p m.piece from to) p.side m.piece from to promotion) + (worth to (man_at p.men to) + worth from (Some (p.side, m.piece))) ≡ total (prepared p m.piece from to) + worth to (Some (p.side, becomes m.piece promotion)) =
+    let sums = total-moved (men_beside_move p m.piece from to) p.side m.piece from to promotion ready.are.whole f t (apart can) in
+    let sums' : total (men_after_step (men_beside_move p m.piece from to) p.side m.piece from to promotion) + (worth to (man_at p.men to) + worth from (Some (p.side, m.piece))) ≡ total (men_beside_move p m.piece from to) + worth to (Some (p.side, becomes m.piece promotion)) =
     rw (ready.to_same, can.man) at sums in
-    elim (is_pawn_kind m.piece) as (λ v. is_pawn_kind m.piece ≡ v → Men_wear p m.piece to (moved (prepared p m.piece from to) p.side m.piece from to promotion)) [
+    elim (is_pawn_kind m.piece) as (λ v. is_pawn_kind m.piece ≡ v → Men_wear p m.piece to (men_after_step (men_beside_move p m.piece from to) p.side m.piece from to promotion)) [
       | true ↦ λ e.
           let pawn : m.piece ≡ Pawn = pawn_kind m.piece e in
           let ahead = pawn_ahead p from to (subst (λ (k : Kind). goes p k from to ≡ true) pawn m.way) in
@@ -155,6 +155,6 @@ wears p from to promotion is f t legal =
     let wear = men_wear_as p from to promotion is f t m in
     let q = follow p m.piece from to promotion in
     let only = settled-only q in
-    let men : (settled q).men ≡ men_after p m.piece from to promotion = ap (λ (x : Position). x.men) only in
-    let half : (settled q).half ≡ half_after p m.piece to = ap (λ (x : Position). x.half) only in
+    let men : (with_legal_passant q).men ≡ men_after p m.piece from to promotion = ap (λ (x : Position). x.men) only in
+    let half : (with_legal_passant q).half ≡ half_after p m.piece to = ap (λ (x : Position). x.half) only in
     rw (kind, men, half) wear

@@ -8,7 +8,7 @@ use Rattle.chess_board.specs.declared.board.BuildFault.TheVariants.{Board, Kings
 use Rattle.chess_board.specs.Board.{Men, man_at, other, is_of, is_king, rank_of}
 use Rattle.chess_board.specs.Position.{Position}
 use Rattle.chess_board.specs.Laws.{IsChecked, CanTake}
-use Rattle.chess_board.specs.Play.{built, top_count}
+use Rattle.chess_board.specs.Play.{position_if_built, top_count}
 
 -- a king and a rook of the side stand where they begin
 abbrev pub AreHome : Men → Side → ℕ → ℕ → Type 0
@@ -60,4 +60,4 @@ Builds given (Ok p) = FitsBoard given.men × FitsKings given.men given.side × S
 
 -- what `build` answers is what the Laws say
 abbrev pub BuildLaw : Type 0
-BuildLaw = (given : Position) → Builds given (built given)
+BuildLaw = (given : Position) → Builds given (position_if_built given)

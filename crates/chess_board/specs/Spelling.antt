@@ -24,12 +24,12 @@ move_from (Some from) (Some to) promotion = Some (record { from = from; to = to;
 move_from None to promotion = None
 move_from (Some from) None promotion = None
 
-abbrev pub promoted : Option Square → Option Square → Option Kind → Option Move
-promoted from to None = None
-promoted from to (Some piece) = move_from from to (Some piece)
+abbrev pub move_with_promotion : Option Square → Option Square → Option Kind → Option Move
+move_with_promotion from to None = None
+move_with_promotion from to (Some piece) = move_from from to (Some piece)
 
 -- the move that a text spells
 unfoldable pub move_of : List ℕ → Option Move
 move_of (f ∷ r ∷ g ∷ s ∷ []) = move_from (square_named f r) (square_named g s) None
-move_of (f ∷ r ∷ g ∷ s ∷ letter ∷ []) = promoted (square_named f r) (square_named g s) (promotion_of letter)
+move_of (f ∷ r ∷ g ∷ s ∷ letter ∷ []) = move_with_promotion (square_named f r) (square_named g s) (promotion_of letter)
 move_of _ = None

@@ -28,12 +28,12 @@ pub record Books : Type 0 where
   pub logs : List (Option (List ℕ))
 
 -- the books of a host that tells this much, and handed out nothing
-abbrev pub unused : Option (List ℕ) → Bool → Books
-unused says tells = record { says = says; tells = tells; runs_out = 0; logs_out = 0; runs = []; logs = [] }
+abbrev pub unused_books : Option (List ℕ) → Bool → Books
+unused_books says tells = record { says = says; tells = tells; runs_out = 0; logs_out = 0; runs = []; logs = [] }
 
 -- nothing was handed out
 abbrev pub IsUnused : Books → Type 0
-IsUnused books = books ≡ unused books.says books.tells
+IsUnused books = books ≡ unused_books books.says books.tells
 
 -- the books after a run or a log was handed out
 abbrev pub with_run : Books → Books
@@ -44,7 +44,7 @@ with_log books = record books { logs_out = books.logs_out + 1 }
 
 -- one run was handed out, and nothing else
 abbrev pub IsStarted : Books → Type 0
-IsStarted books = books ≡ with_run (unused books.says books.tells)
+IsStarted books = books ≡ with_run (unused_books books.says books.tells)
 
 -- the books after one was closed
 abbrev pub with_closed_run : Books → Supplied → Received → Books

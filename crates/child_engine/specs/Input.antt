@@ -6,7 +6,7 @@ use Rattle.child_engine.specs.Closing as closing
 use Rattle.child_engine.specs.declared.input.EngineInput.{EngineInput}
 use Rattle.line_io.specs.Lines.{line_feed}
 
--- it reports nothing of what was taken, since nobody keeps that behind `quit`
+-- it reports nothing of what was taken, since nobody keeps that after `quit`
 abbrev pub shown_by : {W : Type 0} → EngineInput W → Received
 shown_by input = closing.shown_by input.sink
 

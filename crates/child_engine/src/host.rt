@@ -63,7 +63,7 @@ pub trait Host {
 
     type Log: Sink + Send + Drop;
 
-    type ChildProcess;
+    type EngineProcess;
 
     /// How often each kind of call failed.
     ghost faults: { Self → Faults };
@@ -80,7 +80,7 @@ pub trait Host {
         &mut self,
         alloc: Global,
         words: &[String],
-    ) -> Result<Started<Self::EngineSource, Self::EngineSink, Self::ChildProcess>, HostFault>
+    ) -> Result<Started<Self::EngineSource, Self::EngineSink, Self::EngineProcess>, HostFault>
         requires words { 0 < length words.now }
         requires few { (books self.old).runs_out < 10 }
         ensures out { OnOk result (books self.new ≡ with_run (books self.old)) }
@@ -108,7 +108,7 @@ pub trait Host {
     /// Lets go of the engine's pipes, and waits for the engine's end.
     fn close(
         &mut self,
-        run: Started<Self::EngineSource, Self::EngineSink, Self::ChildProcess>,
+        run: Started<Self::EngineSource, Self::EngineSink, Self::EngineProcess>,
     ) -> Result<(), Failed>
         requires { length (books self.old).runs < (books self.old).runs_out }
         ensures books { books self.new

@@ -11,7 +11,7 @@ use std::io::Write;
 
 /// The input of an engine, over a writer that is let go once it took the line `quit`.
 ///
-/// Nothing is ever written behind `quit`, and an engine that ignores the order may still end
+/// Nothing is ever written after `quit`, and an engine that ignores the order may still end
 /// at the end of its input. The pieces are whole lines, and `quit` comes as a piece of its own,
 /// which a pipe takes whole or not at all; if a front of it is taken, the writer stays.
 #[derive(Drop)]
@@ -37,7 +37,7 @@ impl<W> EngineInput<W> {
         }
     }
 
-    /// How many writes failed, took nothing, or came behind `quit`. The count stays at the last
+    /// How many writes failed, took nothing, or came after `quit`. The count stays at the last
     /// value of its type.
     pub fn faults(&self) -> u64
         ensures { result ≡ (shown_by self.now).faults }

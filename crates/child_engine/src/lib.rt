@@ -15,6 +15,6 @@ pub use host::{Faults, Host, HostFault, Started};
 pub use input::EngineInput;
 pub use memory::{Fails, MemHost};
 pub use pipe_sink::PipeSink;
-pub use process::EngineProcess;
+pub use process::RealProcess;
 pub use real::RealHost;
 pub use steady::SteadyHost;

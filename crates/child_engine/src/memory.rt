@@ -74,7 +74,7 @@ pub struct MemHost {
 
 impl MemHost {
     ghost use Rattle.std.specs.Prelude.{true};
-    ghost use Rattle.child_engine.specs.Hosts.{unused};
+    ghost use Rattle.child_engine.specs.Hosts.{unused_books};
     ghost use Rattle.child_engine.specs.Asked.{none_asked};
     ghost use Rattle.child_engine.specs.Memory.{asked_of, books_of, means_of};
     ghost use Rattle.child_engine.specs.Steady.{no_faults};
@@ -90,7 +90,7 @@ impl MemHost {
     ) -> Result<MemHost, NoMemory>
         requires { 0 < piece }
         ensures books { IfOk result (λ h. books_of h
-            ≡ unused (Some engine.now) true) }
+            ≡ unused_books (Some engine.now) true) }
         ensures asked { IfOk result (λ h. asked_of h ≡ none_asked) }
         ensures faults { IfOk result (λ h. h.faults ≡ no_faults) }
         ensures means { IfOk result (λ h. means_of h ≡ record {
@@ -170,7 +170,7 @@ impl Host for MemHost {
 
     type Log = MemSink;
 
-    type ChildProcess = ();
+    type EngineProcess = ();
 
     ghost faults = { λ h. h.faults };
 

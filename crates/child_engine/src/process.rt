@@ -9,23 +9,23 @@ use std::process::{
 /// The process of an engine, beside the command that it was spawned from. The command is kept so
 /// that a contract can say which one it was.
 #[derive(Drop)]
-pub struct EngineProcess {
+pub struct RealProcess {
     command: Command,
     child: Child<SystemProcess>,
 }
 
-impl EngineProcess {
+impl RealProcess {
     // Spawns this command, with pipes for its input and its output. What std spawns it says in no
     // contract, so this call, which has no other command, is to be read.
     pub(crate) fn spawn<R: Processes<Started = SystemProcess>>(
         rt: &R,
         command: Command,
         diag: &Stdio,
-    ) -> io::Result<EngineProcess>
+    ) -> io::Result<RealProcess>
         ensures { IfOk result (λ process. process.command ≡ command) }
     {
         let child = rt.spawn(&command, &Stdio::piped(), &Stdio::piped(), diag)?;
-        Ok(EngineProcess { command, child })
+        Ok(RealProcess { command, child })
     }
 
     // Its input and its output, if they were not taken yet.
@@ -39,7 +39,7 @@ impl EngineProcess {
 
     // Waits for its end.
     pub(crate) fn wait(self) -> io::Result<ExitStatus> {
-        let EngineProcess {
+        let RealProcess {
             command: _command,
             mut child,
         } = self;

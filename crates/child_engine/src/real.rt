@@ -7,7 +7,7 @@ ghost use Rattle.child_engine.specs.Hosts.{RisesBy};
 ghost use Rattle.child_engine.specs.declared.host.HostFault.TheVariants as faults;
 
 use crate::host::raised;
-use crate::{EngineProcess, Faults, Host, HostFault, PipeSink, Started};
+use crate::{Faults, Host, HostFault, PipeSink, RealProcess, Started};
 use line_io::{Failed, NoMemory, ReadAdapter, WriteAdapter};
 use std::alloc::Global;
 use std::fs::{File, Files};
@@ -101,7 +101,7 @@ fn diag_of(is_shared: bool) -> Stdio {
 
 impl<R, S> RealHost<R, S> {
     ghost use Rattle.std.specs.Prelude.{None, false};
-    ghost use Rattle.child_engine.specs.Hosts.{unused};
+    ghost use Rattle.child_engine.specs.Hosts.{unused_books};
     ghost use Rattle.child_engine.specs.Real.{books_of};
     ghost use Rattle.child_engine.specs.Steady.{no_faults};
 
@@ -109,7 +109,7 @@ impl<R, S> RealHost<R, S> {
     /// else have the null device.
     pub fn new(rt: R, shares_diag: bool) -> RealHost<R, S>
         ensures books { books_of result
-            ≡ unused None false }
+            ≡ unused_books None false }
         ensures faults { result.faults ≡ no_faults }
         ensures diag { result.shares_diag ≡ shares_diag }
     {
@@ -126,7 +126,7 @@ impl<R, S> RealHost<R, S> {
     }
 }
 
-type StartedEngine<S> = Started<ReadAdapter<ChildStdout>, S, EngineProcess>;
+type StartedEngine<S> = Started<ReadAdapter<ChildStdout>, S, RealProcess>;
 
 impl<
     R: Processes<Started = SystemProcess> + Files<File = File>,
@@ -143,7 +143,7 @@ impl<
 
     type Log = WriteAdapter<File>;
 
-    type ChildProcess = EngineProcess;
+    type EngineProcess = RealProcess;
 
     ghost faults = { λ h. h.faults };
 
@@ -161,11 +161,7 @@ impl<
         ensures cause { StartsBy self.old.faults self.new.faults result }
     {
         let command = command_of(alloc, words)?;
-        let mut process = match EngineProcess::spawn(
-            &self.rt,
-            command,
-            &diag_of(self.shares_diag),
-        ) {
+        let mut process = match RealProcess::spawn(&self.rt, command, &diag_of(self.shares_diag)) {
             Ok(process) => process,
             Err(error) => {
                 let fault = fault_of(error);

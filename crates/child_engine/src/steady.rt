@@ -22,7 +22,7 @@ pub struct SteadyHost {
 
 impl SteadyHost {
     ghost use Rattle.std.specs.Prelude.{Some, false};
-    ghost use Rattle.child_engine.specs.Hosts.{unused};
+    ghost use Rattle.child_engine.specs.Hosts.{unused_books};
     ghost use Rattle.child_engine.specs.Steady.{books_of, says_of};
 
     /// A host that has handed out nothing. Each engine says these bytes, as many at a read as the
@@ -30,7 +30,7 @@ impl SteadyHost {
     pub fn make(alloc: Global, engine: &[u8], piece: usize) -> Result<SteadyHost, NoMemory>
         requires { 0 < piece }
         ensures books { IfOk result (λ h. books_of h
-            ≡ unused (Some engine.now) false) }
+            ≡ unused_books (Some engine.now) false) }
         ensures says { IfOk result (λ h. says_of h
             ≡ record { engine = engine.now; piece = piece }) }
     {
@@ -57,7 +57,7 @@ impl Host for SteadyHost {
 
     type Log = NullSink;
 
-    type ChildProcess = ();
+    type EngineProcess = ();
 
     ghost faults = { λ h. no_faults };
 

@@ -25,7 +25,7 @@ pub enum Ending {
     OutOfStep(u64),
     /// The event in the line with this number may not come.
     MayNotCome(u64),
-    /// The words behind `moves` spell no position.
+    /// The words after `moves` spell no position.
     NoPosition(FenFault),
     NoMemory,
     ReadingFailed,
@@ -67,7 +67,7 @@ impl Ending {
         }
     }
 
-    /// The diagnostic, or what stands in it behind the number of a line.
+    /// The diagnostic, or what stands in it after the number of a line.
     pub fn tail(self) -> &'static [u8]
         ensures { result.now ≡ tail_of self }
     {

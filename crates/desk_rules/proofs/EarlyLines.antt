@@ -6,7 +6,7 @@ use Rattle.std.proofs.lemmas.Grind.{flat_map-append}
 use Rattle.line_io.specs.Event.{is_line, has_feed}
 use Rattle.line_io.specs.Lines.{parts, is_feed}
 use Rattle.line_io.proofs.Parts.{parts_first}
-use Rattle.desk_rules.specs.Early.{fed, may_wait, AreEarly}
+use Rattle.desk_rules.specs.Early.{lines_with_feeds, may_wait, AreEarly}
 
 -- LINE BY LINE
 
@@ -43,20 +43,20 @@ bare_more : (ps : List (List ℕ)) (line : List ℕ) → AreBare ps → has_feed
 bare_more [] line b e = (e, tt)
 bare_more (p ∷ ps) line b e = (b.0, bare_more ps line b.1 e)
 
-fed_back : (ps : List (List ℕ)) → AreBare ps → parts (fed ps) ≡ ps
+fed_back : (ps : List (List ℕ)) → AreBare ps → parts (lines_with_feeds ps) ≡ ps
 fed_back [] b = refl
-fed_back (p ∷ ps) b = ap parts (append_assoc p (10 ∷ []) (fed ps)) ∙ parts_line p (fed ps) b.0 ∙ ap (λ (qs : List (List ℕ)). p ∷ qs) (fed_back ps b.1)
+fed_back (p ∷ ps) b = ap parts (append_assoc p (10 ∷ []) (lines_with_feeds ps)) ∙ parts_line p (lines_with_feeds ps) b.0 ∙ ap (λ (qs : List (List ℕ)). p ∷ qs) (fed_back ps b.1)
 
 -- ONE MORE
 
-pub fed_more : (ps : List (List ℕ)) (line : List ℕ) → fed (ps ++ line ∷ []) ≡ fed ps ++ (line ++ 10 ∷ [])
-fed_more ps line = flat_map-append (λ (l : List ℕ). l ++ 10 ∷ []) ps (line ∷ []) ∙ ap (λ (t : List ℕ). fed ps ++ t) (append-nil (line ++ 10 ∷ []))
+pub fed_more : (ps : List (List ℕ)) (line : List ℕ) → lines_with_feeds (ps ++ line ∷ []) ≡ lines_with_feeds ps ++ (line ++ 10 ∷ [])
+fed_more ps line = flat_map-append (λ (l : List ℕ). l ++ 10 ∷ []) ps (line ∷ []) ∙ ap (λ (t : List ℕ). lines_with_feeds ps ++ t) (append-nil (line ++ 10 ∷ []))
 
-pub fed_length : (ps : List (List ℕ)) (line : List ℕ) → length (fed (ps ++ line ∷ [])) ≡ length (fed ps) + length line + 1
-fed_length ps line = omega (arith, ap length (fed_more ps line), length-append (fed ps) (line ++ 10 ∷ []), length-append line (10 ∷ []))
+pub fed_length : (ps : List (List ℕ)) (line : List ℕ) → length (lines_with_feeds (ps ++ line ∷ [])) ≡ length (lines_with_feeds ps) + length line + 1
+fed_length ps line = omega (arith, ap length (fed_more ps line), length-append (lines_with_feeds ps) (line ++ 10 ∷ []), length-append line (10 ∷ []))
 
-pub fed_first : (line : List ℕ) (ps : List (List ℕ)) → length (fed (line ∷ ps)) ≡ length line + 1 + length (fed ps)
-fed_first line ps = omega (arith, length-append (line ++ 10 ∷ []) (fed ps), length-append line (10 ∷ []))
+pub fed_first : (line : List ℕ) (ps : List (List ℕ)) → length (lines_with_feeds (line ∷ ps)) ≡ length line + 1 + length (lines_with_feeds ps)
+fed_first line ps = omega (arith, length-append (line ++ 10 ∷ []) (lines_with_feeds ps), length-append line (10 ∷ []))
 
 bare_line : (line : List ℕ) → is_line line ≡ true → has_feed line ≡ false
 bare_line line e = not-true (has_feed line) (and_parts (nat_le (length line) 65536) (not (has_feed line)) e).1
@@ -64,24 +64,24 @@ bare_line line e = not-true (has_feed line) (and_parts (nat_le (length line) 655
 -- the text with one more line
 pub record IsMore (old new line : List ℕ) : Type 0 where
   pub lines : parts new ≡ parts old ++ line ∷ []
-  pub closed : new ≡ fed (parts new)
+  pub closed : new ≡ lines_with_feeds (parts new)
 
-pub kept_more : (old new line : List ℕ) → old ≡ fed (parts old) → new ≡ (old ++ line) ++ 10 ∷ [] → is_line line ≡ true → IsMore old new line
+pub kept_more : (old new line : List ℕ) → old ≡ lines_with_feeds (parts old) → new ≡ (old ++ line) ++ 10 ∷ [] → is_line line ≡ true → IsMore old new line
 kept_more old new line closed e l =
-    let text : new ≡ fed (parts old ++ line ∷ []) =
+    let text : new ≡ lines_with_feeds (parts old ++ line ∷ []) =
     e ∙ append_assoc old line (10 ∷ []) ∙ ap (λ (t : List ℕ). t ++ (line ++ 10 ∷ [])) closed ∙ sym (fed_more (parts old) line) in
     let lines : parts new ≡ parts old ++ line ∷ [] = ap parts text ∙ fed_back (parts old ++ line ∷ []) (bare_more (parts old) line (bare_parts old) (bare_line line l)) in
-    record { lines = lines; closed = text ∙ ap fed (sym lines) }
+    record { lines = lines; closed = text ∙ ap lines_with_feeds (sym lines) }
 
 -- WHETHER ONE MORE MAY WAIT
 
 pub waits_few : (early : List (List ℕ)) (line : List ℕ) → may_wait early line ≡ true → length (early ++ line ∷ []) ≤ 250
 waits_few early line w =
-    leb-true (length (early ++ line ∷ [])) 250 (and_parts (nat_le (length (early ++ line ∷ [])) 250) (nat_le (length (fed (early ++ line ∷ []))) 32768) w).0
+    leb-true (length (early ++ line ∷ [])) 250 (and_parts (nat_le (length (early ++ line ∷ [])) 250) (nat_le (length (lines_with_feeds (early ++ line ∷ []))) 32768) w).0
 
-pub waits_short : (early : List (List ℕ)) (line : List ℕ) → may_wait early line ≡ true → length (fed (early ++ line ∷ [])) ≤ 32768
+pub waits_short : (early : List (List ℕ)) (line : List ℕ) → may_wait early line ≡ true → length (lines_with_feeds (early ++ line ∷ [])) ≤ 32768
 waits_short early line w =
-    leb-true (length (fed (early ++ line ∷ []))) 32768 (and_parts (nat_le (length (early ++ line ∷ [])) 250) (nat_le (length (fed (early ++ line ∷ []))) 32768) w).1
+    leb-true (length (lines_with_feeds (early ++ line ∷ []))) 32768 (and_parts (nat_le (length (early ++ line ∷ [])) 250) (nat_le (length (lines_with_feeds (early ++ line ∷ []))) 32768) w).1
 
 lines_more : (early : List (List ℕ)) (line : List ℕ) → AllByRecursion (λ l. is_line l ≡ true) early → is_line line ≡ true → AllByRecursion (λ l. is_line l ≡ true) (early ++ line ∷ [])
 lines_more [] line a e = (e, tt)

@@ -12,12 +12,12 @@ use Rattle.peer_words.proofs.Lengths.{trimmed_length, rest_length}
 use Rattle.cecp_lines.specs.Messages.{IfaceMsg}
 use Rattle.cecp_lines.specs.Messages as says
 use Rattle.cecp_lines.specs.declared.iface.IfaceFault.{IfaceFault}
-use Rattle.cecp_lines.specs.Reading.{Spells, reading, name_at, value_at, is_equals}
+use Rattle.cecp_lines.specs.Reading.{Spells, message_or_fault, name_at, value_at, is_equals}
 use Rattle.cecp_lines.proofs.Spellings.{reading_spells}
 use Rattle.uci_lines.specs.Orders.{Order, order_text}
 use Rattle.option_map.specs.declared.fault.OptionFault.{OptionFault}
-use Rattle.option_map.specs.Settings.{OptionSetting, SettingKind, Check, Spin, Combo, Button, Text, found}
-use Rattle.option_map.specs.Asked.{asked, asked_text, repeated, AreShort, IsRange, HasRange}
+use Rattle.option_map.specs.Settings.{OptionSetting, SettingKind, Check, Spin, Combo, Button, Text, option_by_name}
+use Rattle.option_map.specs.Asked.{asked, asked_text, message_length, AreShort, IsRange, HasRange}
 use Rattle.option_map.specs.Spelled.{AreDeclared, IsSpelled}
 use Rattle.option_map.proofs.Short.{orders_short}
 use Rattle.option_map.proofs.HeardOptions.{IsCount}
@@ -45,8 +45,8 @@ found_range (Some o) u = kind_range o.kind u.kind
 
 declared_short : (os : List OptionSetting) → AreDeclared os → AreShort os
 declared_short os d =
-    orders_short os (found_range (found (codes "Hash") os) (found_usable (codes "Hash") os d))
-    (found_range (found (codes "Threads") os) (found_usable (codes "Threads") os d))
+    orders_short os (found_range (option_by_name (codes "Hash") os) (found_usable (codes "Hash") os d))
+    (found_range (option_by_name (codes "Threads") os) (found_usable (codes "Threads") os d))
 
 abbrev value_length : Option (List ℕ) → ℕ
 value_length None = 0
@@ -58,7 +58,7 @@ split_short (Some at) text =
     omega (arith, trimmed_length (take at text), ap length (take-append-drop at text), length-append (take at text) (drop at text), length-drop at text, length-drop (at + 1) text)
 
 -- what an order repeats of a message is in the line
-repeated_short : (line : List ℕ) (m : IfaceMsg) → Spells line m → repeated m ≤ length line
+repeated_short : (line : List ℕ) (m : IfaceMsg) → Spells line m → message_length m ≤ length line
 repeated_short line (says.SetOption name None) s =
     omega (arith, ap length s.1.1, ap value_length s.1.2, split_short (position is_equals (rest line)) (rest line), rest_length line)
 repeated_short line (says.SetOption name (Some value)) s =
@@ -70,17 +70,17 @@ repeated_short line m s = omega arith
 abbrev pub IsShortFor : List ℕ → Order → Type 0
 IsShortFor line order = length (order_text order) ≤ 64 + length line
 
-short_answer : (line : List ℕ) (m : IfaceMsg) (a : Result (Option Order) OptionFault) → length (asked_text a) ≤ 64 + repeated m → repeated m ≤ length line → IfSome (asked_by a) (IsShortFor line)
+short_answer : (line : List ℕ) (m : IfaceMsg) (a : Result (Option Order) OptionFault) → length (asked_text a) ≤ 64 + message_length m → message_length m ≤ length line → IfSome (asked_by a) (IsShortFor line)
 short_answer line m (Ok None) s r = tt
 short_answer line m (Ok (Some order)) s r = omega (arith, s, r)
 short_answer line m (Err fault) s r = tt
 
-short_reading : (os : List OptionSetting) (line : List ℕ) (r : Result IfaceMsg IfaceFault) → AreDeclared os → reading line ≡ r → IfSome (asked_by (answered_by os r)) (IsShortFor line)
+short_reading : (os : List OptionSetting) (line : List ℕ) (r : Result IfaceMsg IfaceFault) → AreDeclared os → message_or_fault line ≡ r → IfSome (asked_by (answered_by os r)) (IsShortFor line)
 short_reading os line (Ok m) d e = short_answer line m (asked os m) (declared_short os d m) (repeated_short line m (reading_spells line m e))
 short_reading os line (Err fault) d e = tt
 
 pub early_short : (os : List OptionSetting) (line : List ℕ) → AreDeclared os → IfSome (asked_by (early_answer os line)) (IsShortFor line)
-early_short os line d = short_reading os line (reading line) d refl
+early_short os line d = short_reading os line (message_or_fault line) d refl
 
 -- THE ORDERS
 
@@ -89,7 +89,7 @@ spelled_answer a (Ok None) e f = tt
 spelled_answer a (Ok (Some order)) e f = f order e
 spelled_answer a (Err fault) e f = tt
 
-spelled_reading : (os : List OptionSetting) (line : List ℕ) (r : Result IfaceMsg IfaceFault) → AreDeclared os → is_line line ≡ true → reading line ≡ r → IfSome (asked_by (answered_by os r)) (IsSpelled 65700)
+spelled_reading : (os : List OptionSetting) (line : List ℕ) (r : Result IfaceMsg IfaceFault) → AreDeclared os → is_line line ≡ true → message_or_fault line ≡ r → IfSome (asked_by (answered_by os r)) (IsSpelled 65700)
 spelled_reading os line (Ok m) d l e = spelled_answer (asked os m) (asked os m) refl (λ order x. asked_spelled os line m order d l e x)
 spelled_reading os line (Err fault) d l e = tt
 
@@ -106,4 +106,4 @@ pub early_spelled : (os : List OptionSetting) (lines : List (List ℕ)) → AreD
 early_spelled os lines d l = early_all (IsSpelled 65700) os lines (each lines l) where
   each : (lines : List (List ℕ)) → AllByRecursion (λ line. is_line line ≡ true) lines → AllByRecursion (λ line. IfSome (asked_by (early_answer os line)) (IsSpelled 65700)) lines
   each [] l = tt
-  each (line ∷ lines) l = (spelled_reading os line (reading line) d l.0 refl, each lines l.1)
+  each (line ∷ lines) l = (spelled_reading os line (message_or_fault line) d l.0 refl, each lines l.1)

@@ -11,7 +11,7 @@ use Rattle.option_map.specs.declared.fault.OptionFault.TheVariants.{UnknownOptio
 use Rattle.option_map.specs.Settings.{OptionSetting}
 use Rattle.feature_talk.specs.Features.{reply_line, reply_lines}
 use Rattle.desk_rules.specs.declared.desk.Desk.{Desk}
-use Rattle.desk_rules.specs.Early.{fed, AreEarly}
+use Rattle.desk_rules.specs.Early.{lines_with_feeds, AreEarly}
 use Rattle.desk_rules.specs.Lines.{refused_option, early_answer}
 use Rattle.desk_rules.specs.Replies.{early_refusal, early_refusals, list_where, boot_row}
 use Rattle.desk_rules.proofs.Rooms.{lines-one, lines-append}
@@ -31,7 +31,7 @@ refusal_le (Ok order) line = omega arith
 refusal_le (Err UnknownOption) line = unknown_le line
 refusal_le (Err BadValue) line = bad_le line
 
-pub refusals_le : (os : List OptionSetting) (lines : List (List ℕ)) → length (reply_lines (early_refusals os lines)) ≤ length (fed lines) + 64 * length lines
+pub refusals_le : (os : List OptionSetting) (lines : List (List ℕ)) → length (reply_lines (early_refusals os lines)) ≤ length (lines_with_feeds lines) + 64 * length lines
 refusals_le os [] = omega arith
 refusals_le os (line ∷ lines) =
     let first = early_refusal (refused_option (early_answer os line)) line in

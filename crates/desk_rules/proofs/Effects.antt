@@ -11,7 +11,7 @@ use Rattle.peer_words.specs.declared.kinds.GoKind.{GoKind}
 use Rattle.peer_words.specs.declared.kinds.GoKind.TheVariants as kinds
 use Rattle.cecp_lines.specs.Messages.{IfaceMsg}
 use Rattle.cecp_lines.specs.Messages as says
-use Rattle.cecp_lines.specs.Reading.{reading}
+use Rattle.cecp_lines.specs.Reading.{message_or_fault}
 use Rattle.cecp_lines.specs.Replies.{IsWritable}
 use Rattle.cecp_lines.specs.declared.iface.IfaceFault.{IfaceFault}
 use Rattle.cecp_lines.specs.declared.iface.IfaceFault.TheVariants as faults
@@ -34,7 +34,7 @@ use Rattle.desk_rules.specs.declared.effect.Refusal.{Refusal}
 use Rattle.desk_rules.specs.declared.effect.Refusal.TheVariants as refusals
 use Rattle.desk_rules.specs.Desk.{Situation, table, is_full, is_boot, is_getting, is_gone, current}
 use Rattle.desk_rules.specs.Early.{is_setting, may_wait}
-use Rattle.desk_rules.specs.Lines.{verdict, judged, is_early, deferred, refusal, or_else, where_true, illegal_move, move_too_many, no_position, illegal_position, refused_option, needs_engine, lacks_moves, does_not_fit, asks, pings_too_often}
+use Rattle.desk_rules.specs.Lines.{verdict, verdict_on, is_early, early_verdict, refusal, or_else, where_true, illegal_move, move_too_many, no_position, illegal_position, refused_option, needs_engine, lacks_moves, does_not_fit, asks, pings_too_often}
 use Rattle.desk_rules.specs.Steps.{Effect, Nothing, LongLine, Names, Declares, Boots, Readies, Shows, Forfeits, Dies, classify, line_effect, engine_says, answers, shows, thinks}
 use Rattle.desk_rules.specs.Fits.{Fits, IsTellable, IsOther, IsCurrentMove, IsSaid, IsLineEvent}
 
@@ -46,7 +46,7 @@ IsWritten (says.UserMove m) = IsWritable m
 IsWritten m = Unit {0}
 
 -- a move that a line spells can be written
-written : (line : List ℕ) (m : IfaceMsg) → reading line ≡ Ok m → IsWritten m
+written : (line : List ℕ) (m : IfaceMsg) → message_or_fault line ≡ Ok m → IsWritten m
 written line (says.UserMove m) r = move_writable line m (reading_spells line (says.UserMove m) r)
 written line m r = tt
 
@@ -105,8 +105,8 @@ refusal_tells h held m w =
 some_tells : (o : Option Refusal) (r : Refusal) → o ≡ Some r → IfSome o IsTellable → IsTellable r
 some_tells o r e f = let g : IfSome (Some r) IsTellable = subst (λ (x : Option Refusal). IfSome x IsTellable) e f in g
 
-judged_fits : (h : Situation) (held : List Order) (line : List ℕ) (m : IfaceMsg) (r : Option Refusal) → h.closed ≡ false → is_line line ≡ true → reading line ≡ Ok m
-    → refusal h held m ≡ r → Fits h held (line_effect (judged m r) line)
+judged_fits : (h : Situation) (held : List Order) (line : List ℕ) (m : IfaceMsg) (r : Option Refusal) → h.closed ≡ false → is_line line ≡ true → message_or_fault line ≡ Ok m
+    → refusal h held m ≡ r → Fits h held (line_effect (verdict_on m r) line)
 judged_fits h held line m None c l reads e = record { line = line; is_line = l; reads = reads; is_open = c; passes = e }
 judged_fits h held line m (Some r) c l reads e = record { is_open = c; tellable = some_tells (refusal h held m) r e (refusal_tells h held m (written line m reads)); is_line = l }
 
@@ -117,16 +117,16 @@ third true false c e = cc
 third false b c e = cc
 
 deferred_fits : (h : Situation) (held : List Order) (line : List ℕ) (b : Bool) → h.closed ≡ false → is_line line ≡ true → is_boot h.engine ≡ true → may_wait h.desk.early line ≡ b
-    → Fits h held (line_effect (deferred b) line)
+    → Fits h held (line_effect (early_verdict b) line)
 deferred_fits h held line true c l i e = record { is_open = c; in_boot = i; is_line = l; waits = e }
 deferred_fits h held line false c l i e = record { is_open = c; tellable = tt; is_line = l }
 
-early_fits : (h : Situation) (held : List Order) (line : List ℕ) (m : IfaceMsg) (b : Bool) → h.closed ≡ false → is_line line ≡ true → reading line ≡ Ok m → is_early h m ≡ b
-    → Fits h held (line_effect (cond b (deferred (may_wait h.desk.early line)) (judged m (refusal h held m))) line)
+early_fits : (h : Situation) (held : List Order) (line : List ℕ) (m : IfaceMsg) (b : Bool) → h.closed ≡ false → is_line line ≡ true → message_or_fault line ≡ Ok m → is_early h m ≡ b
+    → Fits h held (line_effect (cond b (early_verdict (may_wait h.desk.early line)) (verdict_on m (refusal h held m))) line)
 early_fits h held line m true c l reads e = deferred_fits h held line (may_wait h.desk.early line) c l (third (is_setting m) (is_boot h.engine) h.settings.early_settings e) refl
 early_fits h held line m false c l reads e = judged_fits h held line m (refusal h held m) c l reads refl
 
-line_fits : (h : Situation) (held : List Order) (line : List ℕ) (r : Result IfaceMsg IfaceFault) → h.closed ≡ false → is_line line ≡ true → reading line ≡ r
+line_fits : (h : Situation) (held : List Order) (line : List ℕ) (r : Result IfaceMsg IfaceFault) → h.closed ≡ false → is_line line ≡ true → message_or_fault line ≡ r
     → Fits h held (line_effect (verdict h held line r) line)
 unfolding verdict
 line_fits h held line (Err faults.UnknownCommand) c l e = record { is_open = c; tellable = tt; is_line = l }
@@ -185,7 +185,7 @@ dies_fits h held false e = e
 pub comes_fits : (h : Situation) (held : List Order) (e : Event) → IsLineEvent e → Fits h held (classify h held e)
 unfolding classify
 comes_fits h held (events.Iface line) l =
-    unless_closed h held h.closed (line_effect (verdict h held line (reading line)) line) refl (λ c. line_fits h held line (reading line) c l refl)
+    unless_closed h held h.closed (line_effect (verdict h held line (message_or_fault line)) line) refl (λ c. line_fits h held line (message_or_fault line) c l refl)
 comes_fits h held events.IfaceLong l = unless_closed h held h.closed LongLine refl (λ c. tt)
 comes_fits h held (events.Engine line) l =
     unless_closed h held h.closed (engine_says h (engine_message line)) refl (λ c. says_fits h held line (engine_message line) c l refl)

@@ -16,7 +16,7 @@ use Rattle.desk_rules.specs.declared.desk.Desk.{Desk}
 use Rattle.desk_rules.specs.Desk.{Situation, table, analyses, is_boot, is_gone, ponder_name, analyse_name}
 use Rattle.desk_rules.specs.Lines.{tells, asks_for_mode, asked_by, asks_of, asks, change, at_position}
 use Rattle.desk_rules.specs.Steps.{Effect, Accepts, Boots, desk_after_effect}
-use Rattle.desk_rules.specs.Orders.{asked_by_effect, waiting}
+use Rattle.desk_rules.specs.Orders.{asked_by_effect, orders_waiting}
 use Rattle.desk_rules.specs.Fits.{IsFirst}
 
 abbrev pub IsBoots : Effect → Type 0
@@ -91,7 +91,7 @@ no_table true os e = cc
 no_table false os e = refl
 
 -- what is held after an effect
-pub orders_first : (h : Situation) (held : List Order) (d : Effect) → (IsBoots d → ⊥) → h.desk.booted ≡ false → IsFirst held → IsFirst (waiting h held d)
+pub orders_first : (h : Situation) (held : List Order) (d : Effect) → (IsBoots d → ⊥) → h.desk.booted ≡ false → IsFirst held → IsFirst (orders_waiting h held d)
 unfolding asked_by_effect
 orders_first h held (Accepts m) n b f = order_first held (asks (is_gone h.engine) h.desk m) f (asks_first (is_gone h.engine) h.desk m (no_table h.desk.booted h.desk.options b))
 orders_first h held Boots n b f = absurd (n tt)

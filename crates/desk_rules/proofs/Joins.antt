@@ -12,7 +12,7 @@ use Rattle.option_map.proofs.KeptOrders.{batch_first, batch_last}
 use Rattle.option_map.proofs.Asking.{switches_spelled}
 use Rattle.desk_rules.specs.declared.desk.Desk.{Desk}
 use Rattle.desk_rules.specs.Desk.{Situation, analyses, is_gone, ponder_name, analyse_name}
-use Rattle.desk_rules.specs.Early.{fed}
+use Rattle.desk_rules.specs.Early.{lines_with_feeds}
 use Rattle.desk_rules.specs.Lines.{switches, tells, asks, asked_by, does_not_fit, early_answer}
 use Rattle.desk_rules.specs.Steps.{Effect, Accepts, Boots}
 use Rattle.desk_rules.specs.Orders.{ponder_at_boot, analysis_at_boot, early_orders, asked_at_boot, asked_by_effect, AllJoin}
@@ -98,33 +98,33 @@ parts_join held [] ys a = (tt, a)
 parts_join held (x ∷ xs) ys a = let p = parts_join (with_order held x) xs ys a.1 in ((a.0, p.0), p.1)
 
 -- the orders of early lines join
-early_join : (os : List OptionSetting) (lines : List (List ℕ)) (n b : ℕ) (held : List Order) → AreDeclared os → n + length lines ≤ 255 → b + (length (fed lines) + 64 * length lines) ≤ 65000 → AreFew n b held
-    → Join (n + length lines) (b + (length (fed lines) + 64 * length lines)) held (early_orders os lines)
+early_join : (os : List OptionSetting) (lines : List (List ℕ)) (n b : ℕ) (held : List Order) → AreDeclared os → n + length lines ≤ 255 → b + (length (lines_with_feeds lines) + 64 * length lines) ≤ 65000 → AreFew n b held
+    → Join (n + length lines) (b + (length (lines_with_feeds lines) + 64 * length lines)) held (early_orders os lines)
 early_join os [] n b held d m l f = record { join = tt; few = wider_few n b (n + 0) (b + (0 + 64 * 0)) held (omega arith) (omega arith) f }
 early_join os (line ∷ lines) n b held d m l f = by_order (asked_by (early_answer os line)) (early_short os line d) (λ k c later m' l' f'. early_join os lines k c later d m' l' f') where
   by_order : (o : Option Order) → IfSome o (IsShortFor line)
-      → ((k c : ℕ) (later : List Order) → k + length lines ≤ 255 → c + (length (fed lines) + 64 * length lines) ≤ 65000 → AreFew k c later
-      → Join (k + length lines) (c + (length (fed lines) + 64 * length lines)) later (early_orders os lines))
-      → Join (n + length (line ∷ lines)) (b + (length (fed (line ∷ lines)) + 64 * length (line ∷ lines))) held (option_to_list o ++ early_orders os lines)
+      → ((k c : ℕ) (later : List Order) → k + length lines ≤ 255 → c + (length (lines_with_feeds lines) + 64 * length lines) ≤ 65000 → AreFew k c later
+      → Join (k + length lines) (c + (length (lines_with_feeds lines) + 64 * length lines)) later (early_orders os lines))
+      → Join (n + length (line ∷ lines)) (b + (length (lines_with_feeds (line ∷ lines)) + 64 * length (line ∷ lines))) held (option_to_list o ++ early_orders os lines)
   by_order None s joins =
       let j = joins n b held (omega (arith, m)) (omega (arith, l, fed_first line lines)) f in
       record {
         join = j.join;
-        few = wider_few (n + length lines) (b + (length (fed lines) + 64 * length lines)) _ _ (with_orders held (early_orders os lines)) (omega arith) (omega (arith, fed_first line lines)) j.few;
+        few = wider_few (n + length lines) (b + (length (lines_with_feeds lines) + 64 * length lines)) _ _ (with_orders held (early_orders os lines)) (omega arith) (omega (arith, fed_first line lines)) j.few;
       }
   by_order (Some order) s joins =
       let c = b + (length (order_text order) + 1) in
       let j = joins (n + 1) c (with_order held order) (omega (arith, m)) (omega (arith, l, s, fed_first line lines)) (joined_few n b held order f) in
       record {
         join = (few_join n b held order (omega (arith, m)) (omega (arith, l, s, fed_first line lines)) f, j.join);
-        few = wider_few (n + 1 + length lines) (c + (length (fed lines) + 64 * length lines)) _ _ (with_orders held (order ∷ early_orders os lines)) (omega arith) (omega (arith, s, fed_first line lines)) j.few;
+        few = wider_few (n + 1 + length lines) (c + (length (lines_with_feeds lines) + 64 * length lines)) _ _ (with_orders held (order ∷ early_orders os lines)) (omega arith) (omega (arith, s, fed_first line lines)) j.few;
       }
 
 -- what is asked for when Boot is left joins
 boot_join : (d : Desk) (held : List Order) → IsSound d → AreFew 1 300 held → AllJoin held (asked_at_boot d)
 boot_join d held s f =
     let early = early_join d.options d.early 1 300 held s.options (omega (arith, s.early.few)) (omega (arith, s.early.few, s.early.short)) f in
-    let few = wider_few (1 + length d.early) (300 + (length (fed d.early) + 64 * length d.early)) 251 50000 (with_orders held (early_orders d.options d.early)) (omega (arith, s.early.few)) (omega (arith, s.early.few, s.early.short)) early.few in
+    let few = wider_few (1 + length d.early) (300 + (length (lines_with_feeds d.early) + 64 * length d.early)) 251 50000 (with_orders held (early_orders d.options d.early)) (omega (arith, s.early.few)) (omega (arith, s.early.few, s.early.short)) early.few in
     let one = one_joins 251 50000 (with_orders held (early_orders d.options d.early)) (ponder_at_boot d) (omega arith) (omega arith) few (ponder_spelled d s.options) in
     let front = early_orders d.options d.early ++ option_to_list (ponder_at_boot d) in
     let few' : AreFew 252 50201 (with_orders held front) =

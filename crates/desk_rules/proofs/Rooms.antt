@@ -9,7 +9,7 @@ use Rattle.line_io.specs.Out.{Text, with}
 use Rattle.chess_board.specs.Position.{Position}
 use Rattle.cecp_lines.specs.declared.reply.Spelling.{Spelling}
 use Rattle.cecp_lines.specs.declared.reply.Spelling.TheVariants.{Coordinates, San}
-use Rattle.cecp_lines.specs.Replies.{Reply, Pong, Fits, borrowed, reply_text}
+use Rattle.cecp_lines.specs.Replies.{Reply, Pong, Fits, borrowed_length, reply_text}
 use Rattle.cecp_lines.proofs.Lengths.{told_short}
 use Rattle.uci_lines.specs.Info.{Info as AnyInfo}
 use Rattle.uci_lines.specs.Messages.{Info}
@@ -37,7 +37,7 @@ lines-append [] us = refl
 lines-append (t ∷ ts) us = ap (λ l. reply_line t ++ l) (lines-append ts us) ∙ sym (append_assoc (reply_line t) (reply_lines ts) (reply_lines us))
 
 -- a reply that borrows nothing
-pub brief_le : (t : Reply) → Fits t → borrowed t ≡ 0 → length (reply_line t) ≤ 129
+pub brief_le : (t : Reply) → Fits t → borrowed_length t ≡ 0 → length (reply_line t) ≤ 129
 brief_le t f b = omega (arith, told_short t f, b, length-append (reply_text t) (10 ∷ []))
 
 -- as much as a line, and as its list

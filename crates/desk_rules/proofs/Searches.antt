@@ -4,18 +4,18 @@ use Rattle.std.specs.Prelude.{codes, IfSome}
 use Rattle.std.specs.List.{join_with_byte}
 use Rattle.std.specs.Option.{option_map}
 use Rattle.chess_board.specs.Position.{Position}
-use Rattle.fen_text.specs.Written.{written}
+use Rattle.fen_text.specs.Written.{position_fen}
 use Rattle.uci_lines.specs.Orders.{order_text}
 use Rattle.uci_lines.specs.Orders as orders
 use Rattle.game_record.specs.Game.{Ply, Game, ply_of, now_of, with_ply, IsPlayable}
-use Rattle.game_record.specs.Line.{ply_text, spaced, is_standard, start_text, moves_text, position_text}
+use Rattle.game_record.specs.Line.{ply_text, spaced_plies, is_standard, start_text, moves_text, position_text}
 use Rattle.game_record.proofs.Lines.{told_none}
 use Rattle.search_epochs.specs.declared.words.Call.{Call}
 use Rattle.search_epochs.specs.declared.words.Call.TheVariants as calls
 use Rattle.desk_rules.specs.Orders.{position_order, pondered, searched}
 use Rattle.desk_rules.specs.Fits.{CanSearch}
 
-joined_moves : (m : Ply) (ms : List Ply) → join_with_byte 32 (map ply_text (m ∷ ms)) ≡ ply_text m ++ spaced ms
+joined_moves : (m : Ply) (ms : List Ply) → join_with_byte 32 (map ply_text (m ∷ ms)) ≡ ply_text m ++ spaced_plies ms
 joined_moves m [] = sym (append-nil (ply_text m))
 joined_moves m (n ∷ ms) = ap (λ (t : List ℕ). ply_text m ++ (32 ∷ t)) (joined_moves n ms)
 
@@ -23,7 +23,7 @@ moves_same : (ms : List Ply) → orders.moves_text (join_with_byte 32 (map ply_t
 moves_same [] = refl
 moves_same (m ∷ ms) = ap orders.moves_text (joined_moves m ms) ∙ sym (told_none (m ∷ ms) (omega arith)) ∙ ap moves_text (append-nil (m ∷ ms))
 
-start_same : (p : Position) (b : Bool) → orders.start_text (cond b None (Some (written p))) ≡ cond b (codes "startpos") (codes "fen " ++ written p)
+start_same : (p : Position) (b : Bool) → orders.start_text (cond b None (Some (position_fen p))) ≡ cond b (codes "startpos") (codes "fen " ++ position_fen p)
 start_same p true = refl
 start_same p false = refl
 

@@ -2,7 +2,7 @@
 use Rattle.std.proofs.Common.{◌≡◌, Result, Ok, Err, Option, None, Some, refl}
 use Rattle.chess_board.specs.Position.{Position}
 use Rattle.fen_text.specs.declared.fault.FenFault.{FenFault}
-use Rattle.game_record.specs.Game.{begun}
+use Rattle.game_record.specs.Game.{game_from}
 use Rattle.desk_rules.specs.declared.effect.Refusal.{Refusal}
 use Rattle.desk_rules.specs.declared.effect.Refusal.TheVariants as refusals
 use Rattle.desk_rules.specs.declared.desk.Desk.{Desk}
@@ -16,7 +16,7 @@ pub some_start : (r : Result Position FenFault) (p : Position) → Some p ≡ sp
 some_start (Ok p) q e = refl
 some_start (Err fault) q e = cc
 
-pub placed : (d : Desk) (r : Result Position FenFault) (p : Position) → Some p ≡ spelled r → at_position d r ≡ with_game d (begun p)
+pub placed : (d : Desk) (r : Result Position FenFault) (p : Position) → Some p ≡ spelled r → at_position d r ≡ with_game d (game_from p)
 placed d (Ok p) q e = cc
 placed d (Err fault) q e = cc
 

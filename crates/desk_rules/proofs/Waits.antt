@@ -5,7 +5,7 @@ use Rattle.std.specs.Option.{option_to_list, option_map}
 use Rattle.line_io.specs.Event.{is_line}
 use Rattle.cecp_lines.specs.Messages.{IfaceMsg}
 use Rattle.cecp_lines.specs.Messages as says
-use Rattle.cecp_lines.specs.Reading.{reading}
+use Rattle.cecp_lines.specs.Reading.{message_or_fault}
 use Rattle.uci_lines.specs.Written.{is_text}
 use Rattle.uci_lines.specs.Orders.{Order}
 use Rattle.uci_lines.specs.Orders as orders
@@ -17,7 +17,7 @@ use Rattle.option_map.specs.Shown.{check_named}
 use Rattle.option_map.specs.Asked.{asked}
 use Rattle.option_map.specs.Held.{IsLine}
 use Rattle.option_map.specs.Spelled.{AreDeclared}
-use Rattle.option_map.specs.Settings.{OptionSetting, SettingKind, Spin, Text, found}
+use Rattle.option_map.specs.Settings.{OptionSetting, SettingKind, Spin, Text, option_by_name}
 use Rattle.option_map.specs.Asked.{set_found, set_by, set_to, value_by, is_button, clamped, clamped_by, path_for, path_by}
 use Rattle.option_map.proofs.Orders.{all_stay}
 use Rattle.option_map.proofs.Asking.{asked_spelled, switches_spelled}
@@ -28,7 +28,7 @@ use Rattle.cecp_lines.specs.declared.iface.IfaceFault.{IfaceFault}
 use Rattle.desk_rules.specs.Lines.{switch_text, switches, tells, asks_for_mode, asked_by, asks_of, asks, answered_by, early_answer}
 use Rattle.desk_rules.proofs.EarlyOrders.{early_all}
 use Rattle.desk_rules.specs.Steps.{Effect, Accepts, Boots}
-use Rattle.desk_rules.specs.Orders.{ponder_at_boot, analysis_at_boot, early_orders, asked_by_effect, waiting, word_of, IsHeld, AreHeld}
+use Rattle.desk_rules.specs.Orders.{ponder_at_boot, analysis_at_boot, early_orders, asked_by_effect, orders_waiting, word_of, IsHeld, AreHeld}
 use Rattle.desk_rules.specs.Fits.{Fits, IsSound}
 
 -- SETTINGS
@@ -80,10 +80,10 @@ where_some P true o h = h
 where_some P false o h = tt
 
 asked_sets : (os : List OptionSetting) (m : IfaceMsg) → IfSome (asked_by (asked os m)) IsSetting
-asked_sets os (says.SetOption name value) = set_named (found name os) value
-asked_sets os (says.Memory n) = set_number (found (codes "Hash") os) n
-asked_sets os (says.Cores n) = set_number (found (codes "Threads") os) n
-asked_sets os (says.EgtPath kind path) = where_some IsSetting (same_text (codes "nalimov") kind) (path_for (found (codes "NalimovPath") os) path) (set_path (found (codes "NalimovPath") os) path)
+asked_sets os (says.SetOption name value) = set_named (option_by_name name os) value
+asked_sets os (says.Memory n) = set_number (option_by_name (codes "Hash") os) n
+asked_sets os (says.Cores n) = set_number (option_by_name (codes "Threads") os) n
+asked_sets os (says.EgtPath kind path) = where_some IsSetting (same_text (codes "nalimov") kind) (path_for (option_by_name (codes "NalimovPath") os) path) (set_path (option_by_name (codes "NalimovPath") os) path)
 asked_sets os m = tt
 
 setting_held : (o : Order) → IsSetting o → is_order o ≡ true → IsHeld o
@@ -118,14 +118,14 @@ mode_held os true false d = told_held os analyse_name false d
 mode_held os true true d = tt
 mode_held os false false d = tt
 
-set_held : (os : List OptionSetting) (line : List ℕ) (m : IfaceMsg) → AreDeclared os → is_line line ≡ true → reading line ≡ Ok m → IfSome (asked_by (asked os m)) IsHeld
+set_held : (os : List OptionSetting) (line : List ℕ) (m : IfaceMsg) → AreDeclared os → is_line line ≡ true → message_or_fault line ≡ Ok m → IfSome (asked_by (asked os m)) IsHeld
 set_held os line m d l r = by_answer (asked os m) refl (asked_sets os m) where
   by_answer : (a : Result (Option Order) OptionFault) → asked os m ≡ a → IfSome (asked_by a) IsSetting → IfSome (asked_by a) IsHeld
   by_answer (Ok None) e s = tt
   by_answer (Ok (Some order)) e s = setting_held order s (asked_spelled os line m order d l r e).fits
   by_answer (Err fault) e s = tt
 
-desk_held : (d : Desk) (line : List ℕ) (m : IfaceMsg) → AreDeclared (table d) → is_line line ≡ true → reading line ≡ Ok m → IfSome (asks_of d m) IsHeld
+desk_held : (d : Desk) (line : List ℕ) (m : IfaceMsg) → AreDeclared (table d) → is_line line ≡ true → message_or_fault line ≡ Ok m → IfSome (asks_of d m) IsHeld
 desk_held d line says.New o l r = tt
 desk_held d line says.Force o l r = mode_held (table d) (analyses d.mode) false o
 desk_held d line says.Go o l r = mode_held (table d) (analyses d.mode) false o
@@ -145,7 +145,7 @@ gone_held : (gone : Bool) (o : Option Order) → IfSome o IsHeld → IfSome (con
 gone_held true o h = tt
 gone_held false o h = h
 
-asks_held : (gone : Bool) (d : Desk) (line : List ℕ) (m : IfaceMsg) → AreDeclared d.options → is_line line ≡ true → reading line ≡ Ok m → IfSome (asks gone d m) IsHeld
+asks_held : (gone : Bool) (d : Desk) (line : List ℕ) (m : IfaceMsg) → AreDeclared d.options → is_line line ≡ true → message_or_fault line ≡ Ok m → IfSome (asks gone d m) IsHeld
 unfolding asks
 asks_held gone d line m o l r = gone_held gone (asks_of d m) (desk_held d line m (table_declared d.booted d.options o) l r)
 
@@ -162,7 +162,7 @@ both_held (x ∷ xs) ys f g = (f.0, both_held xs ys f.1 g)
 three_held : (xs : List Order) (a b : Option Order) → AreHeld xs → IfSome a IsHeld → IfSome b IsHeld → AreHeld (xs ++ option_to_list a ++ option_to_list b)
 three_held xs a b f g h = both_held (xs ++ option_to_list a) (option_to_list b) (both_held xs (option_to_list a) f (one_held a g)) (one_held b h)
 
-early_answer_held : (os : List OptionSetting) (line : List ℕ) (r : Result IfaceMsg IfaceFault) → AreDeclared os → is_line line ≡ true → reading line ≡ r → IfSome (asked_by (answered_by os r)) IsHeld
+early_answer_held : (os : List OptionSetting) (line : List ℕ) (r : Result IfaceMsg IfaceFault) → AreDeclared os → is_line line ≡ true → message_or_fault line ≡ r → IfSome (asked_by (answered_by os r)) IsHeld
 early_answer_held os line (Ok m) d l e = set_held os line m d l e
 early_answer_held os line (Err fault) d l e = tt
 
@@ -170,7 +170,7 @@ early_held : (os : List OptionSetting) (lines : List (List ℕ)) → AreDeclared
 early_held os lines d l = early_all IsHeld os lines (each lines l) where
   each : (lines : List (List ℕ)) → AllByRecursion (λ line. is_line line ≡ true) lines → AllByRecursion (λ line. IfSome (asked_by (early_answer os line)) IsHeld) lines
   each [] l = tt
-  each (line ∷ lines) l = (early_answer_held os line (reading line) d l.0 refl, each lines l.1)
+  each (line ∷ lines) l = (early_answer_held os line (message_or_fault line) d l.0 refl, each lines l.1)
 
 -- what an effect asks may be held
 pub asked_held : (h : Situation) (held : List Order) (d : Effect) → IsSound h.desk → Fits h held d → AreHeld (asked_by_effect h d)
@@ -183,7 +183,7 @@ asked_held h held Boots s f =
 asked_held h held d s f = tt
 
 -- what waits after an effect may be held
-pub all_held : (h : Situation) (held : List Order) (d : Effect) → IsSound h.desk → Fits h held d → AreHeld held → AreHeld (waiting h held d)
+pub all_held : (h : Situation) (held : List Order) (d : Effect) → IsSound h.desk → Fits h held d → AreHeld held → AreHeld (orders_waiting h held d)
 all_held h held d s f a = all_stay IsHeld held (asked_by_effect h d) a (asked_held h held d s f)
 
 held_word : (o : Order) (ws : List Word) → IsHeld o → AllSetup ws → AllSetup (word_of o ∷ ws)

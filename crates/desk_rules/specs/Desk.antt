@@ -10,7 +10,7 @@ use Rattle.peer_words.specs.declared.kinds.GoKind.{GoKind}
 use Rattle.game_record.specs.declared.game.TheConstants.{MOST_PLIES}
 use Rattle.game_record.specs.declared.ending.GameEnd.{GameEnd}
 use Rattle.game_record.specs.declared.ending.GameEnd.TheVariants as ends
-use Rattle.game_record.specs.Game.{Game, ply_of, begun, with_ply, now_of}
+use Rattle.game_record.specs.Game.{Game, ply_of, game_from, with_ply, now_of}
 use Rattle.game_record.specs.Ending.{has_legal, ended_of}
 use Rattle.clock_map.specs.Clocks.{first_clocks}
 use Rattle.think_text.specs.Kept.{nothing_seen}
@@ -31,7 +31,7 @@ use Rattle.desk_rules.specs.declared.effect.Context.{Context}
 -- the standard start, the engine plays Black, no pondering, five minutes for the game
 abbrev pub opening_desk : Desk
 opening_desk = record {
-  game = begun start_position;
+  game = game_from start_position;
   mode = modes.Plays Black;
   post = false;
   pondering = false;

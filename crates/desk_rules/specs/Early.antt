@@ -17,21 +17,21 @@ is_setting (says.EgtPath kind path) = true
 is_setting m = false
 
 -- lines with a line feed each
-abbrev pub fed : List (List ℕ) → List ℕ
-fed lines = flat_map (λ line. line ++ line_feed ∷ []) lines
+abbrev pub lines_with_feeds : List (List ℕ) → List ℕ
+lines_with_feeds lines = flat_map (λ line. line ++ line_feed ∷ []) lines
 
 -- one more line may wait, after those that do
 abbrev pub may_wait : List (List ℕ) → List ℕ → Bool
-may_wait early line = nat_le (length (early ++ line ∷ [])) MOST_EARLY && nat_le (length (fed (early ++ line ∷ []))) EARLY_BYTES
+may_wait early line = nat_le (length (early ++ line ∷ [])) MOST_EARLY && nat_le (length (lines_with_feeds (early ++ line ∷ []))) EARLY_BYTES
 
 -- what holds of the lines that wait
 pub record AreEarly (early : List (List ℕ)) : Type 0 where
   pub lines : AllByRecursion (λ line. is_line line ≡ true) early
   pub few : length early ≤ MOST_EARLY
-  pub short : length (fed early) ≤ EARLY_BYTES
+  pub short : length (lines_with_feeds early) ≤ EARLY_BYTES
 
 -- what holds of the text of the lines, and of their number
 pub record IsKept (texts : Text) (n : ℕ) : Type 0 where
-  pub closed : texts.text ≡ fed (parts texts.text)
+  pub closed : texts.text ≡ lines_with_feeds (parts texts.text)
   pub count : n ≡ length (parts texts.text)
   pub room : texts.room ≡ EARLY_BYTES

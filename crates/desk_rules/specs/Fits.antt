@@ -7,7 +7,7 @@ use Rattle.peer_words.specs.declared.kinds.GoKind.{GoKind}
 use Rattle.peer_words.specs.declared.kinds.GoKind.TheVariants as kinds
 use Rattle.cecp_lines.specs.Messages.{IfaceMsg}
 use Rattle.cecp_lines.specs.Messages as says
-use Rattle.cecp_lines.specs.Reading.{reading}
+use Rattle.cecp_lines.specs.Reading.{message_or_fault}
 use Rattle.cecp_lines.specs.Replies.{IsWritable}
 use Rattle.uci_lines.specs.Info.{Info}
 use Rattle.uci_lines.specs.Messages.{EngineMsg, OptionKind}
@@ -64,13 +64,13 @@ IsTellable refusals.IllegalPosition = Unit {0}
 pub record IsRead (m : IfaceMsg) : Type 0 where
   pub line : List ℕ
   pub is_line : is_line line ≡ true
-  pub reads : reading line ≡ Ok m
+  pub reads : message_or_fault line ≡ Ok m
 
 -- the line of an accepted message
 pub record IsAccepted (h : Situation) (held : List Order) (m : IfaceMsg) : Type 0 where
   pub line : List ℕ
   pub is_line : is_line line ≡ true
-  pub reads : reading line ≡ Ok m
+  pub reads : message_or_fault line ≡ Ok m
   pub is_open : h.closed ≡ false
   pub passes : refusal h held m ≡ None
 

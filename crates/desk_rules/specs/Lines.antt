@@ -9,14 +9,14 @@ use Rattle.fen_text.specs.declared.fault.FenFault.{FenFault}
 use Rattle.fen_text.specs.Fen.{position_of}
 use Rattle.cecp_lines.specs.Messages.{IfaceMsg}
 use Rattle.cecp_lines.specs.Messages as says
-use Rattle.cecp_lines.specs.Reading.{reading}
+use Rattle.cecp_lines.specs.Reading.{message_or_fault}
 use Rattle.cecp_lines.specs.declared.iface.IfaceFault.{IfaceFault}
 use Rattle.cecp_lines.specs.declared.iface.IfaceFault.TheVariants as faults
 use Rattle.cecp_lines.specs.declared.reply.Reason.{Reason}
 use Rattle.cecp_lines.specs.declared.reply.Reason.TheVariants as reasons
 use Rattle.uci_lines.specs.Orders.{Order}
 use Rattle.uci_lines.specs.Orders as orders
-use Rattle.game_record.specs.Game.{Game, begun, now_of, without_last}
+use Rattle.game_record.specs.Game.{Game, game_from, now_of, without_last}
 use Rattle.clock_map.specs.Clocks.{after_message, after_new}
 use Rattle.option_map.specs.declared.fault.OptionFault.{OptionFault}
 use Rattle.option_map.specs.declared.fault.OptionFault.TheVariants.{UnknownOption, BadValue}
@@ -157,19 +157,19 @@ pub data Verdict : Type 0 where
   Accepted : IfaceMsg → Verdict
   Early : Verdict
 
-abbrev pub judged : IfaceMsg → Option Refusal → Verdict
-judged m None = Accepted m
-judged m (Some r) = Refused r
+abbrev pub verdict_on : IfaceMsg → Option Refusal → Verdict
+verdict_on m None = Accepted m
+verdict_on m (Some r) = Refused r
 
 -- an early line waits, unless too many do
-abbrev pub deferred : Bool → Verdict
-deferred fits = if fits then Early else Refused (refusals.Because reasons.TooManySettings)
+abbrev pub early_verdict : Bool → Verdict
+early_verdict fits = if fits then Early else Refused (refusals.Because reasons.TooManySettings)
 
 -- of a line, by what is read of it
 unfoldable pub verdict : Situation → List Order → List ℕ → Answer IfaceMsg IfaceFault → Verdict
 verdict h held line (Err faults.UnknownCommand) = Refused (refusals.Because reasons.UnknownCommand)
 verdict h held line (Err faults.BadArgument) = Refused (refusals.Because reasons.BadArgument)
-verdict h held line (Ok m) = if is_early h m then deferred (may_wait h.desk.early line) else judged m (refusal h held m)
+verdict h held line (Ok m) = if is_early h m then early_verdict (may_wait h.desk.early line) else verdict_on m (refusal h held m)
 
 -- what the options answer to an early line, once they are declared
 abbrev pub answered_by : List OptionSetting → Answer IfaceMsg IfaceFault → Answer (Option Order) OptionFault
@@ -177,7 +177,7 @@ answered_by os (Ok m) = asked os m
 answered_by os (Err fault) = Ok None
 
 abbrev pub early_answer : List OptionSetting → List ℕ → Answer (Option Order) OptionFault
-early_answer os line = answered_by os (reading line)
+early_answer os line = answered_by os (message_or_fault line)
 
 -- EPOCH LINES
 
@@ -222,12 +222,12 @@ abbrev pub with_game : Desk → Game → Desk
 with_game d g = record d { game = g; hint = None }
 
 abbrev pub at_position : Desk → Answer Position FenFault → Desk
-at_position d (Ok p) = with_game d (begun p)
+at_position d (Ok p) = with_game d (game_from p)
 at_position d (Err fault) = d
 
 unfoldable pub change : Bool → Desk → IfaceMsg → Desk
 change boot d (says.Protover n) = record d { due = due_after boot d.due }
-change boot d says.New = record d { game = begun start_position; hint = None; mode = new_mode d.mode; clocks = after_new d.clocks }
+change boot d says.New = record d { game = game_from start_position; hint = None; mode = new_mode d.mode; clocks = after_new d.clocks }
 change boot d says.Force = record d { mode = modes.Force }
 change boot d says.Go = record d { mode = modes.Plays (on_move d.game) }
 change boot d says.PlayOther = record d { mode = modes.Plays (other (on_move d.game)) }

@@ -6,7 +6,7 @@ use Rattle.chess_board.specs.declared.board.Move.{Move}
 use Rattle.chess_board.specs.Position.{Position}
 use Rattle.peer_words.specs.declared.kinds.GoKind.{GoKind}
 use Rattle.peer_words.specs.declared.kinds.GoKind.TheVariants as kinds
-use Rattle.fen_text.specs.Written.{written}
+use Rattle.fen_text.specs.Written.{position_fen}
 use Rattle.uci_lines.specs.declared.orders.GoControl.{GoControl}
 use Rattle.uci_lines.specs.declared.orders.GoControl.TheVariants.{Infinite}
 use Rattle.uci_lines.specs.Orders.{Order}
@@ -65,8 +65,8 @@ orders_asked (asks.One order) = option_to_list (option_map setup_seen order)
 orders_asked (asks.AtBoot desk) = asked_at_boot desk.now
 
 -- the orders that wait after an event
-abbrev pub waiting : Situation → List Order → Effect → List Order
-waiting h held d = with_orders held (asked_by_effect h d)
+abbrev pub orders_waiting : Situation → List Order → Effect → List Order
+orders_waiting h held d = with_orders held (asked_by_effect h d)
 
 -- the orders may join one after the other
 abbrev pub AllJoin : List Order → List Order → Type 0
@@ -86,7 +86,7 @@ AreHeld os = AllByRecursion IsHeld os
 
 -- the start of a game: none for the standard start
 abbrev pub start_of : Position → Option (List ℕ)
-start_of p = if is_standard p then None else Some (written p)
+start_of p = if is_standard p then None else Some (position_fen p)
 
 -- the position of a game: its start, and its moves with one blank between
 abbrev pub position_order : Game → Order

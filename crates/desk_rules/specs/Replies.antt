@@ -136,8 +136,8 @@ abbrev pub resign_where : Bool → List Reply
 resign_where b = if b then told.Resign ∷ [] else []
 
 -- a thinking line, if it is shown
-abbrev pub thought : Situation → GoKind → Info → List Reply
-thought h k facts =
+abbrev pub thinking_replies : Situation → GoKind → Info → List Reply
+thinking_replies h k facts =
     if is_told h k then
     option_to_list
     (thinking_line (spelling_of h.settings) facts (now_of (searched_by k h.desk.game h.desk.hint)) (named_hint k h.desk.game h.desk.hint))
@@ -170,7 +170,7 @@ row h (Refuses refusal line) = refused refusal line ∷ []
 row h LongLine = told.Error reasons.LineTooLong dots ∷ []
 row h (Accepts m) = row_accepted h m
 row h Boots = boot_row h.desk
-row h (Thinks k facts) = thought h k facts
+row h (Thinks k facts) = thinking_replies h k facts
 row h (Shows best hint) = shown_row h best
 row h Forfeits = told.TellError tell.Move ∷ told.Resign ∷ []
 row h Dies = end_row h

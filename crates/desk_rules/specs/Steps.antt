@@ -9,7 +9,7 @@ use Rattle.peer_words.specs.declared.kinds.GoKind.{GoKind}
 use Rattle.peer_words.specs.declared.kinds.GoKind.TheVariants as kinds
 use Rattle.cecp_lines.specs.Messages.{IfaceMsg, message_of}
 use Rattle.cecp_lines.specs.Messages as says
-use Rattle.cecp_lines.specs.Reading.{reading}
+use Rattle.cecp_lines.specs.Reading.{message_or_fault}
 use Rattle.cecp_lines.specs.Quit.{is_quit}
 use Rattle.uci_lines.specs.Orders.{Order}
 use Rattle.uci_lines.specs.Info.{Info, info_of}
@@ -109,7 +109,7 @@ dies e = if is_gone e then Nothing else Dies
 -- The held orders say only whether what a line asks for fits.
 unfoldable pub classify : Situation → List Order → Event → Effect
 classify h held events.Open = Opens
-classify h held (events.Iface line) = if h.closed then Nothing else line_effect (verdict h held line (reading line)) line
+classify h held (events.Iface line) = if h.closed then Nothing else line_effect (verdict h held line (message_or_fault line)) line
 classify h held events.IfaceLong = if h.closed then Nothing else LongLine
 classify h held events.IfaceEnd = Nothing
 classify h held events.IfaceLost = Nothing

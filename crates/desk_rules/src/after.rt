@@ -13,7 +13,7 @@ ghost use Rattle.feature_talk.specs.Features.{reply_lines};
 ghost use Rattle.desk_rules.specs.Desk.{at, is_boot};
 ghost use Rattle.desk_rules.specs.Lines.{set_up, change};
 ghost use Rattle.desk_rules.specs.Steps.{effect_of, starts_from, hint_after, searched_by, resigns_at_end, owes_when_gone, over_where, desk_with_move, desk_after_effect, answers_pings};
-ghost use Rattle.desk_rules.specs.Replies.{row_accepted, resign_where, thought, shown_row, boot_row, end_row, row, pongs};
+ghost use Rattle.desk_rules.specs.Replies.{row_accepted, resign_where, thinking_replies, shown_row, boot_row, end_row, row, pongs};
 ghost use Rattle.desk_rules.specs.Early.{AreEarly};
 ghost use Rattle.desk_rules.specs.Fits.{IsHintPlayable, IsSound, IsFit, IsServed, IsSaid, CanChange};
 ghost use Rattle.desk_rules.specs.declared.sizes.TheConstants.{BOOT_REPLIES, ENGINE_END, FEATURE_LIST, OBEYED, SHORT_REPLY, STEP_REPLIES, SHOWN_MOVE, THINKING_LINE};
@@ -134,8 +134,10 @@ impl Desk {
                   (now_of (searched_by kind self.old.game self.old.hint));
             } }
         ensures lines { out.new
-            ≡ with out.old (reply_lines (thought (at context self.old) kind (info_of info.now))) }
-        ensures short { length (reply_lines (thought (at context self.old) kind (info_of info.now)))
+            ≡ with out.old (reply_lines
+            (thinking_replies (at context self.old) kind (info_of info.now))) }
+        ensures short { length (reply_lines
+            (thinking_replies (at context self.old) kind (info_of info.now)))
             ≤ THINKING_LINE }
     {
         let position = self.searched(kind);

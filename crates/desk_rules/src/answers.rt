@@ -3,7 +3,7 @@ ghost use Rattle.std.specs.Prelude.{◌≡◌, ◌+◌, ◌*◌, ◌≤◌, ◌�
 ghost use Rattle.std.specs.Option.{option_to_list};
 ghost use Rattle.line_io.specs.Out.{with};
 ghost use Rattle.cecp_lines.specs.Messages.{message_of};
-ghost use Rattle.cecp_lines.specs.Replies.{reply_of, HasWritableMoves, IsWritable, borrowed, Fits as HasNumbers};
+ghost use Rattle.cecp_lines.specs.Replies.{reply_of, HasWritableMoves, IsWritable, borrowed_length, Fits as HasNumbers};
 ghost use Rattle.cecp_lines.specs.Replies as told;
 ghost use Rattle.cecp_lines.specs.declared.reply.UserError.TheVariants as tell;
 ghost use Rattle.uci_lines.specs.Info.{info_of};
@@ -44,7 +44,7 @@ fn put_reply(reply: &Reply, out: &mut Out)
 fn put_short(reply: &Reply, out: &mut Out)
     requires moves { HasWritableMoves (reply_of reply.now) }
     requires numbers { HasNumbers (reply_of reply.now) }
-    requires plain { borrowed (reply_of reply.now) ≡ 0 }
+    requires plain { borrowed_length (reply_of reply.now) ≡ 0 }
     requires room { length out.old.text + SHORT_REPLY ≤ out.old.room }
     ensures line { out.new ≡ with out.old (reply_lines (reply_of reply.now ∷ [])) }
     ensures short { length (reply_lines (reply_of reply.now ∷ [])) ≤ SHORT_REPLY }

@@ -3,7 +3,7 @@ ghost use Rattle.std.specs.Prelude.{◌≡◌, ◌<◌, ◌≤◌, length, None}
 ghost use Rattle.chess_board.specs.Play.{start_position};
 ghost use Rattle.cecp_lines.specs.Messages.{message_of};
 ghost use Rattle.cecp_lines.specs.Reading.{CanBeRead};
-ghost use Rattle.game_record.specs.Game.{ply_of, begun, with_ply, without_last, now_of, IsPlayable};
+ghost use Rattle.game_record.specs.Game.{ply_of, game_from, with_ply, without_last, now_of, IsPlayable};
 ghost use Rattle.clock_map.specs.Clocks.{after_new};
 ghost use Rattle.desk_rules.specs.Desk.{other};
 ghost use Rattle.desk_rules.specs.Lines.{new_mode, with_game, set_up, change, clears_scores};
@@ -76,7 +76,7 @@ impl Desk {
     }
 
     fn set_board(&mut self, start: Position)
-        ensures { self.new ≡ with_game self.old (begun start) }
+        ensures { self.new ≡ with_game self.old (game_from start) }
     {
         self.game.reset(start);
         self.hint = None;
@@ -85,7 +85,7 @@ impl Desk {
     fn begin_game(&mut self)
         ensures { self.new
             ≡ record self.old {
-              game = begun start_position;
+              game = game_from start_position;
               hint = None;
               mode = new_mode self.old.mode;
               clocks = after_new self.old.clocks;

@@ -3,7 +3,7 @@ ghost use Rattle.std.specs.Prelude.{◌≡◌, List, Ok};
 ghost use Rattle.std.specs.Option.{option_map};
 ghost use Rattle.line_io.specs.Event.{event_of};
 ghost use Rattle.cecp_lines.specs.Messages.{message_of};
-ghost use Rattle.cecp_lines.specs.Reading.{reading};
+ghost use Rattle.cecp_lines.specs.Reading.{message_or_fault};
 ghost use Rattle.cecp_lines.specs.Quit.{is_quit, is_quit_message};
 ghost use Rattle.uci_lines.specs.Engine.{engine_message};
 ghost use Rattle.uci_lines.specs.Orders.{Order};
@@ -12,7 +12,7 @@ ghost use Rattle.desk_rules.specs.declared.effect.Refusal.TheVariants as refusal
 ghost use Rattle.desk_rules.specs.declared.effect.Context.{Context as AnyContext};
 ghost use Rattle.desk_rules.specs.Desk.{at, is_getting, current, owes_move};
 ghost use Rattle.desk_rules.specs.Early.{is_setting, may_wait};
-ghost use Rattle.desk_rules.specs.Lines.{is_early, deferred, judged, refusal, verdict, is_epoch_line};
+ghost use Rattle.desk_rules.specs.Lines.{is_early, early_verdict, verdict_on, refusal, verdict, is_epoch_line};
 ghost use Rattle.desk_rules.specs.Steps.{Refuses, effect_of, line_effect, starts_from, shows, answers, engine_says, dies, classify, begins_epoch as epoch_begun, quits as event_quits};
 ghost use Rattle.desk_rules.specs.Orders.{orders_asked, asked_by_effect};
 ghost use Rattle.desk_rules.specs.Fits.{IsNoLine, IsNoIfaceLine};
@@ -179,7 +179,7 @@ impl Desk {
     // An early line waits, unless too many do.
     fn defer<'l>(&self, line: &'l [u8]) -> Effect<'l>
         ensures effect { effect_of result
-            ≡ line_effect (deferred (may_wait self.now.early line.now)) line.now }
+            ≡ line_effect (early_verdict (may_wait self.now.early line.now)) line.now }
         ensures kind { IsNoLine (effect_of result) }
     {
         if self.early.fits(line) {
@@ -223,7 +223,8 @@ impl Desk {
         line: &'l [u8],
     ) -> Decision<'l, 's>
         ensures effect { effect_of result.ruling.effect
-            ≡ line_effect (verdict (at context self.now) held.now line.now (reading line.now))
+            ≡ line_effect (verdict (at context self.now) held.now line.now
+            (message_or_fault line.now))
             line.now }
         ensures start { result.ruling.start ≡ starts_from (effect_of result.ruling.effect) }
         ensures asks { orders_asked result.asks
@@ -257,7 +258,7 @@ impl Desk {
         line: &'l [u8],
     ) -> Decision<'l, 's>
         ensures effect { effect_of result.ruling.effect
-            ≡ line_effect (judged (message_of message.entry)
+            ≡ line_effect (verdict_on (message_of message.entry)
             (refusal (at context self.now) held.now (message_of message.entry))) line.now }
         ensures start { result.ruling.start ≡ starts_from (effect_of result.ruling.effect) }
         ensures asks { orders_asked result.asks

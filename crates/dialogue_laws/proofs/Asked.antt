@@ -7,11 +7,11 @@ use Rattle.option_map.specs.Held.{Slot, Game, Setting, same_slot, slot_of, are_f
 use Rattle.option_map.proofs.Orders.{apart}
 use Rattle.policy_rules.specs.declared.settings.Settings.{Settings}
 use Rattle.search_epochs.specs.Tickets.{MaySendAll, is_due, is_empty, is_idle, leaves_boot, has_batch, has_go}
-use Rattle.desk_rules.specs.Orders.{waiting, word_of, asked_by_effect}
+use Rattle.desk_rules.specs.Orders.{orders_waiting, word_of, asked_by_effect}
 use Rattle.adapter_core.specs.Ends.{is_open}
 use Rattle.adapter_core.specs.Trace.{State, Step, IsLawful, state, state_after, situation, effect, turn, mid, closed_after, gone_after, last_orders, has_ready}
 use Rattle.dialogue_laws.specs.Dialogue.{begins_search}
-use Rattle.dialogue_laws.specs.Values.{asked_for, written, latest, last_for, LastAskedStands, SearchesHaveSettings}
+use Rattle.dialogue_laws.specs.Values.{asked_for, orders_written, latest, last_for, LastAskedStands, SearchesHaveSettings}
 
 -- THE LATEST
 
@@ -95,7 +95,7 @@ module _ (s : State) (step : Step) (l : IsLawful s step) where
   e = step.event
 
   abbrev waits : List Order
-  waits = waiting (situation s) s.held (effect s e)
+  waits = orders_waiting (situation s) s.held (effect s e)
 
   abbrev HasAll : Order → Type 0
   HasAll c = latest (last_for c (state_after s step).held) (last_for c step.orders) ≡ last_for c waits
@@ -175,16 +175,16 @@ last_stands o (step ∷ t) c l =
     let s = state o t in
     let asked = asked_by_effect (situation s) (effect s step.event) in
     let held = (state o (step ∷ t)).held in
-    last_append c (written t ++ step.orders) held
-    ∙ ap (latest (last_for c held)) (last_append c (written t) step.orders)
-    ∙ sym (latest_assoc (last_for c held) (last_for c step.orders) (last_for c (written t)))
-    ∙ ap (λ (x : Option Order). latest x (last_for c (written t))) (has_all s step l.1 c ∙ with_all c s.held asked)
-    ∙ latest_assoc (last_for c asked) (last_for c s.held) (last_for c (written t))
-    ∙ ap (latest (last_for c asked)) (sym (last_append c (written t) s.held) ∙ last_stands o t c l.0)
+    last_append c (orders_written t ++ step.orders) held
+    ∙ ap (latest (last_for c held)) (last_append c (orders_written t) step.orders)
+    ∙ sym (latest_assoc (last_for c held) (last_for c step.orders) (last_for c (orders_written t)))
+    ∙ ap (λ (x : Option Order). latest x (last_for c (orders_written t))) (has_all s step l.1 c ∙ with_all c s.held asked)
+    ∙ latest_assoc (last_for c asked) (last_for c s.held) (last_for c (orders_written t))
+    ∙ ap (latest (last_for c asked)) (sym (last_append c (orders_written t) s.held) ∙ last_stands o t c l.0)
     ∙ sym (last_append c (asked_for o t) asked)
 
 pub searches_have : (o : Settings) → SearchesHaveSettings o
 searches_have o step t c l b =
-    let w = written (step ∷ t) in
+    let w = orders_written (step ∷ t) in
     ap (last_for c) (sym (append-nil w)) ∙ ap (λ (held : List Order). last_for c (w ++ held)) (sym (none_left (state o t) step l.1 b))
     ∙ last_stands o (step ∷ t) c l

@@ -4,7 +4,7 @@ use Rattle.line_io.specs.Event.{Event}
 use Rattle.line_io.specs.Event as events
 use Rattle.cecp_lines.specs.Messages.{IfaceMsg}
 use Rattle.cecp_lines.specs.Messages as says
-use Rattle.cecp_lines.specs.Reading.{reading}
+use Rattle.cecp_lines.specs.Reading.{message_or_fault}
 use Rattle.cecp_lines.specs.Quit.{is_quit, is_quit_message}
 use Rattle.cecp_lines.specs.declared.iface.IfaceFault.{IfaceFault}
 use Rattle.cecp_lines.specs.declared.iface.IfaceFault.TheVariants as faults
@@ -15,16 +15,16 @@ use Rattle.policy_rules.specs.declared.settings.Settings.{Settings}
 use Rattle.search_epochs.specs.declared.words.Said.{Said}
 use Rattle.search_epochs.specs.declared.words.Said.TheVariants as said
 use Rattle.search_epochs.specs.Tickets as talks
-use Rattle.search_epochs.specs.Tickets.{Engine, Boot, Word, Ticketed, heard, said_of, sent, closed_ticket, turned, after}
+use Rattle.search_epochs.specs.Tickets.{Engine, Boot, Word, Ticketed, heard, said_of, engine_after_word, closed_ticket, before_orders, after}
 use Rattle.search_epochs.specs.History as history
 use Rattle.search_epochs.specs.History.{Exchange, IsDeaf, MayCome, AreLawful}
 use Rattle.search_epochs.proofs.Stops.{stops_once}
 use Rattle.search_epochs.specs.Dialogue.{forget}
 use Rattle.desk_rules.specs.declared.effect.Refusal.{Refusal}
 use Rattle.desk_rules.specs.Desk.{Situation, is_gone}
-use Rattle.desk_rules.specs.Lines.{verdict, judged, refusal}
+use Rattle.desk_rules.specs.Lines.{verdict, verdict_on, refusal}
 use Rattle.desk_rules.specs.Steps.{Effect, Nothing, LongLine, Accepts, Dies, classify, line_effect, engine_says, what_of, what_accepted, is_death}
-use Rattle.desk_rules.specs.Orders.{waiting, word_of}
+use Rattle.desk_rules.specs.Orders.{orders_waiting, word_of}
 use Rattle.desk_rules.proofs.Effects.{comes_fits}
 use Rattle.desk_rules.proofs.Waits.{all_setup, all_held}
 use Rattle.adapter_core.specs.Ends.{may, is_open}
@@ -42,7 +42,7 @@ opening_dialogue s events.Open os o m b u =
     let t = s.dialogue in
     let boot = b (not_true s.ends.opened m) in
     ap (λ (x : Engine). let y : Ticketed = record { engine = x; epoch = t.epoch; last = t.last } in y) boot
-    ∙ ap (λ (x : Engine). let y : Ticketed = record { engine = sent t.epoch x talks.Uci; epoch = t.epoch; last = closed_ticket x None t.last } in y) (sym boot)
+    ∙ ap (λ (x : Engine). let y : Ticketed = record { engine = engine_after_word t.epoch x talks.Uci; epoch = t.epoch; last = closed_ticket x None t.last } in y) (sym boot)
     ∙ ap (λ (ws : List Order). after (mid s events.Open) (map word_of ws)) (sym u)
   where
     not_true : (b : Bool) → not b ≡ true → b ≡ false
@@ -56,7 +56,7 @@ opening_closed s e o = cc
 
 -- WHAT IS HEARD IN A STEP AFTER WHICH THE SESSION IS CLOSED
 
-quit_deaf : (line : List ℕ) (r : Option Refusal) → IsDeaf (what_of (line_effect (judged says.Quit r) line))
+quit_deaf : (line : List ℕ) (r : Option Refusal) → IsDeaf (what_of (line_effect (verdict_on says.Quit r) line))
 quit_deaf line None = tt
 quit_deaf line (Some r) = tt
 
@@ -83,7 +83,7 @@ dead_deaf false = tt
 
 deaf : (s : State) (e : Event) → closed_after s e ≡ true → IsDeaf (what_of (effect s e))
 unfolding classify
-deaf s (events.Iface line) c = either_deaf (situation s) s.held s.ends.closed (is_quit line) line (reading line) refl c
+deaf s (events.Iface line) c = either_deaf (situation s) s.held s.ends.closed (is_quit line) line (message_or_fault line) refl c
 deaf s events.IfaceLong c = where_deaf s.ends.closed LongLine c
 deaf s (events.Engine line) c = where_deaf s.ends.closed (engine_says (situation s) (engine_message line)) c
 deaf s events.EngineEnd c = dead_deaf (is_gone (situation s).engine)
@@ -126,7 +126,7 @@ module _ (s : State) (step : Step) (last : Lasts s) (l : IsLawful s step) where
   e = step.event
 
   waits : talks.AllSetup (turn s e).waiting
-  waits = all_setup (waiting (situation s) s.held (effect s e)) (all_held (situation s) s.held (effect s e) last.sound (comes_fits (situation s) s.held e (line_event s.ends e l.may_come)) last.held)
+  waits = all_setup (orders_waiting (situation s) s.held (effect s e)) (all_held (situation s) s.held (effect s e) last.sound (comes_fits (situation s) s.held e (line_event s.ends e l.may_come)) last.held)
 
   comes_in : MayCome s.ends.closed (exchange s step)
   comes_in = record {
@@ -156,7 +156,7 @@ module _ (s : State) (step : Step) (last : Lasts s) (l : IsLawful s step) where
       subst (λ (b : Bool). AreLawful (history.dialogue xs) b (exchange s step)) (sym d.closed)
           (subst (λ (t : Ticketed). AreLawful t s.ends.closed (exchange s step)) (sym d.dialogue) (lawful_in o)),
     );
-    dialogue = ap (λ (t : Ticketed). after (turned t (turn s e)) (map word_of step.orders)) d.dialogue;
+    dialogue = ap (λ (t : Ticketed). after (before_orders t (turn s e)) (map word_of step.orders)) d.dialogue;
     closed = refl;
   }
 

@@ -7,7 +7,7 @@ use Rattle.chess_board.specs.Place.{legal}
 use Rattle.peer_words.specs.declared.kinds.GoKind.{GoKind}
 use Rattle.peer_words.specs.declared.kinds.GoKind.TheVariants as kinds
 use Rattle.cecp_lines.specs.Messages as messages
-use Rattle.cecp_lines.specs.Reading.{reading}
+use Rattle.cecp_lines.specs.Reading.{message_or_fault}
 use Rattle.uci_lines.specs.Messages.{EngineMsg}
 use Rattle.uci_lines.specs.Messages as says
 use Rattle.uci_lines.specs.Engine.{engine_message}
@@ -18,7 +18,7 @@ use Rattle.policy_rules.specs.declared.settings.Settings.{Settings}
 use Rattle.search_epochs.specs.declared.words.Said.{Said}
 use Rattle.search_epochs.specs.declared.words.Said.TheVariants as said
 use Rattle.search_epochs.specs.declared.words.EngineState.TheVariants as states
-use Rattle.search_epochs.specs.Tickets.{Engine, Boot, Getting, Idle, Search, Gone, heard, said_of, sent, sent_all}
+use Rattle.search_epochs.specs.Tickets.{Engine, Boot, Getting, Idle, Search, Gone, heard, said_of, engine_after_word, sent_all}
 use Rattle.search_epochs.specs.Dialogue.{forget}
 use Rattle.desk_rules.specs.Desk.{Situation, is_boot, is_getting, is_gone, current}
 use Rattle.desk_rules.specs.Lines.{Verdict, Refused, Accepted, Early, verdict}
@@ -27,23 +27,23 @@ use Rattle.desk_rules.specs.Orders.{word_of}
 use Rattle.adapter_core.specs.Ends.{ends_after}
 use Rattle.adapter_core.specs.Trace.{State, Step, state, situation, effect, mid}
 use Rattle.adapter_core.proofs.Ended.{quiet_line}
-use Rattle.dialogue_laws.specs.Wire.{Wire, said_in, said_by, hearing, writing, writing_all, ends, wire, on_wire, EngineIsOnWire, EndsAreOnWire}
+use Rattle.dialogue_laws.specs.Wire.{Wire, said_in, said_by, wire_once_heard, wire_once_written, writing_all, ends, wire, on_wire, EngineIsOnWire, EndsAreOnWire}
 
 -- WHAT IS HEARD AND WRITTEN
 
-heard_on_wire : (e : Engine) (w : Option Said) → on_wire (heard e w) ≡ hearing (on_wire e) w
+heard_on_wire : (e : Engine) (w : Option Said) → on_wire (heard e w) ≡ wire_once_heard (on_wire e) w
 heard_on_wire Boot (Some said.UciOk) = refl
 heard_on_wire e (Some said.UciOk) = refl
 heard_on_wire e w = refl
 
-sent_on_wire : (n : ℕ) (e : Engine) (order : Order) → on_wire (sent n e (word_of order)) ≡ writing (on_wire e) order
+sent_on_wire : (n : ℕ) (e : Engine) (order : Order) → on_wire (engine_after_word n e (word_of order)) ≡ wire_once_written (on_wire e) order
 sent_on_wire n (Search kinds.Move t s) orders.Uci = refl
 sent_on_wire n e orders.Uci = refl
 sent_on_wire n e order = refl
 
 pub all_on_wire : (n : ℕ) (e : Engine) (os : List Order) → on_wire (sent_all n e (map word_of os)) ≡ writing_all (on_wire e) os
 all_on_wire n e [] = refl
-all_on_wire n e (order ∷ later) = all_on_wire n (sent n e (word_of order)) later ∙ ap (λ (x : Wire). writing_all x later) (sent_on_wire n e order)
+all_on_wire n e (order ∷ later) = all_on_wire n (engine_after_word n e (word_of order)) later ∙ ap (λ (x : Wire). writing_all x later) (sent_on_wire n e order)
 
 -- WHAT AN EVENT SAYS
 
@@ -129,7 +129,7 @@ module _ (s : State) where
   -- the engine after the event is as the event says
   pub event_heard : (e : Event) → heard engine (tells (effect s e)) ≡ heard engine (said_by s.ends.closed e)
   unfolding classify
-  event_heard (events.Iface line) = ap (heard engine) (silent_where s.ends.closed _ (line_silent (verdict h s.held line (reading line)) line))
+  event_heard (events.Iface line) = ap (heard engine) (silent_where s.ends.closed _ (line_silent (verdict h s.held line (message_or_fault line)) line))
   event_heard events.IfaceLong = ap (heard engine) (silent_where s.ends.closed LongLine refl)
   event_heard (events.Engine line) = line_heard s.ends.closed (engine_message line)
   event_heard events.EngineEnd = end_heard s.dialogue.epoch engine
@@ -144,12 +144,12 @@ ends_on_wire o (step ∷ t) = ap (λ x. ends_after x step.event) (ends_on_wire o
 
 -- the engine after an event, before the orders
 pub mid_on_wire : (o : Settings) (t : List Step) (e : Event) → on_wire (state o t).dialogue.engine ≡ wire t
-    → on_wire (mid (state o t) e).engine ≡ hearing (wire t) (said_by (ends t).closed e)
+    → on_wire (mid (state o t) e).engine ≡ wire_once_heard (wire t) (said_by (ends t).closed e)
 mid_on_wire o t e w =
     let s = state o t in
     ap on_wire (event_heard s e) ∙ heard_on_wire s.dialogue.engine (said_by s.ends.closed e)
-    ∙ ap (λ (x : Wire). hearing x (said_by s.ends.closed e)) w
-    ∙ ap (λ x. hearing (wire t) (said_by x.closed e)) (ends_on_wire o t)
+    ∙ ap (λ (x : Wire). wire_once_heard x (said_by s.ends.closed e)) w
+    ∙ ap (λ x. wire_once_heard (wire t) (said_by x.closed e)) (ends_on_wire o t)
 
 pub engine_on_wire : (o : Settings) → EngineIsOnWire o
 engine_on_wire o [] = refl

@@ -19,7 +19,7 @@ use Rattle.desk_rules.specs.Orders.{word_of}
 use Rattle.adapter_core.specs.Ends.{is_open, may}
 use Rattle.adapter_core.specs.Trace.{State, Step, Lawful, state, mid}
 use Rattle.adapter_core.proofs.Traces.{lasts}
-use Rattle.dialogue_laws.specs.Wire.{Wire, Boot, Idle, Search, Gone, said_by, hearing, writing_all, ends, wire, wire_at, on_wire, needs_idle, IdleGetsThem, SearchGetsStop, PonderGetsHit, GoneGetsNothing, GoFollowsPosition}
+use Rattle.dialogue_laws.specs.Wire.{Wire, Boot, Idle, Search, Gone, said_by, wire_once_heard, writing_all, ends, wire, wire_at, on_wire, needs_idle, IdleGetsThem, SearchGetsStop, PonderGetsHit, GoneGetsNothing, GoFollowsPosition}
 use Rattle.dialogue_laws.specs.Dialogue.{exchange, exchanges}
 use Rattle.dialogue_laws.proofs.Heard.{all_on_wire, mid_on_wire, engine_on_wire}
 use Rattle.dialogue_laws.proofs.Dialogues.{dialogues, lawful_in}
@@ -99,7 +99,7 @@ module _ (o : Settings) (step : Step) (t : List Step) (l : Lawful o (step ∷ t)
       let alone = opening_is before behind order orders.Uci (sym (l.1.opens y) ∙ at) in
       let boot = (lasts o t l.0).begins (opening_may s step.event y l.1.may_come) in (
         alone.1,
-        ap (wire_at t step) alone.0 ∙ ap (hearing (wire t)) (opening_says (ends t).closed step.event y) ∙ sym (engine_on_wire o t) ∙ ap on_wire boot,
+        ap (wire_at t step) alone.0 ∙ ap (wire_once_heard (wire t)) (opening_says (ends t).closed step.event y) ∙ sym (engine_on_wire o t) ∙ ap on_wire boot,
       )
 
   by_open : (P : Type 0) → (is_open step.event ≡ true → P) → (is_open step.event ≡ false → P) → P

@@ -30,9 +30,9 @@ use Rattle.desk_rules.specs.Lines.{change, refused_option, early_answer}
 use Rattle.desk_rules.specs.Steps.{Effect, Refuses, Accepts, Boots, Thinks, Shows, Dies, searched_by, resigns_after, resigns_at_end, resigns_when_gone, desk_after_effect, answers_pings}
 use Rattle.desk_rules.specs.Replies.{refused, result_by, result_of, protover_row, offer_where, hint_row, row_accepted, list_where, resign_where, early_refusal, early_refusals, row, is_told, named_hint, spelling_of, replies_of}
 use Rattle.desk_rules.proofs.Quiet.{added_ping, quiet_pings}
-use Rattle.adapter_core.specs.Trace.{State, Step, IsLawful, state, situation, effect, owing, closed_after}
+use Rattle.adapter_core.specs.Trace.{State, Step, IsLawful, state, situation, effect, owed_after, closed_after}
 use Rattle.adapter_core.proofs.Traces.{no_pings}
-use Rattle.dialogue_laws.specs.Pings.{ping_in, pongs_told, ponged, PingsHavePongs, PongsWait, NoneIsHeld}
+use Rattle.dialogue_laws.specs.Pings.{ping_in, pongs_told, written_pongs, PingsHavePongs, PongsWait, NoneIsHeld}
 
 -- LINES THAT TELL A PONG
 
@@ -170,12 +170,12 @@ effect_pings h (Accepts (says.Ping n)) = added_ping h n
 effect_pings h (Accepts m) = quiet_pings h (Accepts m) (λ x. x) ∙ sym (append-nil h.desk.pings)
 effect_pings h d = quiet_pings h d (λ x. x) ∙ sym (append-nil h.desk.pings)
 
-step_pings : (s : State) (step : Step) → IsLawful s step → s.desk.pings ++ ping_in (effect s step.event) ≡ pongs_told step.replies ++ cond (answers_pings (closed_after s step.event) (is_move (owing s step.event))) [] (desk_after_effect (situation s) (effect s step.event)).pings
+step_pings : (s : State) (step : Step) → IsLawful s step → s.desk.pings ++ ping_in (effect s step.event) ≡ pongs_told step.replies ++ cond (answers_pings (closed_after s step.event) (is_move (owed_after s step.event))) [] (desk_after_effect (situation s) (effect s step.event)).pings
 step_pings s step l =
     let h = situation s in
     let d = effect s step.event in
     let closed = closed_after s step.event in
-    let owes = is_move (owing s step.event) in
+    let owes = is_move (owed_after s step.event) in
     sym (effect_pings h d) ∙ sym (told_or_held closed owes h d)
     ∙ ap (λ (rs : List Reply). pongs_told rs ++ cond (answers_pings closed owes) [] (desk_after_effect h d).pings) (sym l.replies)
 
@@ -186,9 +186,9 @@ pings_have_pongs o [] l = refl
 pings_have_pongs o (step ∷ t) l =
     let s = state o t in
     ap (λ (ns : List ℕ). ns ++ ping_in (effect s step.event)) (pings_have_pongs o t l.0)
-    ∙ append_assoc (ponged t) s.desk.pings (ping_in (effect s step.event))
-    ∙ ap (λ (ns : List ℕ). ponged t ++ ns) (step_pings s step l.1)
-    ∙ sym (append_assoc (ponged t) (pongs_told step.replies) (state o (step ∷ t)).desk.pings)
+    ∙ append_assoc (written_pongs t) s.desk.pings (ping_in (effect s step.event))
+    ∙ ap (λ (ns : List ℕ). written_pongs t ++ ns) (step_pings s step l.1)
+    ∙ sym (append_assoc (written_pongs t) (pongs_told step.replies) (state o (step ∷ t)).desk.pings)
 
 waits_by : (closed owes : Bool) (h : Situation) (d : Effect) → owes ≡ true → pongs_told (replies_of closed owes h d) ≡ []
 waits_by true owes h d e = refl
@@ -198,9 +198,9 @@ waits_by false false h d e = cc
 pub pongs_wait : (o : Settings) → PongsWait o
 pongs_wait o step t l e =
     let s = state o t in
-    ap pongs_told l.1.replies ∙ waits_by (closed_after s step.event) (is_move (owing s step.event)) (situation s) (effect s step.event) e
+    ap pongs_told l.1.replies ∙ waits_by (closed_after s step.event) (is_move (owed_after s step.event)) (situation s) (effect s step.event) e
 
 pub none_is_held : (o : Settings) → NoneIsHeld o
 none_is_held o step t l c e =
     let s = state o t in
-    no_pings (closed_after s step.event) (is_move (owing s step.event)) (desk_after_effect (situation s) (effect s step.event)).pings c e
+    no_pings (closed_after s step.event) (is_move (owed_after s step.event)) (desk_after_effect (situation s) (effect s step.event)).pings c e

@@ -8,7 +8,7 @@ use Rattle.policy_rules.specs.declared.settings.Settings.{Settings}
 use Rattle.policy_rules.specs.Policy.{IsProper}
 use Rattle.desk_rules.specs.Desk.{current}
 use Rattle.desk_rules.specs.Steps.{classify}
-use Rattle.desk_rules.specs.Orders.{waiting, asked_by_effect, AllJoin}
+use Rattle.desk_rules.specs.Orders.{orders_waiting, asked_by_effect, AllJoin}
 use Rattle.desk_rules.proofs.Joins.{asked_join}
 use Rattle.adapter_core.specs.Ends.{may, ends_after}
 use Rattle.adapter_core.specs.Trace.{Step, Lawful, state, event_in}
@@ -51,7 +51,7 @@ few_after v e k m f =
     let h = parts.situation v in
     let d = classify h v.held e in
     let ready = is_ready v e k m in
-    left _ (waiting h v.held d) (joined v.held (asked_by_effect h d) f (asked_join h v.held d k.sound ready.fits ready.holds))
+    left _ (orders_waiting h v.held d) (joined v.held (asked_by_effect h d) f (asked_join h v.held d k.sound ready.fits ready.holds))
 
 -- A CORE FOR EACH LAWFUL TRACE
 

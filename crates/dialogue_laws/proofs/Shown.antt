@@ -6,13 +6,13 @@ use Rattle.uci_lines.specs.Orders as orders
 use Rattle.policy_rules.specs.declared.settings.Settings.{Settings}
 use Rattle.search_epochs.specs.declared.words.Said.{Said}
 use Rattle.search_epochs.specs.declared.words.Said.TheVariants as said
-use Rattle.search_epochs.specs.Tickets.{Engine, Boot, Getting, Idle, Search, Gone, Word, Go, Ticketed, heard, said_of, sent, sent_all, is_move}
+use Rattle.search_epochs.specs.Tickets.{Engine, Boot, Getting, Idle, Search, Gone, Word, Go, Ticketed, heard, said_of, engine_after_word, sent_all, is_move}
 use Rattle.search_epochs.specs.Dialogue.{forget}
 use Rattle.desk_rules.specs.Steps.{Effect, Shows, what_of}
 use Rattle.desk_rules.specs.Replies.{replies_of}
 use Rattle.desk_rules.specs.Orders.{word_of}
 use Rattle.desk_rules.specs.Fits.{Fits, IsCurrentMove}
-use Rattle.adapter_core.specs.Trace.{State, Step, IsLawful, Lawful, state, situation, effect, mid, owing, closed_after}
+use Rattle.adapter_core.specs.Trace.{State, Step, IsLawful, Lawful, state, situation, effect, mid, owed_after, closed_after}
 use Rattle.adapter_core.specs.Shown.{moves_told}
 use Rattle.adapter_core.proofs.Shown.{shown_by, open_shows}
 use Rattle.adapter_core.proofs.Traces.{Lasts, lasts, fits}
@@ -34,7 +34,7 @@ abbrev is_go : Word → Bool
 is_go (Go k) = true
 is_go w = false
 
-sent_none : (n : ℕ) (e : Engine) (w : Word) → is_go w ≡ false → searches (sent n e w) ≡ true → searches e ≡ true
+sent_none : (n : ℕ) (e : Engine) (w : Word) → is_go w ≡ false → searches (engine_after_word n e w) ≡ true → searches e ≡ true
 sent_none n (Search k t s) w g x = refl
 sent_none n e (Go k) g x = cc
 sent_none n e w g x = cc
@@ -42,7 +42,7 @@ sent_none n e w g x = cc
 written_none : (n : ℕ) (e : Engine) (os : List Order) → begins_search os ≡ false → searches (sent_all n e (map word_of os)) ≡ true → searches e ≡ true
 written_none n e [] b x = x
 written_none n e (orders.Go ponder control depth ∷ later) b x = cc
-written_none n e (order ∷ later) b x = sent_none n e (word_of order) refl (written_none n (sent n e (word_of order)) later b x)
+written_none n e (order ∷ later) b x = sent_none n e (word_of order) refl (written_none n (engine_after_word n e (word_of order)) later b x)
 
 -- HOW MANY WERE SHOWN SINCE
 
@@ -72,7 +72,7 @@ by_closed s n d false owes f a = subst (λ (ms : List _). AreFew (heard s.dialog
 mid_few : (s : State) (step : Step) (n : ℕ) → Lasts s → IsLawful s step → AreFew s.dialogue.engine n → AreFew (mid s step.event).engine (n + length (moves_told step.replies))
 mid_few s step n last l a =
     subst (λ (rs : List Reply). AreFew (mid s step.event).engine (n + length (moves_told rs))) (sym l.replies)
-    (by_closed s n (effect s step.event) (closed_after s step.event) (is_move (owing s step.event)) (fits s step last l) a)
+    (by_closed s n (effect s step.event) (closed_after s step.event) (is_move (owed_after s step.event)) (fits s step last l) a)
 
 after_few : (m : Ticketed) (n : ℕ) (os : List Order) (b : Bool) → begins_search os ≡ b → AreFew m.engine n → AreFew (sent_all m.epoch m.engine (map word_of os)) (cond b 0 n)
 after_few m n os true e a = record { few = omega arith; none = λ x. refl }

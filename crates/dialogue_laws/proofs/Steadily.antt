@@ -12,7 +12,7 @@ use Rattle.search_epochs.specs.declared.words.Call.TheVariants as calls
 use Rattle.search_epochs.specs.declared.words.Said.{Said}
 use Rattle.search_epochs.specs.declared.words.Said.TheVariants as said
 use Rattle.search_epochs.specs.Tickets as talks
-use Rattle.search_epochs.specs.Tickets.{Engine, Boot, Getting, Idle, Search, Gone, Word, Ticketed, MaySend, MaySendAll, Serves, heard, said_of, sent, sent_all}
+use Rattle.search_epochs.specs.Tickets.{Engine, Boot, Getting, Idle, Search, Gone, Word, Ticketed, MaySend, MaySendAll, Serves, heard, said_of, engine_after_word, sent_all}
 use Rattle.search_epochs.specs.Dialogue.{forget}
 use Rattle.search_epochs.specs.History as history
 use Rattle.search_epochs.specs.History.{Exchange, IsSteady, ends_call}
@@ -45,7 +45,7 @@ heard_boot e (Some said.ReadyOk) x = cc
 heard_boot e None x = x
 heard_boot e w x = cc
 
-sent_boot : (n : ℕ) (e : Engine) (w : Word) → MaySend e w → sent n e w ≡ Boot → e ≡ Boot
+sent_boot : (n : ℕ) (e : Engine) (w : Word) → MaySend e w → engine_after_word n e w ≡ Boot → e ≡ Boot
 sent_boot n Boot w m x = refl
 sent_boot n Getting talks.Uci m x = absurd m
 sent_boot n Idle talks.Uci m x = absurd m
@@ -56,7 +56,7 @@ sent_boot n e w m x = cc
 
 all_boot : (n : ℕ) (e : Engine) (ws : List Word) → MaySendAll n e ws → sent_all n e ws ≡ Boot → e ≡ Boot
 all_boot n e [] m x = x
-all_boot n e (w ∷ ws) m x = sent_boot n e w m.0 (all_boot n (sent n e w) ws m.1 x)
+all_boot n e (w ∷ ws) m x = sent_boot n e w m.0 (all_boot n (engine_after_word n e w) ws m.1 x)
 
 not_answered : (epoch : ℕ) (e : Engine) → e ≡ Boot → current (forget epoch e) ≡ Some kinds.Move → ⊥
 not_answered epoch Boot b i = cc

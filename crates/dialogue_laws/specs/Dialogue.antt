@@ -88,4 +88,4 @@ abbrev pub SearchesServe : Settings → Type 0
 SearchesServe o =
     IsProper o → (trace : List Step) (k : GoKind) (stopped : Bool) → Lawful o trace → (state o trace).ends.closed ≡ false
     → (state o trace).dialogue.engine ≡ Search k (state o trace).dialogue.epoch stopped
-    → Serves k (call_before (situation (state o trace))) × (history.began (exchanges o trace) ≡ call_before (situation (state o trace)))
+    → Serves k (call_before (situation (state o trace))) × (history.call_of_last_search (exchanges o trace) ≡ call_before (situation (state o trace)))

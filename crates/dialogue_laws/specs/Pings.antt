@@ -6,7 +6,7 @@ use Rattle.cecp_lines.specs.Replies as told
 use Rattle.policy_rules.specs.declared.settings.Settings.{Settings}
 use Rattle.search_epochs.specs.Tickets.{is_move}
 use Rattle.desk_rules.specs.Steps.{Effect, Accepts}
-use Rattle.adapter_core.specs.Trace.{Step, Lawful, state, effect, owing}
+use Rattle.adapter_core.specs.Trace.{Step, Lawful, state, effect, owed_after}
 
 -- the number of an accepted ping
 abbrev pub ping_in : Effect → List ℕ
@@ -14,9 +14,10 @@ ping_in (Accepts (says.Ping n)) = n ∷ []
 ping_in d = []
 
 -- the pings that were accepted, the oldest first
-abbrev pub pinged : Settings → List Step → List ℕ
-pinged o [] = []
-pinged o (step ∷ trace) = pinged o trace ++ ping_in (effect (state o trace) step.event)
+abbrev pub accepted_pings : Settings → List Step → List ℕ
+accepted_pings o [] = []
+accepted_pings o (step ∷ trace) =
+    accepted_pings o trace ++ ping_in (effect (state o trace) step.event)
 
 -- the pongs of these lines
 abbrev pub pongs_told : List Reply → List ℕ
@@ -25,23 +26,24 @@ pongs_told (told.Pong n ∷ rest) = n ∷ pongs_told rest
 pongs_told (line ∷ rest) = pongs_told rest
 
 -- the pongs that were written, the oldest first
-abbrev pub ponged : List Step → List ℕ
-ponged [] = []
-ponged (step ∷ trace) = ponged trace ++ pongs_told step.replies
+abbrev pub written_pongs : List Step → List ℕ
+written_pongs [] = []
+written_pongs (step ∷ trace) = written_pongs trace ++ pongs_told step.replies
 
 -- Each accepted ping has one pong, in order, or is held: the pings are the pongs, and after them those that the desk holds.
 abbrev pub PingsHavePongs : Settings → Type 0
-PingsHavePongs o = (trace : List Step) → Lawful o trace → pinged o trace ≡ ponged trace ++ (state o trace).desk.pings
+PingsHavePongs o = (trace : List Step) → Lawful o trace → accepted_pings o trace ≡ written_pongs trace ++ (state o trace).desk.pings
 
 -- No pong is written in a step after whose event a Move is owed.
 abbrev pub PongsWait : Settings → Type 0
 PongsWait o =
     (step : Step) (trace : List Step) → Lawful o (step ∷ trace)
-    → is_move (owing (state o trace) step.event) ≡ true → pongs_told step.replies ≡ []
+    → is_move (owed_after (state o trace) step.event) ≡ true → pongs_told step.replies ≡ []
 
 -- After a step that leaves the session open no ping is held, unless a Move is owed.
 abbrev pub NoneIsHeld : Settings → Type 0
 NoneIsHeld o =
     (step : Step) (trace : List Step) → Lawful o (step ∷ trace)
     → (state o (step ∷ trace)).ends.closed ≡ false
-    → is_move (owing (state o trace) step.event) ≡ false → (state o (step ∷ trace)).desk.pings ≡ []
+    → is_move (owed_after (state o trace) step.event) ≡ false
+    → (state o (step ∷ trace)).desk.pings ≡ []

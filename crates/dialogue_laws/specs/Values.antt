@@ -13,9 +13,9 @@ asked_for o [] = []
 asked_for o (step ∷ trace) = asked_for o trace ++ asked_by_effect (situation (state o trace)) (effect (state o trace) step.event)
 
 -- the orders that were written, the oldest first
-abbrev pub written : List Step → List Order
-written [] = []
-written (step ∷ trace) = written trace ++ step.orders
+abbrev pub orders_written : List Step → List Order
+orders_written [] = []
+orders_written (step ∷ trace) = orders_written trace ++ step.orders
 
 abbrev pub latest : Option Order → Option Order → Option Order
 latest None before = before
@@ -30,10 +30,11 @@ last_for order (other ∷ later) = latest (last_for order later) (if are_for_sam
 abbrev pub LastAskedStands : Settings → Type 0
 LastAskedStands o =
     (trace : List Step) (order : Order) → Lawful o trace
-    → last_for order (written trace ++ (state o trace).held) ≡ last_for order (asked_for o trace)
+    → last_for order (orders_written trace ++ (state o trace).held)
+    ≡ last_for order (asked_for o trace)
 
 -- So if a search is begun, the last value that was written for an option is the last one that was asked for.
 abbrev pub SearchesHaveSettings : Settings → Type 0
 SearchesHaveSettings o =
     (step : Step) (trace : List Step) (order : Order) → Lawful o (step ∷ trace) → begins_search step.orders ≡ true
-    → last_for order (written (step ∷ trace)) ≡ last_for order (asked_for o (step ∷ trace))
+    → last_for order (orders_written (step ∷ trace)) ≡ last_for order (asked_for o (step ∷ trace))

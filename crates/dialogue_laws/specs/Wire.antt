@@ -42,28 +42,28 @@ said_by closed events.EngineLost = Some said.Ended
 said_by closed e = None
 
 -- the engine after it was heard: `uciok` ends the boot, `readyok` the getting, `bestmove` the search
-abbrev pub hearing : Wire → Option Said → Wire
-hearing e None = e
-hearing Boot (Some said.UciOk) = Idle
-hearing Getting (Some said.ReadyOk) = Idle
-hearing (Search k s) (Some said.Best) = Idle
-hearing e (Some said.Ended) = Gone
-hearing e (Some _) = e
+abbrev pub wire_once_heard : Wire → Option Said → Wire
+wire_once_heard e None = e
+wire_once_heard Boot (Some said.UciOk) = Idle
+wire_once_heard Getting (Some said.ReadyOk) = Idle
+wire_once_heard (Search k s) (Some said.Best) = Idle
+wire_once_heard e (Some said.Ended) = Gone
+wire_once_heard e (Some _) = e
 
 -- the engine after an order
-abbrev pub writing : Wire → Order → Wire
-writing Gone order = Gone
-writing e orders.Uci = Boot
-writing e orders.IsReady = Getting
-writing e (orders.Go ponder control depth) = Search (kind_named ponder control) false
-writing (Search k s) orders.Stop = Search k true
-writing (Search kinds.Ponder s) orders.PonderHit = Search kinds.Move false
-writing e order = e
+abbrev pub wire_once_written : Wire → Order → Wire
+wire_once_written Gone order = Gone
+wire_once_written e orders.Uci = Boot
+wire_once_written e orders.IsReady = Getting
+wire_once_written e (orders.Go ponder control depth) = Search (kind_named ponder control) false
+wire_once_written (Search k s) orders.Stop = Search k true
+wire_once_written (Search kinds.Ponder s) orders.PonderHit = Search kinds.Move false
+wire_once_written e order = e
 
 -- and after several, one by one
 abbrev pub writing_all : Wire → List Order → Wire
 writing_all e [] = e
-writing_all e (order ∷ later) = writing_all (writing e order) later
+writing_all e (order ∷ later) = writing_all (wire_once_written e order) later
 
 -- which sides have ended, by the events alone
 abbrev pub ends : List Step → Ends
@@ -73,11 +73,11 @@ ends (step ∷ trace) = ends_after (ends trace) step.event
 -- the engine after a trace
 abbrev pub wire : List Step → Wire
 wire [] = Boot
-wire (step ∷ trace) = writing_all (hearing (wire trace) (said_by (ends trace).closed step.event)) step.orders
+wire (step ∷ trace) = writing_all (wire_once_heard (wire trace) (said_by (ends trace).closed step.event)) step.orders
 
 -- the engine at the place of an order, with these of the step's orders before it
 abbrev pub wire_at : List Step → Step → List Order → Wire
-wire_at trace step before = writing_all (hearing (wire trace) (said_by (ends trace).closed step.event)) before
+wire_at trace step before = writing_all (wire_once_heard (wire trace) (said_by (ends trace).closed step.event)) before
 
 -- what the wire shows of an engine whose searches have tickets
 abbrev pub on_wire : Engine → Wire

@@ -170,7 +170,7 @@ Error (bad value): option Style
     ),
 ];
 
-// the last value of an option stands behind what was asked for before it, and no epoch begins
+// the last value of an option stands after what was asked for before it, and no epoch begins
 const IN_TURN: [ScriptStep; 9] = [
     ("x option S=a", "", ""),
     ("x new", "", ""),

@@ -8,7 +8,7 @@ use Rattle.line_io.specs.Event.{Event, Open}
 use Rattle.chess_board.specs.declared.board.Move.{Move}
 use Rattle.chess_board.specs.Play.{HasLegal}
 use Rattle.chess_board.specs.Text.{text_of, ComesBefore}
-use Rattle.fen_text.specs.Written.{written}
+use Rattle.fen_text.specs.Written.{position_fen}
 use Rattle.game_record.specs.Game.{now_of}
 use Rattle.policy_rules.specs.Policy.{usual}
 use Rattle.desk_rules.specs.Desk.{has_ended}
@@ -16,7 +16,7 @@ use Rattle.adapter_core.specs.Trace.{Step}
 use Rattle.adapter_core.proofs.Unique.{unique}
 use Rattle.session_script.proofs.Scripts.{same_trace}
 use Rattle.drill.specs.Generator.{next, place_of}
-use Rattle.drill.specs.Rounds.{Drill, Draws, Misses, Answers, Nothing, Alone, WithHint, Round, Rounds, renewal, renewed, entry, moved, hinted, answer, answer_with, greeting, preparation, closing, starting}
+use Rattle.drill.specs.Rounds.{Drill, Draws, Misses, Answers, Nothing, Alone, WithHint, Round, Rounds, renewal, unspent_drill, entry, drill_after_move, drill_with_hint, answer, answer_with, greeting_events, preparation, closing_events, first_drill}
 use Rattle.drill.specs.Tally.{tally_of, line_of}
 use Rattle.drill.specs.Alike.{DrillsAreOne}
 use Rattle.drill.proofs.Ordered.{same_lists}
@@ -64,24 +64,24 @@ one_answer s es fs t u (Nothing h e f) (Alone n k d l g i) = absurd (both_ways (
 one_answer s es fs t u (Nothing h e f) (WithHint n hint k d l g i) = absurd (both_ways (has_ended s.game) k h)
 one_answer s es fs t u (Alone m h d l e f) (Nothing k g i) = absurd (both_ways (has_ended s.game) h k)
 one_answer s es fs t u (WithHint m hint h d l e f) (Nothing k g i) = absurd (both_ways (has_ended s.game) h k)
-one_answer s es fs t u (Alone m h d l e f) (Alone n k x y g i) = let same = one_drawn s m n d x in (e ∙ ap answer same ∙ sym g, f ∙ ap (λ (z : Move). moved s z) same ∙ sym i)
-one_answer s es fs t u (Alone m h d l e f) (WithHint n hint k x y g i) = let same = one_drawn s n m x d in absurd (l (subst (λ (z : Move). HasLegal (now_of (moved s z).game)) same (has_drawn (moved s n) hint y)))
-one_answer s es fs t u (WithHint m hint h d l e f) (Alone n k x y g i) = let same = one_drawn s m n d x in absurd (y (subst (λ (z : Move). HasLegal (now_of (moved s z).game)) same (has_drawn (moved s m) hint l)))
+one_answer s es fs t u (Alone m h d l e f) (Alone n k x y g i) = let same = one_drawn s m n d x in (e ∙ ap answer same ∙ sym g, f ∙ ap (λ (z : Move). drill_after_move s z) same ∙ sym i)
+one_answer s es fs t u (Alone m h d l e f) (WithHint n hint k x y g i) = let same = one_drawn s n m x d in absurd (l (subst (λ (z : Move). HasLegal (now_of (drill_after_move s z).game)) same (has_drawn (drill_after_move s n) hint y)))
+one_answer s es fs t u (WithHint m hint h d l e f) (Alone n k x y g i) = let same = one_drawn s m n d x in absurd (y (subst (λ (z : Move). HasLegal (now_of (drill_after_move s z).game)) same (has_drawn (drill_after_move s m) hint l)))
 one_answer s es fs t u (WithHint m a h d l e f) (WithHint n b k x y g i) =
     let same = one_drawn s m n d x in
-    let hints = one_drawn (moved s n) a b (subst (λ (z : Move). Draws (moved s z) a) same l) y in (
+    let hints = one_drawn (drill_after_move s n) a b (subst (λ (z : Move). Draws (drill_after_move s z) a) same l) y in (
       e ∙ ap (λ (z : Move). answer_with z a) same ∙ ap (λ (z : Move). answer_with n z) hints ∙ sym g,
-      f ∙ ap (λ (z : Move). hinted (moved s z) a) same ∙ ap (λ (z : Move). hinted (moved s n) z) hints ∙ sym i,
+      f ∙ ap (λ (z : Move). drill_with_hint (drill_after_move s z) a) same ∙ ap (λ (z : Move). drill_with_hint (drill_after_move s n) z) hints ∙ sym i,
     )
 
 -- ROUNDS
 
 one_round : (s : Drill) (es fs : List Event) (t u : Drill) → Round s es t → Round s fs u → Both es fs t u
 one_round s es fs t u a b =
-    let b0 = renewed s in
+    let b0 = unspent_drill s in
     let m = one_drawn b0 a.entered b.entered a.drawn b.drawn in
     let missed = one_missed b0.hint b.entered a.missed b.missed (subst (λ (z : Move). Misses b0.hint z a.missed) m a.misses) b.misses in
-    let answered = one_answer (moved b0 b.entered) a.answered b.answered t u (subst (λ (z : Move). Answers (moved b0 z) a.answered t) m a.answers) b.answers in (
+    let answered = one_answer (drill_after_move b0 b.entered) a.answered b.answered t u (subst (λ (z : Move). Answers (drill_after_move b0 z) a.answered t) m a.answers) b.answers in (
       a.events_are ∙ ap (λ (z : Move). renewal s ++ (entry z ++ (a.missed ++ a.answered))) m ∙ ap (λ (z : List Event). renewal s ++ (entry b.entered ++ (z ++ a.answered))) missed
           ∙ ap (λ (z : List Event). renewal s ++ (entry b.entered ++ (b.missed ++ z))) answered.0 ∙ sym b.events_are,
       answered.1,
@@ -98,7 +98,7 @@ one_course (suc n) s es fs t u (p, first, last, many, one, e) (q, first', last',
 
 pub drills_alike : DrillsAreOne
 drills_alike number count line line' a b =
-    let both = one_course count (starting number) a.rounds b.rounds a.last b.last a.plays b.plays in
-    let heard = a.events_are ∙ ap (λ (z : List Event). Open ∷ (greeting ++ (preparation ++ (z ++ closing)))) both.0 ∙ sym b.events_are in
+    let both = one_course count (first_drill number) a.rounds b.rounds a.last b.last a.plays b.plays in
+    let heard = a.events_are ∙ ap (λ (z : List Event). Open ∷ (greeting_events ++ (preparation ++ (z ++ closing_events)))) both.0 ∙ sym b.events_are in
     let trace = same_trace usual (unique usual) a.trace b.trace a.lawful b.lawful heard in
-    a.line_is ∙ ap (λ (z : List Step). line_of number count (tally_of z) (written (now_of a.last.game))) trace ∙ ap (λ (z : Drill). line_of number count (tally_of b.trace) (written (now_of z.game))) both.1 ∙ sym b.line_is
+    a.line_is ∙ ap (λ (z : List Step). line_of number count (tally_of z) (position_fen (now_of a.last.game))) trace ∙ ap (λ (z : Drill). line_of number count (tally_of b.trace) (position_fen (now_of z.game))) both.1 ∙ sym b.line_is

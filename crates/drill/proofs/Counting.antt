@@ -4,7 +4,7 @@ use Rattle.std.specs.List.{after_first}
 use Rattle.line_io.specs.Lines.{parts, is_feed}
 use Rattle.line_io.proofs.Parts.{parts_first}
 
--- the first line is one, and those behind it are the others
+-- the first line is one, and those after it are the others
 pub one_line : (rest after : List ℕ) → 0 < length rest → after ≡ after_first is_feed rest → length (parts rest) ≡ 1 + length (parts after)
 one_line [] after h e = absurd (omega arith)
 one_line (x ∷ xs) after h e =

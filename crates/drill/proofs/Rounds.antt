@@ -7,12 +7,12 @@ use Rattle.game_record.specs.Game.{Game, ply_of, now_of, with_ply}
 use Rattle.desk_rules.specs.Desk.{has_ended}
 use Rattle.drill.specs.declared.round.Drill.{Drill}
 use Rattle.drill.specs.Generator.{next}
-use Rattle.drill.specs.Rounds.{Drill as AnyDrill, Draws, Misses, Answers, Alone, WithHint, moved, hinted, ponders, renewal, renewed, entry, answer, answer_with}
+use Rattle.drill.specs.Rounds.{Drill as AnyDrill, Draws, Misses, Answers, Alone, WithHint, drill_after_move, drill_with_hint, ponders, renewal, unspent_drill, entry, answer, answer_with}
 use Rattle.drill.specs.Sent.{DrillSession, Sent}
 use Rattle.drill.specs.Stood.{stand_of, UserMoves, HintDrawn, EngineMoves, RoundPlayed, RoundsPlayed}
 use Rattle.drill.proofs.Sending.{sent_both}
 
-pub played : (old begun entered new : Drill) → Sent old.session begun.session (renewal (stand_of old)) → stand_of begun ≡ renewed (stand_of old) → UserMoves begun entered → EngineMoves entered new → RoundPlayed old new
+pub played : (old begun entered new : Drill) → Sent old.session begun.session (renewal (stand_of old)) → stand_of begun ≡ unspent_drill (stand_of old) → UserMoves begun entered → EngineMoves entered new → RoundPlayed old new
 played old begun entered new sent stands user engine =
     let s = stand_of old in
     let m = user.entered in
@@ -27,7 +27,7 @@ played old begun entered new sent stands user engine =
         missed = user.missed;
         misses = subst (λ (x : AnyDrill). Misses x.hint m user.missed) stands user.misses;
         answered = engine.answered;
-        answers = subst (λ (x : AnyDrill). Answers x engine.answered (stand_of new)) (user.stand ∙ ap (λ (x : AnyDrill). moved x m) stands) engine.answers;
+        answers = subst (λ (x : AnyDrill). Answers x engine.answered (stand_of new)) (user.stand ∙ ap (λ (x : AnyDrill). drill_after_move x m) stands) engine.answers;
         events_are = refl;
       };
       sent = sent_both old.session begun.session new.session (renewal s) es sent both;
@@ -51,7 +51,7 @@ stand seed game hint = record { seed = seed; game = game; hint = hint }
 
 -- a hint that was drawn is kept where the engine ponders on it
 pub hint_kept : (old drawn : Drill) (hint : Move) (kept : Option Move) → drawn ≡ record old { seed = next old.seed } → kept ≡ (if ponders drawn.game hint then Some hint else None)
-    → record { seed = drawn.seed; game = drawn.game; hint = kept } ≡ hinted (stand_of old) hint
+    → record { seed = drawn.seed; game = drawn.game; hint = kept } ≡ drill_with_hint (stand_of old) hint
 hint_kept old drawn hint kept e k =
     ap (λ (h : Option Move). stand drawn.seed drawn.game h) k ∙ ap (λ (d : Drill). stand d.seed d.game (if ponders d.game hint then Some hint else None)) e
 
@@ -65,7 +65,7 @@ move_played old drawn new m session e f = (
   ap (λ (d : Drill). d.session) f,
 )
 
-pub stand_moved : (old : Drill) (m : Move) (seed : ℕ) (game : Game) → seed ≡ next old.seed → game ≡ with_ply old.game (ply_of m) → record { seed = seed; game = game; hint = None } ≡ moved (stand_of old) m
+pub stand_moved : (old : Drill) (m : Move) (seed : ℕ) (game : Game) → seed ≡ next old.seed → game ≡ with_ply old.game (ply_of m) → record { seed = seed; game = game; hint = None } ≡ drill_after_move (stand_of old) m
 stand_moved old m seed game e f = ap (λ n. stand n game None) e ∙ ap (λ (g : Game). stand (next old.seed) g None) f
 
 -- THE MOVES OF A ROUND
@@ -102,9 +102,9 @@ pub answers_hinted : (old drawn played new : Drill) (m : Move) → old.hint ≡ 
     → played ≡ record drawn { session = drawn.session; game = with_ply drawn.game (ply_of m) } → HintDrawn played new m → EngineMoves old new
 answers_hinted old drawn played new m none still d e f h =
     let p = move_played old drawn played m drawn.session e f in
-    let stands : stand_of played ≡ moved (stand_of old) m = ap (λ (k : Option Move). stand played.seed played.game k) (p.2 ∙ none) ∙ stand_moved old m played.seed played.game p.0 p.1 in
+    let stands : stand_of played ≡ drill_after_move (stand_of old) m = ap (λ (k : Option Move). stand played.seed played.game k) (p.2 ∙ none) ∙ stand_moved old m played.seed played.game p.0 p.1 in
     record {
       answered = answer_with m h.hint;
-      answers = WithHint m h.hint still d (subst (λ (s : AnyDrill). Draws s h.hint) stands h.drawn) refl (h.stand ∙ ap (λ (s : AnyDrill). hinted s h.hint) stands);
+      answers = WithHint m h.hint still d (subst (λ (s : AnyDrill). Draws s h.hint) stands h.drawn) refl (h.stand ∙ ap (λ (s : AnyDrill). drill_with_hint s h.hint) stands);
       sent = subst (λ (x : DrillSession). Sent x new.session (answer_with m h.hint)) (p.3 ∙ ap (λ (x : Drill). x.session) e) h.sent;
     }

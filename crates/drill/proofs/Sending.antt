@@ -6,7 +6,7 @@ use Rattle.adapter_core.specs.Trace.{Step, Lawful}
 use Rattle.adapter_core.specs.Stands.{Stands}
 use Rattle.session_script.specs.Script.{events}
 use Rattle.drill.specs.declared.tally.Tally.{Tally}
-use Rattle.drill.specs.Tally.{counted, tally_of}
+use Rattle.drill.specs.Tally.{tally_after, tally_of}
 use Rattle.drill.specs.Sent.{DrillSession, Sends, Sent}
 
 pub sent_one : (a b : DrillSession) (e : Event) → Sends a b e → Sent a b (e ∷ [])
@@ -32,7 +32,7 @@ one_more a b es e t s =
       lawful = more.0;
       stands = more.1;
       events_are = ap (λ (l : List Event). l ++ s.step.event ∷ []) t.events_are ∙ ap (λ (x : Event). es ++ x ∷ []) s.event;
-      tally_is = s.tally_is ∙ ap (λ (x : Tally). counted x s.step) t.tally_is;
+      tally_is = s.tally_is ∙ ap (λ (x : Tally). tally_after x s.step) t.tally_is;
     }
 
 pub traced : (a b : DrillSession) (es fs : List Event) → Traced a es → Sent a b fs → Traced b (es ++ fs)

@@ -14,11 +14,11 @@ use Rattle.desk_rules.specs.Desk.{Situation}
 use Rattle.desk_rules.specs.Steps.{Effect, Shows}
 use Rattle.desk_rules.specs.Replies.{replies_of, row}
 use Rattle.adapter_core.specs.Shown.{moves_told}
-use Rattle.adapter_core.specs.Trace.{Step, Lawful, iface_text, engine_text, state, situation, effect, owing, closed_after}
+use Rattle.adapter_core.specs.Trace.{Step, Lawful, iface_text, engine_text, state, situation, effect, owed_after, closed_after}
 use Rattle.adapter_core.proofs.Shown.{open_shows, shown_by}
 use Rattle.line_io.specs.Lines.{parts}
 use Rattle.drill.specs.declared.tally.Tally.{Tally}
-use Rattle.drill.specs.Tally.{counted}
+use Rattle.drill.specs.Tally.{tally_after}
 use Rattle.drill.specs.Sent.{counted_texts, shows_move}
 
 -- a text that begins with a digit
@@ -81,10 +81,10 @@ by_effect n false owes h d = shown_next n (replies_of false owes h d) (shown_by 
 pub is_shown : (o : Settings) (step : Step) (t : List Step) (n : ℕ) → Lawful o (step ∷ t) → cond (shows_move (reply_lines step.replies)) (n + 1) n ≡ n + length (moves_told step.replies)
 is_shown o step t n l =
     let s = state o t in
-    subst (λ (rs : List Reply). cond (shows_move (reply_lines rs)) (n + 1) n ≡ n + length (moves_told rs)) (sym l.1.replies) (by_effect n (closed_after s step.event) (is_move (owing s step.event)) (situation s) (effect s step.event))
+    subst (λ (rs : List Reply). cond (shows_move (reply_lines rs)) (n + 1) n ≡ n + length (moves_told rs)) (sym l.1.replies) (by_effect n (closed_after s step.event) (is_move (owed_after s step.event)) (situation s) (effect s step.event))
 
 -- so what it wrote counts it
-pub counts_step : (o : Settings) (step : Step) (t : List Step) (tally : Tally) → Lawful o (step ∷ t) → counted_texts tally (iface_text step) (engine_text step) ≡ counted tally step
+pub counts_step : (o : Settings) (step : Step) (t : List Step) (tally : Tally) → Lawful o (step ∷ t) → counted_texts tally (iface_text step) (engine_text step) ≡ tally_after tally step
 counts_step o step t tally l =
     ap with_shown (is_shown o step t tally.shown l) where
       with_shown : ℕ → Tally

@@ -8,7 +8,7 @@ use Rattle.chess_board.specs.Rules.{is_legal, is_legal_of, men_after}
 use Rattle.chess_board.proofs.Legal.{legal-law}
 use Rattle.game_record.specs.declared.ending.GameEnd.{GameEnd}
 use Rattle.game_record.specs.declared.ending.GameEnd.TheVariants.{Mate, Stale, Dead, Repetition, Fifty}
-use Rattle.game_record.specs.Game.{begun}
+use Rattle.game_record.specs.Game.{game_from}
 use Rattle.game_record.specs.Ending.{ended_of, repeats_of, is_same, Ends}
 use Rattle.game_record.proofs.States.{ending-law}
 use Rattle.desk_rules.specs.Desk.{has_ended}
@@ -28,12 +28,12 @@ not_dead : IsDead start_men → ⊥
 not_dead (inl e) = let z : 32 ≡ 2 = e in absurd (omega (arith, z))
 not_dead (inr e) = let z : 32 ≡ 3 = e.0 in absurd (omega (arith, z))
 
-pub start_open : has_ended (begun start_position) ≡ false
-start_open = by (ended_of (begun start_position)) (ending-law (begun start_position)) where
-  by : (end : Option GameEnd) → Ends (begun start_position) end → is_some end ≡ false
+pub start_open : has_ended (game_from start_position) ≡ false
+start_open = by (ended_of (game_from start_position)) (ending-law (game_from start_position)) where
+  by : (end : Option GameEnd) → Ends (game_from start_position) end → is_some end ≡ false
   by None x = refl
   by (Some Mate) x = absurd (x.1 start_legal)
   by (Some Stale) x = absurd (x.1 start_legal)
   by (Some Dead) x = absurd (not_dead x.1)
-  by (Some Repetition) x = let few : repeats_of (begun start_position) ≤ 1 = count_by-le-length (is_same start_position) (start_position ∷ []) in absurd (omega (arith, few, x.1))
+  by (Some Repetition) x = let few : repeats_of (game_from start_position) ≤ 1 = count_by-le-length (is_same start_position) (start_position ∷ []) in absurd (omega (arith, few, x.1))
   by (Some Fifty) x = absurd (omega (arith, x.2))

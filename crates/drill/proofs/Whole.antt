@@ -1,13 +1,13 @@
 -- The parts of a drill make a drill.
 use Rattle.std.proofs.Common.{◌≡◌, ℕ, List, [], ◌∷◌, ◌++◌, refl, ap, subst, ◌∙◌}
 use Rattle.line_io.specs.Event.{Open}
-use Rattle.fen_text.specs.Written.{written}
+use Rattle.fen_text.specs.Written.{position_fen}
 use Rattle.game_record.specs.Game.{now_of}
 use Rattle.policy_rules.specs.Policy.{usual}
 use Rattle.adapter_core.specs.Stands.{Stands}
 use Rattle.drill.specs.declared.round.Drill.{Drill}
 use Rattle.drill.specs.declared.tally.Tally.{Tally}
-use Rattle.drill.specs.Rounds.{Drill as AnyDrill, Rounds, starting, greeting, preparation, closing}
+use Rattle.drill.specs.Rounds.{Drill as AnyDrill, Rounds, first_drill, greeting_events, preparation, closing_events}
 use Rattle.drill.specs.Tally.{nothing, line_of}
 use Rattle.drill.specs.Played.{Drills}
 use Rattle.drill.specs.Sent.{DrillSession, Sent}
@@ -15,13 +15,13 @@ use Rattle.drill.specs.Stood.{stand_of, RoundsPlayed}
 use Rattle.drill.proofs.Sending.{Traced, traced, sent_both}
 
 pub drilled : (number count : ℕ) (fresh greeted closed : DrillSession) (ready played : Drill) (line : List ℕ) → Stands usual fresh.core [] → fresh.tally ≡ nothing
-    → Sent fresh greeted (Open ∷ greeting) → Sent greeted ready.session preparation → stand_of ready ≡ starting number → RoundsPlayed count ready played → Sent played.session closed closing
-    → line ≡ line_of number count closed.tally (written (now_of played.game)) → Drills number count line
+    → Sent fresh greeted (Open ∷ greeting_events) → Sent greeted ready.session preparation → stand_of ready ≡ first_drill number → RoundsPlayed count ready played → Sent played.session closed closing_events
+    → line ≡ line_of number count closed.tally (position_fen (now_of played.game)) → Drills number count line
 drilled number count fresh greeted closed ready played line stands none hello prepares stand r ends is =
-    let rest = r.events ++ closing in
-    let all = sent_both fresh greeted closed (Open ∷ greeting) (preparation ++ rest) hello (sent_both greeted ready.session closed preparation rest prepares (sent_both ready.session played.session closed r.events closing r.sent ends)) in
+    let rest = r.events ++ closing_events in
+    let all = sent_both fresh greeted closed (Open ∷ greeting_events) (preparation ++ rest) hello (sent_both greeted ready.session closed preparation rest prepares (sent_both ready.session played.session closed r.events closing_events r.sent ends)) in
     let start : Traced fresh [] = record { trace = []; lawful = tt; stands = stands; events_are = refl; tally_is = none } in
-    let t = traced fresh closed [] (Open ∷ (greeting ++ (preparation ++ rest))) start all in
+    let t = traced fresh closed [] (Open ∷ (greeting_events ++ (preparation ++ rest))) start all in
     record {
       rounds = r.events;
       last = stand_of played;
@@ -29,5 +29,5 @@ drilled number count fresh greeted closed ready played line stands none hello pr
       trace = t.trace;
       lawful = t.lawful;
       events_are = t.events_are;
-      line_is = is ∙ ap (λ (k : Tally). line_of number count k (written (now_of played.game))) t.tally_is;
+      line_is = is ∙ ap (λ (k : Tally). line_of number count k (position_fen (now_of played.game))) t.tally_is;
     }

@@ -1,20 +1,21 @@
 -- What a drill comes to.
 use Rattle.std.specs.Prelude.{◌≡◌, ℕ, List, ◌∷◌, ◌++◌}
 use Rattle.line_io.specs.Event.{Event, Open}
-use Rattle.fen_text.specs.Written.{written}
+use Rattle.fen_text.specs.Written.{position_fen}
 use Rattle.game_record.specs.Game.{now_of}
 use Rattle.policy_rules.specs.Policy.{usual}
 use Rattle.adapter_core.specs.Trace.{Step, Lawful}
 use Rattle.session_script.specs.Script.{events}
-use Rattle.drill.specs.Rounds.{Drill, Rounds, starting, greeting, preparation, closing}
+use Rattle.drill.specs.Rounds.{Drill, Rounds, first_drill, greeting_events, preparation, closing_events}
 use Rattle.drill.specs.Tally.{tally_of, line_of}
 
 -- The line gives the counts of the lawful trace of the drill's events with the usual settings, and the position of its game.
 pub record Drills (number count : ℕ) (line : List ℕ) : Type 0 where
   pub rounds : List Event
   pub last : Drill
-  pub plays : Rounds count (starting number) rounds last
+  pub plays : Rounds count (first_drill number) rounds last
   pub trace : List Step
   pub lawful : Lawful usual trace
-  pub events_are : events trace ≡ Open ∷ (greeting ++ (preparation ++ (rounds ++ closing)))
-  pub line_is : line ≡ line_of number count (tally_of trace) (written (now_of last.game))
+  pub events_are : events trace
+      ≡ Open ∷ (greeting_events ++ (preparation ++ (rounds ++ closing_events)))
+  pub line_is : line ≡ line_of number count (tally_of trace) (position_fen (now_of last.game))

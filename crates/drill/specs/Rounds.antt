@@ -4,7 +4,7 @@ use Rattle.line_io.specs.Event.{Event, Iface, Engine, EngineEnd}
 use Rattle.chess_board.specs.declared.board.Move.{Move}
 use Rattle.chess_board.specs.Play.{start_position, HasLegal}
 use Rattle.chess_board.specs.Text.{text_of, AreLegalMoves}
-use Rattle.game_record.specs.Game.{Game, ply_of, now_of, begun, with_ply}
+use Rattle.game_record.specs.Game.{Game, ply_of, now_of, game_from, with_ply}
 use Rattle.desk_rules.specs.Desk.{has_ended}
 use Rattle.drill.specs.Generator.{next, place_of}
 use Rattle.drill.specs.declared.round.TheConstants.{SPENT_PLIES}
@@ -15,8 +15,8 @@ pub record Drill : Type 0 where
   pub game : Game
   pub hint : Option Move
 
-abbrev pub starting : ℕ → Drill
-starting number = record { seed = number; game = begun start_position; hint = None }
+abbrev pub first_drill : ℕ → Drill
+first_drill number = record { seed = number; game = game_from start_position; hint = None }
 
 -- a move is drawn from all legal ones, which stand in the order of their texts
 pub record Draws (s : Drill) (m : Move) : Type 0 where
@@ -26,16 +26,16 @@ pub record Draws (s : Drill) (m : Move) : Type 0 where
 
 -- THE BEGINNING AND THE END
 
-abbrev pub greeting : List Event
-greeting =
+abbrev pub greeting_events : List Event
+greeting_events =
     Iface (codes "xboard") ∷ Iface (codes "protover 2")
     ∷ Engine (codes "id name Drill") ∷ Engine (codes "option name Ponder type check default false") ∷ Engine (codes "uciok") ∷ Engine (codes "readyok") ∷ []
 
 abbrev pub preparation : List Event
 preparation = Iface (codes "new") ∷ Engine (codes "readyok") ∷ Iface (codes "post") ∷ Iface (codes "hard") ∷ Engine (codes "readyok") ∷ []
 
-abbrev pub closing : List Event
-closing = Iface (codes "quit") ∷ EngineEnd ∷ []
+abbrev pub closing_events : List Event
+closing_events = Iface (codes "quit") ∷ EngineEnd ∷ []
 
 -- A NEW GAME
 
@@ -48,19 +48,19 @@ abbrev pub no_move : Event
 no_move = Engine (codes "bestmove 0000")
 
 -- the answer to a ponder search that is over
-abbrev pub lapsed : Option Move → List Event
-lapsed None = []
-lapsed (Some hint) = no_move ∷ []
+abbrev pub late_answer : Option Move → List Event
+late_answer None = []
+late_answer (Some hint) = no_move ∷ []
 
 abbrev pub new_game : Option Move → List Event
-new_game hint = Iface (codes "new") ∷ (lapsed hint ++ Engine (codes "readyok") ∷ [])
+new_game hint = Iface (codes "new") ∷ (late_answer hint ++ Engine (codes "readyok") ∷ [])
 
 -- a new game, if the one that stands is spent
 abbrev pub renewal : Drill → List Event
 renewal s = if is_spent s.game then new_game s.hint else []
 
-abbrev pub renewed : Drill → Drill
-renewed s = if is_spent s.game then starting s.seed else s
+abbrev pub unspent_drill : Drill → Drill
+unspent_drill s = if is_spent s.game then first_drill s.seed else s
 
 -- THE MOVE OF THE USER
 
@@ -68,8 +68,8 @@ abbrev pub entry : Move → List Event
 entry m = Iface (codes "time 30000") ∷ Iface (codes "otim 30000") ∷ Iface (codes "usermove " ++ text_of m) ∷ []
 
 -- after a move that was drawn
-abbrev pub moved : Drill → Move → Drill
-moved s m = record { seed = next s.seed; game = with_ply s.game (ply_of m); hint = None }
+abbrev pub drill_after_move : Drill → Move → Drill
+drill_after_move s m = record { seed = next s.seed; game = with_ply s.game (ply_of m); hint = None }
 
 -- the ponder search of another move is over
 abbrev pub Misses : Option Move → Move → List Event → Type 0
@@ -91,25 +91,25 @@ answer_with m hint = thinks m ∷ Engine (codes "bestmove " ++ (text_of m ++ (co
 abbrev pub ponders : Game → Move → Bool
 ponders g hint = not (has_ended g) && not (has_ended (with_ply g (ply_of hint)))
 
-abbrev pub hinted : Drill → Move → Drill
-hinted s hint = record { seed = next s.seed; game = s.game; hint = (if ponders s.game hint then Some hint else None) }
+abbrev pub drill_with_hint : Drill → Move → Drill
+drill_with_hint s hint = record { seed = next s.seed; game = s.game; hint = (if ponders s.game hint then Some hint else None) }
 
 -- what the engine answers, if the game has not ended: with a hint, if the side then on move has a legal move
 pub data Answers (s : Drill) (es : List Event) (s' : Drill) : Type 0 where
   Nothing : has_ended s.game ≡ true → es ≡ [] → s' ≡ s → Answers s es s'
-  Alone : (m : Move) → has_ended s.game ≡ false → Draws s m → ¬ HasLegal (now_of (moved s m).game) → es ≡ answer m → s' ≡ moved s m → Answers s es s'
-  WithHint : (m hint : Move) → has_ended s.game ≡ false → Draws s m → Draws (moved s m) hint → es ≡ answer_with m hint → s' ≡ hinted (moved s m) hint → Answers s es s'
+  Alone : (m : Move) → has_ended s.game ≡ false → Draws s m → ¬ HasLegal (now_of (drill_after_move s m).game) → es ≡ answer m → s' ≡ drill_after_move s m → Answers s es s'
+  WithHint : (m hint : Move) → has_ended s.game ≡ false → Draws s m → Draws (drill_after_move s m) hint → es ≡ answer_with m hint → s' ≡ drill_with_hint (drill_after_move s m) hint → Answers s es s'
 
 -- ROUNDS
 
 -- a round: a new game if one is due, a move of the user and one of the engine
 pub record Round (s : Drill) (es : List Event) (s' : Drill) : Type 0 where
   pub entered : Move
-  pub drawn : Draws (renewed s) entered
+  pub drawn : Draws (unspent_drill s) entered
   pub missed : List Event
-  pub misses : Misses (renewed s).hint entered missed
+  pub misses : Misses (unspent_drill s).hint entered missed
   pub answered : List Event
-  pub answers : Answers (moved (renewed s) entered) answered s'
+  pub answers : Answers (drill_after_move (unspent_drill s) entered) answered s'
   pub events_are : es ≡ renewal s ++ (entry entered ++ (missed ++ answered))
 
 -- so many rounds, one after the other

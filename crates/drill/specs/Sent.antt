@@ -11,7 +11,7 @@ use Rattle.adapter_core.specs.Trace.{Step, Lawful}
 use Rattle.adapter_core.specs.Parts.{CoreParts}
 use Rattle.adapter_core.specs.Stands.{Stands}
 use Rattle.drill.specs.declared.tally.Tally.{Tally}
-use Rattle.drill.specs.Tally.{counted}
+use Rattle.drill.specs.Tally.{tally_after}
 use Rattle.line_io.specs.declared.limits.TheConstants.{SCRIPT_LINE}
 use Rattle.drill.specs.declared.tally.TheConstants.{MOST_STEPS}
 
@@ -31,7 +31,7 @@ pub record Sends (old new : DrillSession) (e : Event) : Type 0 where
   pub step : Step
   pub event : step.event ≡ e
   pub extends : (o : Settings) (t : List Step) → Lawful o t → Stands o old.core t → Lawful o (step ∷ t) × Stands o new.core (step ∷ t)
-  pub tally_is : new.tally ≡ counted old.tally step
+  pub tally_is : new.tally ≡ tally_after old.tally step
 
 -- the text begins with a move
 abbrev pub shows_move : List ℕ → Bool
@@ -51,7 +51,7 @@ pub record Steps (old new : CoreParts) (e : Event) (tally_old tally_new : Tally)
   pub step : Step
   pub event : step.event ≡ e
   pub extends : (o : Settings) (t : List Step) → Lawful o t → Stands o old t → Lawful o (step ∷ t) × Stands o new (step ∷ t)
-  pub tally_is : (o : Settings) (t : List Step) → Lawful o (step ∷ t) → tally_new ≡ counted tally_old step
+  pub tally_is : (o : Settings) (t : List Step) → Lawful o (step ∷ t) → tally_new ≡ tally_after tally_old step
   pub few : AreFew tally_new
 
 -- the events were sent, the first one first
@@ -60,8 +60,8 @@ Sent old new [] = new ≡ old
 Sent old new (e ∷ es) = (between : DrillSession) × Sends old between e × Sent between new es
 
 -- both sides talk
-abbrev pub talking : Ends
-talking = record { opened = true; iface = false; engine = false; iface_lost = false; engine_lost = false; closed = false }
+abbrev pub both_sides_open : Ends
+both_sides_open = record { opened = true; iface = false; engine = false; iface_lost = false; engine_lost = false; closed = false }
 
 -- so many steps more may be counted
 abbrev pub HasRoom : ℕ → DrillSession → Type 0

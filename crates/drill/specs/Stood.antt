@@ -3,7 +3,7 @@ use Rattle.std.specs.Prelude.{◌≡◌, ℕ, List, ◌++◌}
 use Rattle.line_io.specs.Event.{Event}
 use Rattle.chess_board.specs.declared.board.Move.{Move}
 use Rattle.drill.specs.declared.round.Drill.{Drill}
-use Rattle.drill.specs.Rounds.{Drill as AnyDrill, Draws, Misses, Answers, Round, Rounds, entry, answer_with, moved, hinted}
+use Rattle.drill.specs.Rounds.{Drill as AnyDrill, Draws, Misses, Answers, Round, Rounds, entry, answer_with, drill_after_move, drill_with_hint}
 use Rattle.drill.specs.Sent.{Sent}
 
 abbrev pub stand_of : Drill → AnyDrill
@@ -16,14 +16,14 @@ pub record UserMoves (old new : Drill) : Type 0 where
   pub missed : List Event
   pub misses : Misses old.hint entered missed
   pub sent : Sent old.session new.session (entry entered ++ missed)
-  pub stand : stand_of new ≡ moved (stand_of old) entered
+  pub stand : stand_of new ≡ drill_after_move (stand_of old) entered
 
 -- a hint was drawn, and the engine answered with it
 pub record HintDrawn (old new : Drill) (m : Move) : Type 0 where
   pub hint : Move
   pub drawn : Draws (stand_of old) hint
   pub sent : Sent old.session new.session (answer_with m hint)
-  pub stand : stand_of new ≡ hinted (stand_of old) hint
+  pub stand : stand_of new ≡ drill_with_hint (stand_of old) hint
 
 -- the engine answered, if the game had not ended
 pub record EngineMoves (old new : Drill) : Type 0 where

@@ -3,8 +3,8 @@ ghost use Rattle.std.specs.Prelude.{◌≡◌, ◌≤◌, ◌+◌, ◌∷◌, Li
 ghost use Rattle.line_io.specs.Event.{Event as AnyEvent, Open};
 ghost use Rattle.chess_board.specs.Text.{IsOfficer};
 ghost use Rattle.adapter_core.specs.Ends.{at_start};
-ghost use Rattle.drill.specs.Rounds.{Misses, answer, answer_with, closing, entry, greeting, lapsed, new_game, preparation, thinks};
-ghost use Rattle.drill.specs.Sent.{HasRoom, Sends, Sent, talking};
+ghost use Rattle.drill.specs.Rounds.{Misses, answer, answer_with, closing_events, entry, greeting_events, late_answer, new_game, preparation, thinks};
+ghost use Rattle.drill.specs.Sent.{HasRoom, Sends, Sent, both_sides_open};
 
 use crate::lines::{answer_with, line_with};
 use crate::session::DrillSession;
@@ -18,8 +18,8 @@ impl DrillSession {
     pub fn greet(&mut self)
         requires start { self.old.core.ends ≡ at_start }
         requires room { HasRoom 7 self.old }
-        ensures sent { Sent self.old self.new (Open ∷ greeting) }
-        ensures talking { self.new.core.ends ≡ talking }
+        ensures sent { Sent self.old self.new (Open ∷ greeting_events) }
+        ensures talking { self.new.core.ends ≡ both_sides_open }
         ensures few { self.new.tally.steps ≤ self.old.tally.steps + 7 }
     {
         self.send(&Event::Open);
@@ -33,10 +33,10 @@ impl DrillSession {
 
     /// Begins the first game, with thinking shown and the engine pondering.
     pub fn prepare(&mut self)
-        requires talking { self.old.core.ends ≡ talking }
+        requires talking { self.old.core.ends ≡ both_sides_open }
         requires room { HasRoom 5 self.old }
         ensures sent { Sent self.old self.new preparation }
-        ensures talking { self.new.core.ends ≡ talking }
+        ensures talking { self.new.core.ends ≡ both_sides_open }
         ensures few { self.new.tally.steps ≤ self.old.tally.steps + 5 }
     {
         self.iface(b"new");
@@ -48,10 +48,10 @@ impl DrillSession {
 
     // Answers a ponder search that is over.
     fn lapse(&mut self, hint: Option<Move>)
-        requires talking { self.old.core.ends ≡ talking }
+        requires talking { self.old.core.ends ≡ both_sides_open }
         requires room { HasRoom 1 self.old }
-        ensures sent { Sent self.old self.new (lapsed hint) }
-        ensures talking { self.new.core.ends ≡ talking }
+        ensures sent { Sent self.old self.new (late_answer hint) }
+        ensures talking { self.new.core.ends ≡ both_sides_open }
         ensures few { self.new.tally.steps ≤ self.old.tally.steps + 1 }
     {
         if hint.is_none() {
@@ -62,10 +62,10 @@ impl DrillSession {
 
     /// Begins a new game; the engine may ponder on a hint.
     pub fn begin_game(&mut self, hint: Option<Move>)
-        requires talking { self.old.core.ends ≡ talking }
+        requires talking { self.old.core.ends ≡ both_sides_open }
         requires room { HasRoom 3 self.old }
         ensures sent { Sent self.old self.new (new_game hint) }
-        ensures talking { self.new.core.ends ≡ talking }
+        ensures talking { self.new.core.ends ≡ both_sides_open }
         ensures few { self.new.tally.steps ≤ self.old.tally.steps + 3 }
     {
         self.iface(b"new");
@@ -76,10 +76,10 @@ impl DrillSession {
     /// Enters a move of the user.
     pub fn enter(&mut self, m: Move)
         requires officer { IsOfficer m.promotion }
-        requires talking { self.old.core.ends ≡ talking }
+        requires talking { self.old.core.ends ≡ both_sides_open }
         requires room { HasRoom 3 self.old }
         ensures sent { Sent self.old self.new (entry m) }
-        ensures talking { self.new.core.ends ≡ talking }
+        ensures talking { self.new.core.ends ≡ both_sides_open }
         ensures few { self.new.tally.steps ≤ self.old.tally.steps + 3 }
     {
         self.iface(b"time 30000");
@@ -89,10 +89,10 @@ impl DrillSession {
 
     /// Answers the ponder search of another move than the one that was entered.
     pub fn miss(&mut self, hint: Option<Move>, m: Move)
-        requires talking { self.old.core.ends ≡ talking }
+        requires talking { self.old.core.ends ≡ both_sides_open }
         requires room { HasRoom 1 self.old }
         ensures sent { (es : List AnyEvent) × Misses hint m es × Sent self.old self.new es }
-        ensures talking { self.new.core.ends ≡ talking }
+        ensures talking { self.new.core.ends ≡ both_sides_open }
         ensures few { self.new.tally.steps ≤ self.old.tally.steps + 1 }
     {
         let Some(hint) = hint else { return };
@@ -105,10 +105,10 @@ impl DrillSession {
     // Reports what the engine thinks of.
     fn think(&mut self, m: Move)
         requires officer { IsOfficer m.promotion }
-        requires talking { self.old.core.ends ≡ talking }
+        requires talking { self.old.core.ends ≡ both_sides_open }
         requires room { HasRoom 1 self.old }
         ensures sends { Sends self.old self.new (thinks m) }
-        ensures talking { self.new.core.ends ≡ talking }
+        ensures talking { self.new.core.ends ≡ both_sides_open }
         ensures few { self.new.tally.steps ≤ self.old.tally.steps + 1 }
     {
         self.engine(line_with(b"info depth 1 score cp 0 time 1 nodes 1 pv ", m).as_slice());
@@ -117,10 +117,10 @@ impl DrillSession {
     /// Answers a search with a move.
     pub fn answer(&mut self, m: Move)
         requires officer { IsOfficer m.promotion }
-        requires talking { self.old.core.ends ≡ talking }
+        requires talking { self.old.core.ends ≡ both_sides_open }
         requires room { HasRoom 2 self.old }
         ensures sent { Sent self.old self.new (answer m) }
-        ensures talking { self.new.core.ends ≡ talking }
+        ensures talking { self.new.core.ends ≡ both_sides_open }
         ensures few { self.new.tally.steps ≤ self.old.tally.steps + 2 }
     {
         self.think(m);
@@ -131,10 +131,10 @@ impl DrillSession {
     pub fn answer_with(&mut self, m: Move, hint: Move)
         requires officer { IsOfficer m.promotion }
         requires hint { IsOfficer hint.promotion }
-        requires talking { self.old.core.ends ≡ talking }
+        requires talking { self.old.core.ends ≡ both_sides_open }
         requires room { HasRoom 2 self.old }
         ensures sent { Sent self.old self.new (answer_with m hint) }
-        ensures talking { self.new.core.ends ≡ talking }
+        ensures talking { self.new.core.ends ≡ both_sides_open }
         ensures few { self.new.tally.steps ≤ self.old.tally.steps + 2 }
     {
         self.think(m);
@@ -143,9 +143,9 @@ impl DrillSession {
 
     /// Ends the session.
     pub fn close(&mut self)
-        requires talking { self.old.core.ends ≡ talking }
+        requires talking { self.old.core.ends ≡ both_sides_open }
         requires room { HasRoom 2 self.old }
-        ensures sent { Sent self.old self.new closing }
+        ensures sent { Sent self.old self.new closing_events }
     {
         self.send(&Event::Iface(b"quit"));
         self.send(&Event::EngineEnd);

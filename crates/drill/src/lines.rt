@@ -8,7 +8,7 @@ use chess_board::{Move, move_texts_are_short, write_move};
 /// A line that a drill sends.
 pub type Line = ArrayVec<u8, 72>;
 
-/// Words, and a move behind them.
+/// Words, and a move after them.
 pub fn line_with(words: &[u8], m: Move) -> Line
     requires officer { IsOfficer m.promotion }
     requires short { length words.now ≤ 48 }

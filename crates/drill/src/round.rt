@@ -9,8 +9,8 @@ ghost use Rattle.adapter_core.specs.Ends.{at_start};
 ghost use Rattle.adapter_core.specs.Stands.{Stands};
 ghost use Rattle.desk_rules.specs.Desk.{has_ended};
 ghost use Rattle.drill.specs.Generator.{next};
-ghost use Rattle.drill.specs.Rounds.{Draws, is_spent, new_game, renewal, renewed, starting, ponders};
-ghost use Rattle.drill.specs.Sent.{HasRoom, Sent, talking};
+ghost use Rattle.drill.specs.Rounds.{Draws, is_spent, new_game, renewal, unspent_drill, first_drill, ponders};
+ghost use Rattle.drill.specs.Sent.{HasRoom, Sent, both_sides_open};
 ghost use Rattle.drill.specs.Tally.{nothing};
 ghost use Rattle.drill.specs.Stood.{stand_of, EngineMoves, HintDrawn, RoundPlayed, RoundsPlayed, UserMoves};
 ghost use Rattle.game_record.specs.declared.game.TheConstants.{MOST_PLIES};
@@ -52,7 +52,7 @@ fn can_move(game: &Game) -> bool
 impl Drill {
     /// A drill before its first event. It takes all memory that it ever uses.
     pub fn make(alloc: Global, number: u32) -> Result<Drill, NoMemory>
-        ensures stand { IfOk result (λ drill. stand_of drill ≡ starting number) }
+        ensures stand { IfOk result (λ drill. stand_of drill ≡ first_drill number) }
         ensures core { IfOk result (λ drill. Stands usual drill.session.core []) }
         ensures ends { IfOk result (λ drill. drill.session.core.ends ≡ at_start) }
         ensures tally { IfOk result (λ drill. drill.session.tally ≡ nothing) }
@@ -73,12 +73,12 @@ impl Drill {
 
     // Begins a new game if one is due.
     fn renew(&mut self)
-        requires talking { self.old.session.core.ends ≡ talking }
+        requires talking { self.old.session.core.ends ≡ both_sides_open }
         requires room { HasRoom 3 self.old.session }
         ensures sent { Sent self.old.session self.new.session (renewal (stand_of self.old)) }
-        ensures stand { stand_of self.new ≡ renewed (stand_of self.old) }
+        ensures stand { stand_of self.new ≡ unspent_drill (stand_of self.old) }
         ensures open { is_spent self.new.game ≡ false }
-        ensures talking { self.new.session.core.ends ≡ talking }
+        ensures talking { self.new.session.core.ends ≡ both_sides_open }
         ensures few { self.new.session.tally.steps ≤ self.old.session.tally.steps + 3 }
     {
         if !self.is_spent() {
@@ -88,11 +88,11 @@ impl Drill {
     }
 
     fn begin_anew(&mut self)
-        requires talking { self.old.session.core.ends ≡ talking }
+        requires talking { self.old.session.core.ends ≡ both_sides_open }
         requires room { HasRoom 3 self.old.session }
         ensures sent { Sent self.old.session self.new.session (new_game self.old.hint) }
-        ensures stand { stand_of self.new ≡ starting self.old.seed }
-        ensures talking { self.new.session.core.ends ≡ talking }
+        ensures stand { stand_of self.new ≡ first_drill self.old.seed }
+        ensures talking { self.new.session.core.ends ≡ both_sides_open }
         ensures few { self.new.session.tally.steps ≤ self.old.session.tally.steps + 3 }
     {
         self.session.begin_game(self.hint);
@@ -127,12 +127,12 @@ impl Drill {
     fn move_user(&mut self)
         requires open { has_ended self.old.game ≡ false }
         requires plies { length self.old.game.moves < SPENT_PLIES }
-        requires talking { self.old.session.core.ends ≡ talking }
+        requires talking { self.old.session.core.ends ≡ both_sides_open }
         requires room { HasRoom 4 self.old.session }
         ensures moves { UserMoves self.old self.new }
         ensures quiet { self.new.hint ≡ None }
         ensures plies { length self.new.game.moves < SPENT_PLIES + 1 }
-        ensures talking { self.new.session.core.ends ≡ talking }
+        ensures talking { self.new.session.core.ends ≡ both_sides_open }
         ensures few { self.new.session.tally.steps ≤ self.old.session.tally.steps + 4 }
     {
         let m = self.draw();
@@ -146,10 +146,10 @@ impl Drill {
     fn move_engine(&mut self)
         requires quiet { self.old.hint ≡ None }
         requires plies { length self.old.game.moves < SPENT_PLIES + 1 }
-        requires talking { self.old.session.core.ends ≡ talking }
+        requires talking { self.old.session.core.ends ≡ both_sides_open }
         requires room { HasRoom 2 self.old.session }
         ensures moves { EngineMoves self.old self.new }
-        ensures talking { self.new.session.core.ends ≡ talking }
+        ensures talking { self.new.session.core.ends ≡ both_sides_open }
         ensures few { self.new.session.tally.steps ≤ self.old.session.tally.steps + 2 }
     {
         if has_ended(&self.game) {
@@ -168,10 +168,10 @@ impl Drill {
     fn answer_with_hint(&mut self, m: Move)
         requires officer { IsOfficer m.promotion }
         requires legal { HasLegal (now_of self.old.game) }
-        requires talking { self.old.session.core.ends ≡ talking }
+        requires talking { self.old.session.core.ends ≡ both_sides_open }
         requires room { HasRoom 2 self.old.session }
         ensures moves { HintDrawn self.old self.new m }
-        ensures talking { self.new.session.core.ends ≡ talking }
+        ensures talking { self.new.session.core.ends ≡ both_sides_open }
         ensures few { self.new.session.tally.steps ≤ self.old.session.tally.steps + 2 }
     {
         let hint = self.draw();
@@ -181,10 +181,10 @@ impl Drill {
 
     // One round.
     fn round(&mut self)
-        requires talking { self.old.session.core.ends ≡ talking }
+        requires talking { self.old.session.core.ends ≡ both_sides_open }
         requires room { HasRoom 9 self.old.session }
         ensures round { RoundPlayed self.old self.new }
-        ensures talking { self.new.session.core.ends ≡ talking }
+        ensures talking { self.new.session.core.ends ≡ both_sides_open }
         ensures few { self.new.session.tally.steps ≤ self.old.session.tally.steps + 9 }
     {
         self.renew();
@@ -194,10 +194,10 @@ impl Drill {
 
     /// So many rounds.
     pub fn play_rounds(&mut self, count: u32)
-        requires talking { self.old.session.core.ends ≡ talking }
+        requires talking { self.old.session.core.ends ≡ both_sides_open }
         requires room { HasRoom (9 * count) self.old.session }
         ensures rounds { RoundsPlayed count self.old self.new }
-        ensures talking { self.new.session.core.ends ≡ talking }
+        ensures talking { self.new.session.core.ends ≡ both_sides_open }
         ensures few { self.new.session.tally.steps ≤ self.old.session.tally.steps + 9 * count }
     {
         for _ in 0..count {

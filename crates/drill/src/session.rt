@@ -4,7 +4,7 @@ ghost use Rattle.line_io.specs.Event.{event_of, is_line, Iface as FromIface, Eng
 ghost use Rattle.policy_rules.specs.Policy.{usual};
 ghost use Rattle.adapter_core.specs.Ends.{at_start, ends_after, may};
 ghost use Rattle.adapter_core.specs.Stands.{Stands};
-ghost use Rattle.drill.specs.Sent.{AreFew, HasRoom, IsSpeech, Sends, Steps, talking};
+ghost use Rattle.drill.specs.Sent.{AreFew, HasRoom, IsSpeech, Sends, Steps, both_sides_open};
 ghost use Rattle.drill.specs.Tally.{nothing};
 ghost use Rattle.drill.specs.declared.tally.TheConstants.{MOST_STEPS};
 
@@ -75,11 +75,11 @@ impl DrillSession {
 
     /// Sends a line of the interface.
     pub fn iface(&mut self, line: &[u8])
-        requires talking { self.old.core.ends ≡ talking }
+        requires talking { self.old.core.ends ≡ both_sides_open }
         requires speech { IsSpeech line.now }
         requires room { HasRoom 1 self.old }
         ensures sends { Sends self.old self.new (FromIface line.now) }
-        ensures talking { self.new.core.ends ≡ talking }
+        ensures talking { self.new.core.ends ≡ both_sides_open }
         ensures few { self.new.tally.steps ≤ self.old.tally.steps + 1 }
     {
         self.send(&Event::Iface(line));
@@ -87,11 +87,11 @@ impl DrillSession {
 
     /// Sends a line of the engine.
     pub fn engine(&mut self, line: &[u8])
-        requires talking { self.old.core.ends ≡ talking }
+        requires talking { self.old.core.ends ≡ both_sides_open }
         requires line { is_line line.now ≡ true }
         requires room { HasRoom 1 self.old }
         ensures sends { Sends self.old self.new (FromEngine line.now) }
-        ensures talking { self.new.core.ends ≡ talking }
+        ensures talking { self.new.core.ends ≡ both_sides_open }
         ensures few { self.new.tally.steps ≤ self.old.tally.steps + 1 }
     {
         self.send(&Event::Engine(line));

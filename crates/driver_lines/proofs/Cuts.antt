@@ -4,13 +4,13 @@ use Rattle.std.specs.List.{before_first, after_first, position_or_len}
 use Rattle.std.proofs.lemmas.List.{length-drop, length-take}
 use Rattle.std.proofs.lemmas.Bool.Decides.{nat_tests}
 use Rattle.peer_words.specs.Tokens.{is_white, trim_left, token_end}
-use Rattle.driver_lines.specs.Parts.{Feature, CutFeature, ends_name, is_quote, found, value_cut, skipped, cut_by, cut_of, onto, parts_from, parts_within, parts, FitsIn, IsNamed}
+use Rattle.driver_lines.specs.Parts.{Feature, CutFeature, ends_name, is_quote, cut_with_feature, value_cut, cut_without_feature, cut_by, cut_of, onto, parts_from, parts_within, parts, FitsIn, IsNamed}
 use Rattle.peer_words.proofs.Lengths.{trim_left_length}
 
 drop_short : (n : ℕ) (xs : List ℕ) → length (drop n xs) ≤ length xs
 drop_short n xs = omega (arith, length-drop n xs)
 
--- what stands before and behind a place
+-- what stands before and after a place
 halves : (n : ℕ) (xs : List ℕ) → length (take n xs) + length (drop n xs) ≤ length xs
 halves n xs = omega (arith, length-drop n xs, length-take n xs)
 
@@ -19,7 +19,7 @@ halves_more n xs = omega (arith, length-drop (n + 1) xs, length-take n xs)
 
 -- what a cut leaves
 
-quoted_rest : (q : Bool) (name : List ℕ) (b : ℕ) (bs : List ℕ) → length (cond q (found name (before_first is_quote bs) (after_first is_quote bs)) (found name (before_first is_white (b ∷ bs)) (drop (token_end (b ∷ bs)) (b ∷ bs)))).rest ≤ length (b ∷ bs)
+quoted_rest : (q : Bool) (name : List ℕ) (b : ℕ) (bs : List ℕ) → length (cond q (cut_with_feature name (before_first is_quote bs) (after_first is_quote bs)) (cut_with_feature name (before_first is_white (b ∷ bs)) (drop (token_end (b ∷ bs)) (b ∷ bs)))).rest ≤ length (b ∷ bs)
 quoted_rest true name b bs = omega (arith, drop_short (position_or_len is_quote bs + 1) bs)
 quoted_rest false name b bs = drop_short (token_end (b ∷ bs)) (b ∷ bs)
 
@@ -27,7 +27,7 @@ value_rest : (name bs : List ℕ) → length (value_cut name bs).rest ≤ length
 value_rest name [] = omega arith
 value_rest name (b ∷ bs) = quoted_rest (eqb b 34) name b bs
 
-rest_by : (equals : Bool) (name bs behind : List ℕ) (n : ℕ) → length bs ≤ n → length behind ≤ n → length (cond equals (value_cut name bs) (skipped behind)).rest ≤ n
+rest_by : (equals : Bool) (name bs behind : List ℕ) (n : ℕ) → length bs ≤ n → length behind ≤ n → length (cond equals (value_cut name bs) (cut_without_feature behind)).rest ≤ n
 rest_by true name bs behind n h k = omega (arith, value_rest name bs)
 rest_by false name bs behind n h k = omega (arith, drop_short (token_end behind) behind)
 
@@ -41,7 +41,7 @@ rest_short b bs = rest_within (before_first ends_name (b ∷ bs)) (drop (positio
 
 -- the name, the value and the rest are within the text
 
-quoted_fits : (q : Bool) (name : List ℕ) (b : ℕ) (bs text : List ℕ) → length name + length (b ∷ bs) + 1 ≤ length text → FitsIn text (cond q (found name (before_first is_quote bs) (after_first is_quote bs)) (found name (before_first is_white (b ∷ bs)) (drop (token_end (b ∷ bs)) (b ∷ bs))))
+quoted_fits : (q : Bool) (name : List ℕ) (b : ℕ) (bs text : List ℕ) → length name + length (b ∷ bs) + 1 ≤ length text → FitsIn text (cond q (cut_with_feature name (before_first is_quote bs) (after_first is_quote bs)) (cut_with_feature name (before_first is_white (b ∷ bs)) (drop (token_end (b ∷ bs)) (b ∷ bs))))
 quoted_fits true name b bs text h = omega (arith, halves_more (position_or_len is_quote bs) bs)
 quoted_fits false name b bs text h = omega (arith, halves (token_end (b ∷ bs)) (b ∷ bs))
 
@@ -49,7 +49,7 @@ value_fits : (name bs text : List ℕ) → length name + length bs + 1 ≤ lengt
 value_fits name [] text h = omega arith
 value_fits name (b ∷ bs) text h = quoted_fits (eqb b 34) name b bs text h
 
-fits_by : (equals : Bool) (name bs behind text : List ℕ) → length name + length bs + 1 ≤ length text → FitsIn text (cond equals (value_cut name bs) (skipped behind))
+fits_by : (equals : Bool) (name bs behind text : List ℕ) → length name + length bs + 1 ≤ length text → FitsIn text (cond equals (value_cut name bs) (cut_without_feature behind))
 fits_by true name bs behind text h = value_fits name bs text h
 fits_by false name bs behind text h = tt
 
@@ -70,7 +70,7 @@ cut_shorter text b bs e =
 
 -- a feature has a name
 
-quoted_named : (q : Bool) (c : ℕ) (cs : List ℕ) (b : ℕ) (bs : List ℕ) → IsNamed (cond q (found (c ∷ cs) (before_first is_quote bs) (after_first is_quote bs)) (found (c ∷ cs) (before_first is_white (b ∷ bs)) (drop (token_end (b ∷ bs)) (b ∷ bs))))
+quoted_named : (q : Bool) (c : ℕ) (cs : List ℕ) (b : ℕ) (bs : List ℕ) → IsNamed (cond q (cut_with_feature (c ∷ cs) (before_first is_quote bs) (after_first is_quote bs)) (cut_with_feature (c ∷ cs) (before_first is_white (b ∷ bs)) (drop (token_end (b ∷ bs)) (b ∷ bs))))
 quoted_named true c cs b bs = omega arith
 quoted_named false c cs b bs = omega arith
 
@@ -78,7 +78,7 @@ value_named : (c : ℕ) (cs bs : List ℕ) → IsNamed (value_cut (c ∷ cs) bs)
 value_named c cs [] = omega arith
 value_named c cs (b ∷ bs) = quoted_named (eqb b 34) c cs b bs
 
-named_by : (equals : Bool) (c : ℕ) (cs bs behind : List ℕ) → IsNamed (cond equals (value_cut (c ∷ cs) bs) (skipped behind))
+named_by : (equals : Bool) (c : ℕ) (cs bs behind : List ℕ) → IsNamed (cond equals (value_cut (c ∷ cs) bs) (cut_without_feature behind))
 named_by true c cs bs behind = value_named c cs bs
 named_by false c cs bs behind = tt
 

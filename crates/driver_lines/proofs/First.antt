@@ -7,7 +7,7 @@ use Rattle.chess_board.specs.Laws.{IsLegal}
 use Rattle.chess_board.specs.Text.{ComesBefore, AreLegalMoves}
 use Rattle.driver_lines.specs.Moves.{IsFirstMove}
 
--- any other stands behind it
+-- any other stands after it
 other : (first : Move) (rest : List Move) (m : Move) (k : ℕ) → AllPairs ComesBefore (first ∷ rest) → k < length (first ∷ rest) → get_or (first ∷ rest) k m ≡ m → (m ≡ first) ⊎ ComesBefore first m
 other first rest m zero ordered within is = inl (sym is)
 other first rest m (suc k) ordered within is = inr (subst (ComesBefore first) is (ordered 0 (suc k) m (omega arith) within))

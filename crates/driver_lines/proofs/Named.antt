@@ -5,7 +5,7 @@ use Rattle.chess_board.specs.declared.board.Move.{Move}
 use Rattle.chess_board.specs.Position.{Position}
 use Rattle.san_text.specs.declared.fault.SanFault.{SanFault}
 use Rattle.san_text.specs.declared.fault.SanFault.TheVariants.{BadSan, NoFit, Ambiguous}
-use Rattle.san_text.specs.Spelling.{SanSpelling, spelled}
+use Rattle.san_text.specs.Spelling.{SanSpelling, spelling_of_san}
 use Rattle.san_text.specs.Fit.{AgreesText, IsRead}
 use Rattle.san_text.specs.LongForm.{IsLongRead}
 use Rattle.driver_lines.specs.Moves.{coordinates, FitsNone, Writes, WritesNone, Names, NamesNone, IsShown}
@@ -15,7 +15,7 @@ unspelled p None m e h = h
 unspelled p (Some s) m e h = absurd (cc)
 
 pub unread : (p : Position) (text : List ℕ) (fault : SanFault) → IsRead p text (Err fault) → FitsNone p text
-unread p text BadSan h = λ m alone. unspelled p (spelled text) m h alone.0.1
+unread p text BadSan h = λ m alone. unspelled p (spelling_of_san text) m h alone.0.1
 unread p text NoFit h = λ m alone. h.1 m alone.0
 unread p text Ambiguous h = λ m alone. h.1.1.2 (alone.1 h.0 h.1.1.0 ∙ sym (alone.1 h.1.0 h.1.1.1))
 

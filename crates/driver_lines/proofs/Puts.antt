@@ -15,7 +15,7 @@ put_four o a b c d x y z w e f g h = put_two o a d x (y ++ (z ++ w)) e (put_thre
 pub put_lines : (o a b c : Text) (x y z : List ℕ) → a ≡ with o x → b ≡ with a y → c ≡ with b z → c ≡ with o (x ++ (y ++ (z ++ [])))
 put_lines o a b c x y z e f g = put_three o a b c x y z e f g ∙ ap (λ (t : List ℕ). with o (x ++ (y ++ t))) (sym (append-nil z))
 
--- a move behind a word, as its text lies in memory
+-- a move after a word, as its text lies in memory
 moved : (o b : Text) (word t items text : List ℕ) → t ≡ items → items ≡ text → b ≡ with o ((word ++ t) ++ 10 ∷ []) → b ≡ with o ((word ++ text) ++ 10 ∷ [])
 moved o b word t items text f g p = p ∙ ap (λ (x : List ℕ). with o ((word ++ x) ++ 10 ∷ [])) (f ∙ g)
 

@@ -3,7 +3,7 @@ use Rattle.std.specs.Prelude.{ℕ, ◌+◌, ◌/◌, ◌%◌, ◌==◌, min, Lis
 use Rattle.std.specs.Option.{option_map}
 use Rattle.std.specs.Str.{bytes_eq}
 use Rattle.peer_words.specs.Tokens.{tokens}
-use Rattle.peer_words.specs.Numbers.{signed}
+use Rattle.peer_words.specs.Numbers.{signed_number}
 use Rattle.chess_board.specs.declared.board.Side.{Side}
 use Rattle.chess_board.specs.declared.board.Side.TheVariants.{White, Black}
 use Rattle.driver_talk.specs.declared.words.GoClocks.{GoClocks}
@@ -11,7 +11,7 @@ use Rattle.driver_lines.specs.declared.clocks.GoField.{GoField}
 use Rattle.driver_lines.specs.declared.clocks.GoField.TheVariants as fields
 use Rattle.driver_lines.specs.declared.clocks.TheConstants.{LONGEST, MOST_MOVES, MOST_SECONDS, MOST_PLIES}
 use Rattle.driver_lines.specs.Numbers.{natural}
-use Rattle.driver_lines.specs.Lines.{Line, St, Level, Time, Otim, Sd}
+use Rattle.driver_lines.specs.Lines.{DownLine, St, Level, Time, Otim, Sd}
 use Rattle.peer_words.specs.declared.numbers.TheConstants.{SECOND}
 
 -- READING
@@ -30,23 +30,23 @@ field_named t =
 -- the number that the tokens begin with, a negative one as 0
 abbrev pub first_number : List (List ℕ) → Option ℕ
 first_number [] = None
-first_number (t ∷ ts) = option_map natural (signed t)
+first_number (t ∷ ts) = option_map natural (signed_number t)
 
-abbrev pub set : GoField → GoClocks → ℕ → GoClocks
-set fields.WhiteTime c n = record { wtime = n; btime = c.btime; winc = c.winc; binc = c.binc; movetime = c.movetime; movestogo = c.movestogo; depth = c.depth }
-set fields.BlackTime c n = record { wtime = c.wtime; btime = n; winc = c.winc; binc = c.binc; movetime = c.movetime; movestogo = c.movestogo; depth = c.depth }
-set fields.WhiteIncrement c n = record { wtime = c.wtime; btime = c.btime; winc = n; binc = c.binc; movetime = c.movetime; movestogo = c.movestogo; depth = c.depth }
-set fields.BlackIncrement c n = record { wtime = c.wtime; btime = c.btime; winc = c.winc; binc = n; movetime = c.movetime; movestogo = c.movestogo; depth = c.depth }
-set fields.MoveTime c n = record { wtime = c.wtime; btime = c.btime; winc = c.winc; binc = c.binc; movetime = Some n; movestogo = c.movestogo; depth = c.depth }
-set fields.MovesToGo c n = record { wtime = c.wtime; btime = c.btime; winc = c.winc; binc = c.binc; movetime = c.movetime; movestogo = n; depth = c.depth }
-set fields.Depth c n = record { wtime = c.wtime; btime = c.btime; winc = c.winc; binc = c.binc; movetime = c.movetime; movestogo = c.movestogo; depth = n }
-set fields.Other c n = c
+abbrev pub clocks_with : GoField → GoClocks → ℕ → GoClocks
+clocks_with fields.WhiteTime c n = record { wtime = n; btime = c.btime; winc = c.winc; binc = c.binc; movetime = c.movetime; movestogo = c.movestogo; depth = c.depth }
+clocks_with fields.BlackTime c n = record { wtime = c.wtime; btime = n; winc = c.winc; binc = c.binc; movetime = c.movetime; movestogo = c.movestogo; depth = c.depth }
+clocks_with fields.WhiteIncrement c n = record { wtime = c.wtime; btime = c.btime; winc = n; binc = c.binc; movetime = c.movetime; movestogo = c.movestogo; depth = c.depth }
+clocks_with fields.BlackIncrement c n = record { wtime = c.wtime; btime = c.btime; winc = c.winc; binc = n; movetime = c.movetime; movestogo = c.movestogo; depth = c.depth }
+clocks_with fields.MoveTime c n = record { wtime = c.wtime; btime = c.btime; winc = c.winc; binc = c.binc; movetime = Some n; movestogo = c.movestogo; depth = c.depth }
+clocks_with fields.MovesToGo c n = record { wtime = c.wtime; btime = c.btime; winc = c.winc; binc = c.binc; movetime = c.movetime; movestogo = n; depth = c.depth }
+clocks_with fields.Depth c n = record { wtime = c.wtime; btime = c.btime; winc = c.winc; binc = c.binc; movetime = c.movetime; movestogo = c.movestogo; depth = n }
+clocks_with fields.Other c n = c
 
 abbrev pub set_if : GoField → GoClocks → Option ℕ → GoClocks
 set_if field c None = c
-set_if field c (Some n) = set field c n
+set_if field c (Some n) = clocks_with field c n
 
--- a word and the tokens behind it
+-- a word and the tokens after it
 abbrev pub hear : GoField → GoClocks → List (List ℕ) → GoClocks
 hear field c ts = set_if field c (first_number ts)
 
@@ -58,7 +58,7 @@ clocks_from c (t ∷ ts) = clocks_from (hear (field_named t) c ts) ts
 abbrev pub no_clocks : GoClocks
 no_clocks = record { wtime = LONGEST; btime = LONGEST; winc = 0; binc = 0; movetime = None; movestogo = 0; depth = 0 }
 
--- the last number behind each word counts
+-- the last number after each word counts
 unfoldable pub clocks_in : List ℕ → GoClocks
 clocks_in line = clocks_from no_clocks (tokens line)
 
@@ -82,17 +82,17 @@ abbrev pub increment : Side → GoClocks → ℕ
 increment White c = c.winc
 increment Black c = c.binc
 
-abbrev pub level_line : Side → GoClocks → Line
+abbrev pub level_line : Side → GoClocks → DownLine
 level_line side c = Level (min c.movestogo MOST_MOVES) (capped (mine side c) / SECOND) (min (increment side c / SECOND) MOST_SECONDS)
 
 -- the time of the move alone, or the clocks
-abbrev pub control_lines : Side → GoClocks → Option ℕ → List Line
+abbrev pub control_lines : Side → GoClocks → Option ℕ → List DownLine
 control_lines side c (Some time) = St (min (seconds_up time) MOST_SECONDS) ∷ []
 control_lines side c None = level_line side c ∷ Time (capped (mine side c) / 10) ∷ Otim (capped (theirs side c) / 10) ∷ []
 
-abbrev pub depth_lines : ℕ → List Line
+abbrev pub depth_lines : ℕ → List DownLine
 depth_lines depth = if depth == 0 then [] else Sd (min depth MOST_PLIES) ∷ []
 
 -- the lines that set the clocks of an engine that plays a side
-abbrev pub clock_lines : Side → GoClocks → List Line
+abbrev pub clock_lines : Side → GoClocks → List DownLine
 clock_lines side c = control_lines side c c.movetime ++ depth_lines c.depth

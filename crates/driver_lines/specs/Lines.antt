@@ -4,7 +4,7 @@ use Rattle.std.specs.Fmt.{signed_decimal}
 use Rattle.chess_board.specs.declared.board.Move.{Move as AnyMove}
 use Rattle.chess_board.specs.Text.{text_of}
 use Rattle.chess_board.specs.Position.{Position}
-use Rattle.fen_text.specs.Written.{written}
+use Rattle.fen_text.specs.Written.{position_fen}
 use Rattle.game_record.specs.Game.{Ply}
 use Rattle.game_record.specs.Line.{ply_text}
 use Rattle.driver_talk.specs.declared.words.Thought.{Thought}
@@ -12,31 +12,31 @@ use Rattle.peer_words.specs.Bytes.{digit_zero}
 use Rattle.line_io.specs.Lines.{line_feed}
 
 -- a line to the engine
-pub data Line : Type 0 where
-  XBoard : Line
-  Protover : Line
-  Quit : Line
-  New : Line
-  Force : Line
-  Post : Line
+pub data DownLine : Type 0 where
+  XBoard : DownLine
+  Protover : DownLine
+  Quit : DownLine
+  New : DownLine
+  Force : DownLine
+  Post : DownLine
   -- a position that is set up
-  SetBoard : (p : Position) → Line
-  -- a move, behind `usermove` or alone
-  Played : (has_usermove : Bool) (m : Ply) → Line
-  St : (seconds : ℕ) → Line
+  SetBoard : (p : Position) → DownLine
+  -- a move, after `usermove` or alone
+  Played : (has_usermove : Bool) (m : Ply) → DownLine
+  St : (seconds : ℕ) → DownLine
   -- moves to the time control, seconds, seconds of increment
-  Level : (moves seconds increment : ℕ) → Line
+  Level : (moves seconds increment : ℕ) → DownLine
   -- hundredths of a second
-  Time : (centis : ℕ) → Line
-  Otim : (centis : ℕ) → Line
-  Sd : (plies : ℕ) → Line
-  Go : Line
-  Analyze : Line
-  Hurry : Line
-  Exit : Line
-  Ping : (n : ℕ) → Line
-  Accepted : (name : List ℕ) → Line
-  Rejected : (name : List ℕ) → Line
+  Time : (centis : ℕ) → DownLine
+  Otim : (centis : ℕ) → DownLine
+  Sd : (plies : ℕ) → DownLine
+  Go : DownLine
+  Analyze : DownLine
+  Hurry : DownLine
+  Exit : DownLine
+  Ping : (n : ℕ) → DownLine
+  Accepted : (name : List ℕ) → DownLine
+  Rejected : (name : List ℕ) → DownLine
 
 abbrev pub two_digits : ℕ → List ℕ
 two_digits n = (digit_zero + n / 10) ∷ (digit_zero + n % 10) ∷ []
@@ -52,33 +52,33 @@ move_text has_usermove text = if has_usermove then codes "usermove " ++ text els
 abbrev pub answer_text : Bool → List ℕ → List ℕ
 answer_text is_rejected name = if is_rejected then codes "rejected " ++ name else codes "accepted " ++ name
 
-abbrev pub ended : List ℕ → List ℕ
-ended text = text ++ line_feed ∷ []
+abbrev pub line_with_feed : List ℕ → List ℕ
+line_with_feed text = text ++ line_feed ∷ []
 
 -- the text of a line, with its line feed
-abbrev pub line_text : Line → List ℕ
-line_text XBoard = ended (codes "xboard")
-line_text Protover = ended (codes "protover 2")
-line_text Quit = ended (codes "quit")
-line_text New = ended (codes "new")
-line_text Force = ended (codes "force")
-line_text Post = ended (codes "post")
-line_text (SetBoard p) = ended (codes "setboard " ++ written p)
-line_text (Played has_usermove m) = ended (move_text has_usermove (ply_text m))
+abbrev pub line_text : DownLine → List ℕ
+line_text XBoard = line_with_feed (codes "xboard")
+line_text Protover = line_with_feed (codes "protover 2")
+line_text Quit = line_with_feed (codes "quit")
+line_text New = line_with_feed (codes "new")
+line_text Force = line_with_feed (codes "force")
+line_text Post = line_with_feed (codes "post")
+line_text (SetBoard p) = line_with_feed (codes "setboard " ++ position_fen p)
+line_text (Played has_usermove m) = line_with_feed (move_text has_usermove (ply_text m))
 line_text (St seconds) = codes "st " ++ decimal seconds ++ line_feed ∷ []
 line_text (Level moves seconds increment) = level_text moves seconds increment
 line_text (Time centis) = codes "time " ++ decimal centis ++ line_feed ∷ []
 line_text (Otim centis) = codes "otim " ++ decimal centis ++ line_feed ∷ []
 line_text (Sd plies) = codes "sd " ++ decimal plies ++ line_feed ∷ []
-line_text Go = ended (codes "go")
-line_text Analyze = ended (codes "analyze")
-line_text Hurry = ended (codes "?")
-line_text Exit = ended (codes "exit")
+line_text Go = line_with_feed (codes "go")
+line_text Analyze = line_with_feed (codes "analyze")
+line_text Hurry = line_with_feed (codes "?")
+line_text Exit = line_with_feed (codes "exit")
 line_text (Ping n) = codes "ping " ++ decimal n ++ line_feed ∷ []
-line_text (Accepted name) = ended (codes "accepted " ++ name)
-line_text (Rejected name) = ended (codes "rejected " ++ name)
+line_text (Accepted name) = line_with_feed (codes "accepted " ++ name)
+line_text (Rejected name) = line_with_feed (codes "rejected " ++ name)
 
-abbrev pub lines_text : List Line → List ℕ
+abbrev pub lines_text : List DownLine → List ℕ
 lines_text [] = []
 lines_text (l ∷ ls) = line_text l ++ lines_text ls
 
@@ -97,6 +97,6 @@ abbrev pub info_text : Thought → List ℕ
 info_text t = figures_text t ++ (codes " pv " ++ text_of t.best)
 
 -- the engine's name, or one for an engine that has none
-abbrev pub named : List ℕ → List ℕ
-named [] = codes "CECP engine"
-named (b ∷ bs) = b ∷ bs
+abbrev pub name_or_usual : List ℕ → List ℕ
+name_or_usual [] = codes "CECP engine"
+name_or_usual (b ∷ bs) = b ∷ bs

@@ -3,14 +3,14 @@ use Rattle.std.specs.Prelude.{ℕ, ◌*◌, nat_lt, ◌==◌, if◌then◌else�
 use Rattle.std.specs.Option.{option_map}
 use Rattle.std.specs.Int.{int_min, int_max}
 use lib.IntN.{negsuc}
-use Rattle.peer_words.specs.Numbers.{count, positive, signed}
+use Rattle.peer_words.specs.Numbers.{count, positive, signed_number}
 use Rattle.peer_words.specs.Bytes.{plus}
 use Rattle.driver_lines.specs.declared.numbers.TheConstants.{MOST_SCORE, MOST_TIME}
 
 -- perhaps one plus before a count, or else perhaps a minus: one sign at most
 abbrev pub plus_signed : List ℕ → Option ℤ
 plus_signed [] = None
-plus_signed (b ∷ bs) = if b == plus then positive (count bs) else signed (b ∷ bs)
+plus_signed (b ∷ bs) = if b == plus then positive (count bs) else signed_number (b ∷ bs)
 
 -- the number of the first token, and the other tokens
 abbrev pub next_number : List (List ℕ) → Option (ℤ × List (List ℕ))

@@ -34,26 +34,28 @@ ends_name b = (is_white b || b == equals) || b == quote
 abbrev pub is_quote : ℕ → Bool
 is_quote b = b == quote
 
-abbrev pub found : List ℕ → List ℕ → List ℕ → CutFeature
-found name value rest = record { part = Some (record { name = name; value = value }); rest = rest }
+abbrev pub cut_with_feature : List ℕ → List ℕ → List ℕ → CutFeature
+cut_with_feature name value rest =
+    record { part = Some (record { name = name; value = value }); rest = rest }
 
 -- A value in quotes goes up to the next quote, another up to the next white space.
 abbrev pub value_cut : List ℕ → List ℕ → CutFeature
-value_cut name [] = found name [] []
+value_cut name [] = cut_with_feature name [] []
 value_cut name (b ∷ bs) =
     if b == quote
-    then found name (before_first is_quote bs) (after_first is_quote bs)
-    else found name (before_first is_white (b ∷ bs)) (drop (token_end (b ∷ bs)) (b ∷ bs))
+    then cut_with_feature name (before_first is_quote bs) (after_first is_quote bs)
+    else cut_with_feature name (before_first is_white (b ∷ bs)) (drop (token_end (b ∷ bs)) (b ∷ bs))
 
 -- ignored up to the next white space
-abbrev pub skipped : List ℕ → CutFeature
-skipped text = record { part = None; rest = drop (token_end text) text }
+abbrev pub cut_without_feature : List ℕ → CutFeature
+cut_without_feature text = record { part = None; rest = drop (token_end text) text }
 
--- by the name and what follows it, with what stands behind the first byte
+-- by the name and what follows it, with what stands after the first byte
 abbrev pub cut_by : List ℕ → List ℕ → List ℕ → CutFeature
-cut_by [] after behind = skipped behind
-cut_by (c ∷ cs) [] behind = skipped behind
-cut_by (c ∷ cs) (b ∷ bs) behind = if b == equals then value_cut (c ∷ cs) bs else skipped behind
+cut_by [] after behind = cut_without_feature behind
+cut_by (c ∷ cs) [] behind = cut_without_feature behind
+cut_by (c ∷ cs) (b ∷ bs) behind =
+    if b == equals then value_cut (c ∷ cs) bs else cut_without_feature behind
 
 abbrev pub cut_of : List ℕ → List ℕ → CutFeature
 cut_of text behind = cut_by (before_first ends_name text) (drop (position_or_len ends_name text) text) behind

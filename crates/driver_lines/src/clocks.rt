@@ -26,7 +26,7 @@ const MOST_SECONDS: u64 = 999_999;
 
 const MOST_PLIES: u64 = 999_999_999;
 
-/// The words of a `go` order with numbers behind them.
+/// The words of a `go` order with numbers after them.
 #[derive(Clone, Copy)]
 pub(crate) enum GoField {
     WhiteTime,
@@ -62,7 +62,7 @@ fn first_number(text: &[u8]) -> Option<u64>
     Some(natural(read_signed(next_token(text)?.0)?))
 }
 
-/// What was read before, and the number behind a word.
+/// What was read before, and the number after a word.
 fn hear(field: GoField, clocks: GoClocks, text: &[u8]) -> GoClocks
     ensures { result ≡ hear field clocks (tokens text.now) }
 {
@@ -87,7 +87,7 @@ fn hear(field: GoField, clocks: GoClocks, text: &[u8]) -> GoClocks
     }
 }
 
-/// The numbers of a `go` order (UCI, "go"): the last one behind each word counts, and a negative one is 0. Other
+/// The numbers of a `go` order (UCI, "go"): the last one after each word counts, and a negative one is 0. Other
 /// tokens are ignored.
 #[tactic(auto, unfolding(crate::specs::Clocks::clocks_in))]
 pub fn read_clocks(line: &[u8]) -> GoClocks

@@ -29,7 +29,7 @@ pub fn write_word(word: &[u8], out: &mut Out)
     out.put(b"\n");
 }
 
-/// Writes a line with a number behind a word.
+/// Writes a line with a number after a word.
 pub fn write_numbered(word: &[u8], n: u64, out: &mut Out)
     requires room { length out.old.text + length word.now + 21 ≤ out.old.room }
     ensures text { out.new ≡ with out.old (word.now ++ decimal n ++ line_feed ∷ []) }
@@ -52,7 +52,7 @@ pub(crate) fn put_line(word: &[u8], text: &[u8], out: &mut Out)
     out.put(b"\n");
 }
 
-/// Writes a move, behind `usermove` or alone.
+/// Writes a move, after `usermove` or alone.
 pub fn write_moved(m: Move, has_usermove: bool, out: &mut Out)
     requires officer { IsOfficer m.promotion }
     requires room { length out.old.text + 15 ≤ out.old.room }

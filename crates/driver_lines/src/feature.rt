@@ -3,7 +3,7 @@ ghost use Rattle.std.specs.Prelude.{◌≡◌, ◌+◌, ◌<◌, ◌≤◌, ◌�
 ghost use Rattle.std.specs.List.{before_first, after_first, position_or_len};
 ghost use Rattle.std.specs.Option.{option_map};
 ghost use Rattle.peer_words.specs.Tokens.{is_white, token_end};
-ghost use Rattle.driver_lines.specs.Parts.{ends_name, is_quote, feature_of, cut_seen, cut_of, value_cut, skipped, parts, onto, FitsIn, IsNamed};
+ghost use Rattle.driver_lines.specs.Parts.{ends_name, is_quote, feature_of, cut_seen, cut_of, value_cut, cut_without_feature, parts, onto, FitsIn, IsNamed};
 
 use peer_words::{is_white, split_at_white, trim_start};
 
@@ -77,7 +77,7 @@ fn cut_value<'a>(name: &'a [u8], text: &'a [u8]) -> CutFeature<'a>
 
 /// Skips the bytes up to the next white space.
 fn skip(text: &[u8]) -> CutFeature<'_>
-    ensures { cut_seen result ≡ skipped text.now }
+    ensures { cut_seen result ≡ cut_without_feature text.now }
 {
     let (_, rest) = split_at_white(text);
     CutFeature { part: None, rest }

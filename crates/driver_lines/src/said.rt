@@ -12,14 +12,14 @@ use peer_words::{named, next_token, read_number, split_token};
 pub enum EngineSaid<'a> {
     /// A line that says nothing to a driver.
     Other,
-    /// `move`, and the text behind it, empty if there is none.
+    /// `move`, and the text after it, empty if there is none.
     Move(&'a [u8]),
     /// `resign`, or a result.
     Over,
     Pong(u32),
     /// `feature`, and the rest.
     Feature(&'a [u8]),
-    /// A thinking line: its numbers, as a UCI interface wants them, and the text behind these.
+    /// A thinking line: its numbers, as a UCI interface wants them, and the text after these.
     Report {
         depth: u64,
         score: i64,
@@ -71,14 +71,14 @@ fn read_report(line: &[u8]) -> Option<EngineSaid<'_>>
     })
 }
 
-/// The number behind `pong`.
+/// The number after `pong`.
 fn read_pong(rest: &[u8]) -> Option<u32>
     ensures { result ≡ pong_in (tokens rest.now) }
 {
     read_number(next_token(rest)?.0)
 }
 
-/// The token behind the first, empty if there is none.
+/// The token after the first, empty if there is none.
 fn second(rest: &[u8]) -> &[u8]
     ensures { result.now ≡ first_token rest.now }
 {

@@ -3,7 +3,7 @@ ghost use Rattle.std.specs.Prelude.{◌≡◌, ◌+◌, ◌≤◌, ◌∷◌, �
 ghost use Rattle.std.specs.Fmt.{signed_decimal};
 ghost use Rattle.line_io.specs.Out.{with};
 ghost use Rattle.chess_board.specs.Text.{IsOfficer};
-ghost use Rattle.driver_lines.specs.Lines.{best_text, figures_text, info_text, named};
+ghost use Rattle.driver_lines.specs.Lines.{best_text, figures_text, info_text, name_or_usual};
 ghost use Rattle.line_io.specs.Lines.{line_feed};
 
 use crate::down::{put_count, put_line, write_word};
@@ -100,7 +100,8 @@ pub fn write_info(thought: &Thought, out: &mut Out)
 /// Writes `id name`, with a name of the driver's own if the engine has none.
 pub fn write_id(name: &[u8], out: &mut Out)
     requires room { length out.old.text + length name.now + 20 ≤ out.old.room }
-    ensures text { out.new ≡ with out.old (codes "id name " ++ named name.now ++ line_feed ∷ []) }
+    ensures text { out.new
+        ≡ with out.old (codes "id name " ++ name_or_usual name.now ++ line_feed ∷ []) }
     ensures short { length out.new.text ≤ length out.old.text + length name.now + 20 }
 {
     out.put(b"id name ");

@@ -4,14 +4,14 @@ use Rattle.line_io.specs.Event.{Event, Open, IfaceLost, EngineLost}
 use Rattle.line_io.specs.Out.{Text, with}
 use Rattle.event_pipe.specs.declared.message.Peer.{Peer}
 use Rattle.event_pipe.specs.declared.message.Peer.TheVariants as peers
-use Rattle.event_pipe.specs.Rule.{of, ended}
+use Rattle.event_pipe.specs.Rule.{of, has_last_event}
 use Rattle.event_pipe.proofs.Roles.{more_ended}
 use Rattle.cecp_driver.specs.declared.driver.DriverParts.{DriverParts}
 use Rattle.cecp_driver.specs.Driver.{opening}
 use Rattle.cecp_driver.specs.Script.{Takes, Goes, may_come, last_of, given_marks, script_text}
 use Rattle.cecp_driver.proofs.Sound.{runs_are_sound}
 use Rattle.cecp_driver.proofs.Scripts.{goes_more, last_more, text_more, up_more, down_more}
-use Rattle.mediator.specs.Turns.{received, is_own, loss}
+use Rattle.mediator.specs.Turns.{events_of_turns, is_own, loss}
 use Rattle.mediator.specs.Meaning.{Allows, Opens, Steps, turn_of}
 use Rattle.driver_runner.specs.declared.driving.Driving.{Driving}
 use Rattle.driver_runner.specs.Drives.{drives}
@@ -31,7 +31,7 @@ never_lost v peers.Engine h = cc
 pub allows : (d : Driving) (e : Event) → Allows drives d e
 allows d e =
     record {
-      follows = λ d0 turns x f. may_is e d.driver (received turns) x.gone f;
+      follows = λ d0 turns x f. may_is e d.driver (events_of_turns turns) x.gone f;
       owed = λ p d0 turns x h hears g n. cc;
       once = λ p d0 turns x h m. absurd (never_lost d.driver p (ap (λ (z : Event). may_come d.driver z) (sym h) ∙ m));
     }
@@ -43,19 +43,19 @@ steps old new e held held' t put =
       piece = given_marks e new.driver;
       put = put;
       goes = λ d0 turns x.
-          let more : received turns ++ e ∷ [] ≡ received (turn_of drives e new (given_marks e new.driver) ∷ turns) = ap (λ b. received turns ++ cond b [] (e ∷ [])) (sym own) in
+          let more : events_of_turns turns ++ e ∷ [] ≡ events_of_turns (turn_of drives e new (given_marks e new.driver) ∷ turns) = ap (λ b. events_of_turns turns ++ cond b [] (e ∷ [])) (sym own) in
           let takes : Takes e (last_of opening x.states) new.driver = subst (λ (v : DriverParts). Takes e v new.driver) x.now t in
-          let run : Goes opening (received (turn_of drives e new (given_marks e new.driver) ∷ turns)) (x.states ++ new.driver ∷ []) =
-          subst (λ (es : List Event). Goes opening es (x.states ++ new.driver ∷ [])) more (goes_more opening (received turns) x.states e new.driver x.goes takes) in
+          let run : Goes opening (events_of_turns (turn_of drives e new (given_marks e new.driver) ∷ turns)) (x.states ++ new.driver ∷ []) =
+          subst (λ (es : List Event). Goes opening es (x.states ++ new.driver ∷ [])) more (goes_more opening (events_of_turns turns) x.states e new.driver x.goes takes) in
           record {
             states = x.states ++ new.driver ∷ [];
             goes = run;
-            sound = runs_are_sound (received (turn_of drives e new (given_marks e new.driver) ∷ turns)) (x.states ++ new.driver ∷ []) run;
+            sound = runs_are_sound (events_of_turns (turn_of drives e new (given_marks e new.driver) ∷ turns)) (x.states ++ new.driver ∷ []) run;
             now = sym (last_more opening x.states new.driver);
-            gone = gone_next e old.driver new.driver t.comes ∙ ap (λ b. b || ended (of 2 (e ∷ []))) x.gone ∙ sym (more_ended 2 (received turns) (e ∷ [])) ∙ ap (λ (es : List Event). ended (of 2 es)) more;
+            gone = gone_next e old.driver new.driver t.comes ∙ ap (λ b. b || has_last_event (of 2 (e ∷ []))) x.gone ∙ sym (more_ended 2 (events_of_turns turns) (e ∷ [])) ∙ ap (λ (es : List Event). has_last_event (of 2 es)) more;
             up = ap (λ (l : List ℕ). l ++ new.driver.up.text) x.up ∙ sym (up_more x.states new.driver);
             down = ap (λ (l : List ℕ). l ++ new.driver.down.text) x.down ∙ sym (down_more x.states new.driver);
-            log = ap (λ (l : List ℕ). l ++ given_marks e new.driver) x.log ∙ sym (text_more opening (received turns) x.states e new.driver x.goes)
+            log = ap (λ (l : List ℕ). l ++ given_marks e new.driver) x.log ∙ sym (text_more opening (events_of_turns turns) x.states e new.driver x.goes)
                 ∙ ap (λ (es : List Event). script_text es (x.states ++ new.driver ∷ [])) more;
           };
     }

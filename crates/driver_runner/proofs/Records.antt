@@ -12,7 +12,7 @@ use Rattle.child_engine.specs.declared.host.Faults.{Faults}
 use Rattle.host_run.specs.declared.failures.Failures.{Failures}
 use Rattle.host_run.specs.Early.{no_failure, only_memory}
 use Rattle.host_run.specs.Outside.{Outside, outside}
-use Rattle.mediator.specs.Turns.{received}
+use Rattle.mediator.specs.Turns.{events_of_turns}
 use Rattle.mediator.proofs.Loops.{filter_swap}
 use Rattle.mediator_host.specs.Mediated.{Mediated}
 use Rattle.mediator_host.specs.Mediated as hosts
@@ -34,22 +34,22 @@ module _ (d : Driving) (before after : Outside) (failures : Failures) (x : Media
       record {
         driving = d;
         mediated = x;
-        recorded = recorded_as drives d [] before after failures x (script_text (received l.turns) l.did.states) (lines_down l.did.states) (lines_up l.did.states) l.did.log l.did.down l.did.up;
+        recorded = recorded_as drives d [] before after failures x (script_text (events_of_turns l.turns) l.did.states) (lines_down l.did.states) (lines_up l.did.states) l.did.log l.did.down l.did.up;
       }
 
   whole_by : failures ≡ no_failure → after.books.logs_out ≡ 1 → before.books.tells ≡ true → (bytes : List ℕ) → before.books.says ≡ Some bytes → IsWhole bytes before after
   whole_by e one tells bytes says =
       let l = x.ran.looped in
       let w =
-      whole_as drives d [] before after failures x (script_text (received l.turns) l.did.states) (lines_down l.did.states) (lines_up l.did.states) l.did.log l.did.down l.did.up e one tells bytes says in
+      whole_as drives d [] before after failures x (script_text (events_of_turns l.turns) l.did.states) (lines_down l.did.states) (lines_up l.did.states) l.did.log l.did.down l.did.up e one tells bytes says in
       record {
-        events = received l.turns;
+        events = events_of_turns l.turns;
         states = l.did.states;
         goes = l.did.goes;
         sound = l.did.sound;
         log = w.log;
-        engine = of_told peers.Engine (received l.turns) x.ran.later l.received_is ∙ ap without_long w.engine;
-        iface = record { arrived = sent_by peers.Iface x.ran.later; did_arrive = w.iface; are = of_told peers.Iface (received l.turns) x.ran.later l.received_is };
+        engine = of_told peers.Engine (events_of_turns l.turns) x.ran.later l.received_is ∙ ap without_long w.engine;
+        iface = record { arrived = sent_by peers.Iface x.ran.later; did_arrive = w.iface; are = of_told peers.Iface (events_of_turns l.turns) x.ran.later l.received_is };
         run = w.run;
         output = w.output;
       }

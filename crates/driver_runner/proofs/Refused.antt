@@ -3,7 +3,7 @@ use Rattle.std.proofs.Common.{◌≡◌, ◌∙◌, ℕ, Bool, true, false, refl
 use Rattle.line_io.specs.Event.{Event, Open, Iface, IfaceLong, IfaceEnd, IfaceLost, Engine, EngineLong, EngineEnd, EngineLost}
 use Rattle.event_pipe.specs.Message.{is_end}
 use Rattle.event_pipe.specs.declared.message.Peer.TheVariants as peers
-use Rattle.event_pipe.specs.Rule.{sent_by, ended}
+use Rattle.event_pipe.specs.Rule.{sent_by, has_last_event}
 use Rattle.cecp_driver.specs.declared.driver.DriverParts.{DriverParts}
 use Rattle.cecp_driver.specs.Script.{Goes, script_text}
 use Rattle.host_run.proofs.Logs.{one_log, none_longer}
@@ -11,7 +11,7 @@ use Rattle.driver_runner.specs.Laws.{HasNoEmptyLog, HasNoLongerLog}
 use Rattle.driver_runner.specs.Told.{without_long}
 
 -- no long line is an end
-ended_kept : (events : List Event) → ended (without_long events) ≡ ended events
+ended_kept : (events : List Event) → has_last_event (without_long events) ≡ has_last_event events
 ended_kept [] = refl
 ended_kept (IfaceLong ∷ events) = ended_kept events
 ended_kept (EngineLong ∷ events) = ended_kept events
@@ -39,7 +39,7 @@ some_mark v (event ∷ events) (w ∷ states) g e = absurd g.0.comes
 pub no_empty_log : HasNoEmptyLog
 no_empty_log bytes before after run e =
     let none = some_mark _ run.events run.states run.goes (one_log (script_text run.events run.states) [] after.books.logs run.log e) in
-    let over = sym (ended_kept run.iface.arrived) ∙ ap ended (sym run.iface.are ∙ ap (λ (es : List Event). sent_by peers.Iface es) none) in
+    let over = sym (ended_kept run.iface.arrived) ∙ ap has_last_event (sym run.iface.are ∙ ap (λ (es : List Event). sent_by peers.Iface es) none) in
     let ends : false ≡ true = sym over ∙ run.iface.did_arrive.over in
     cc
 

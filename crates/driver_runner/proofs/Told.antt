@@ -6,7 +6,7 @@ use Rattle.std.proofs.lemmas.Bool.{and_parts, not-true}
 use Rattle.chess_board.specs.declared.board.Move.{Move}
 use Rattle.line_io.specs.Event.{Event, Open, Iface, IfaceEnd, IfaceLost, Engine, EngineEnd, EngineLost, is_line, has_feed}
 use Rattle.event_pipe.specs.Message.{is_good}
-use Rattle.event_pipe.specs.Rule.{of, ended, Follows}
+use Rattle.event_pipe.specs.Rule.{of, has_last_event, Follows}
 use Rattle.driver_talk.specs.declared.talk.DriverStage.{DriverStage}
 use Rattle.driver_talk.specs.declared.talk.DriverStage.TheVariants as stages
 use Rattle.driver_talk.specs.declared.talk.DriverCall.{DriverCall}
@@ -14,7 +14,7 @@ use Rattle.driver_lines.specs.declared.words.OrderWord.{OrderWord}
 use Rattle.driver_lines.specs.declared.words.OrderWord.TheVariants as orders
 use Rattle.driver_lines.specs.Says.{Says, Move as SaysMove, Over, Pong, Report, Feature, Other as SaysOther}
 use Rattle.cecp_driver.specs.declared.driver.DriverParts.{DriverParts}
-use Rattle.cecp_driver.specs.Driver.{cleared, placed_if, acted, IsAsked, IsHeard, thought_call, features_at, OrdersBy, HeardBy}
+use Rattle.cecp_driver.specs.Driver.{driver_without_lines, placed_if, driver_after_call, IsAsked, IsHeard, thought_call, features_at, OrdersBy, HeardBy}
 use Rattle.cecp_driver.specs.Script.{Comes, IsLine, may_come}
 use Rattle.driver_runner.specs.Told.{is_told}
 use Rattle.driver_runner.proofs.Gone.{is_ended, turn_stays, turn_ends}
@@ -46,15 +46,15 @@ placed_gone o v line = refl
 
 order_gone : (o : OrderWord) (line : List ℕ) (v v' : DriverParts) → OrdersBy o line v v' → v'.talk.gone ≡ v.talk.gone
 order_gone o line v v' x =
-    let w = placed_if o (cleared v) line in
-    ap (λ (p : DriverParts). p.talk.gone) x.after ∙ turn_stays w.talk x.call (asked_other o w line x.call x.asked) ∙ placed_gone o (cleared v) line
+    let w = placed_if o (driver_without_lines v) line in
+    ap (λ (p : DriverParts). p.talk.gone) x.after ∙ turn_stays w.talk x.call (asked_other o w line x.call x.asked) ∙ placed_gone o (driver_without_lines v) line
 
 features_gone : (stage : DriverStage) (v : DriverParts) (text : List ℕ) → (features_at stage v text).talk.gone ≡ v.talk.gone
 features_gone stages.Fresh v text = refl
 features_gone stages.Open v text = refl
 features_gone stages.Over v text = refl
 
-said_gone : (said : Says) (v v' : DriverParts) (call : DriverCall) → IsHeard v said call → v' ≡ acted v call → v'.talk.gone ≡ v.talk.gone
+said_gone : (said : Says) (v v' : DriverParts) (call : DriverCall) → IsHeard v said call → v' ≡ driver_after_call v call → v'.talk.gone ≡ v.talk.gone
 said_gone said v v' call h e = ap (λ (p : DriverParts). p.talk.gone) e ∙ turn_stays v.talk call (heard_other said v call h)
 
 line_gone : (said : Says) (v v' : DriverParts) → HeardBy said v v' → v'.talk.gone ≡ v.talk.gone
@@ -65,15 +65,15 @@ line_gone (Pong n) v v' h = said_gone (Pong n) v v' h.0 h.1.0 h.1.1
 line_gone (Report depth score time nodes moves) v v' h = said_gone (Report depth score time nodes moves) v v' h.0 h.1.0 h.1.1
 line_gone SaysOther v v' h = said_gone SaysOther v v' h.0 h.1.0 h.1.1
 
-pub gone_next : (e : Event) (v v' : DriverParts) → Comes e v v' → v'.talk.gone ≡ (v.talk.gone || ended (of 2 (e ∷ [])))
+pub gone_next : (e : Event) (v v' : DriverParts) → Comes e v v' → v'.talk.gone ≡ (v.talk.gone || has_last_event (of 2 (e ∷ [])))
 gone_next (Iface line) v v' c = order_gone _ line v v' c ∙ sym (or-false v.talk.gone)
 gone_next IfaceEnd v v' c = order_gone _ _ v v' c ∙ sym (or-false v.talk.gone)
-gone_next (Engine line) v v' c = line_gone _ (cleared v) v' c ∙ sym (or-false v.talk.gone)
+gone_next (Engine line) v v' c = line_gone _ (driver_without_lines v) v' c ∙ sym (or-false v.talk.gone)
 gone_next EngineEnd v v' c = ap (λ (p : DriverParts). p.talk.gone) c ∙ turn_ends v.talk ∙ sym (or-true v.talk.gone)
 gone_next e v v' c = absurd c
 
 -- A long line is passed over, and what else is received may come.
-pub may_is : (e : Event) (v : DriverParts) (received : List Event) → v.talk.gone ≡ ended (of 2 received) → Follows received e → may_come v e ≡ is_told e
+pub may_is : (e : Event) (v : DriverParts) (received : List Event) → v.talk.gone ≡ has_last_event (of 2 received) → Follows received e → may_come v e ≡ is_told e
 may_is Open v received g f = absurd (f.2 refl)
 may_is IfaceLost v received g f = absurd (f.2 refl)
 may_is (Engine line) v received g f = ap not (g ∙ f.0)

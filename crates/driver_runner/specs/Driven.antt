@@ -5,7 +5,7 @@ use Rattle.event_pipe.specs.Rule.{sent_by}
 use Rattle.host_run.specs.declared.failures.Failures.{Failures}
 use Rattle.host_run.specs.Early.{no_failure}
 use Rattle.host_run.specs.Outside.{Outside, AreTold, IsClosed}
-use Rattle.mediator.specs.Turns.{received}
+use Rattle.mediator.specs.Turns.{events_of_turns}
 use Rattle.mediator_host.specs.Mediated.{Mediated}
 use Rattle.driver_runner.specs.declared.driving.Driving.{Driving}
 use Rattle.driver_runner.specs.Drives.{drives}
@@ -16,7 +16,7 @@ pub record Driven (before after : Outside) (failures : Failures) : Type 0 where
   pub driving : Driving
   pub mediated : Mediated drives driving [] before after failures
   -- what the books say of the events that the driver took
-  pub recorded : Recorded (received mediated.ran.looped.turns) mediated.ran.looped.did.states (sent_by peers.Engine mediated.ran.later) before.books after.books failures
+  pub recorded : Recorded (events_of_turns mediated.ran.looped.turns) mediated.ran.looped.did.states (sent_by peers.Engine mediated.ran.later) before.books after.books failures
 
 -- what a run leaves, whether an engine was started or not
 pub record Leaves (before after : Outside) (failures : Failures) : Type 0 where

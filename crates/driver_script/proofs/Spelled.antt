@@ -10,14 +10,14 @@ use Rattle.line_io.specs.Lines.{is_feed, parts}
 use Rattle.chess_board.specs.declared.board.Move.{Move}
 use Rattle.chess_board.specs.Text.{text_of}
 use Rattle.chess_board.proofs.TextLengths.{move_length}
-use Rattle.fen_text.specs.Written.{written}
+use Rattle.fen_text.specs.Written.{position_fen}
 use Rattle.fen_text.proofs.Lengths.{length-written}
 use Rattle.game_record.specs.Game.{Game}
 use Rattle.game_record.specs.Line.{ply_text}
 use Rattle.script_lines.specs.Marks.{Happens, IsSpelled, Mark, ToEngine, ToIface}
 use Rattle.script_lines.specs.Scripts.{AreSpelled}
 use Rattle.driver_talk.specs.declared.words.Thought.{Thought}
-use Rattle.driver_lines.specs.Lines.{Line, XBoard, Protover, Quit, New, Force, Post, SetBoard, Played, St, Level, Time, Otim, Sd, Go, Analyze, Hurry, Exit, Ping, Accepted, Rejected, best_text, info_text, line_text, lines_text, move_text, named}
+use Rattle.driver_lines.specs.Lines.{DownLine, XBoard, Protover, Quit, New, Force, Post, SetBoard, Played, St, Level, Time, Otim, Sd, Go, Analyze, Hurry, Exit, Ping, Accepted, Rejected, best_text, info_text, line_text, lines_text, move_text, name_or_usual}
 use Rattle.cecp_driver.specs.declared.driver.DriverParts.{DriverParts}
 use Rattle.cecp_driver.specs.Driver.{opening}
 use Rattle.cecp_driver.specs.EngineGame.{AllOn}
@@ -65,7 +65,7 @@ begins : (xs ys : List ℕ) → length xs ≤ 131071 → AreWithin (parts ys) �
 begins [] ys l h = (omega arith, h)
 begins (x ∷ xs) ys l h = begin_next x (length xs) (is_feed x) (parts (xs ++ 10 ∷ ys)) (omega (arith, l)) (begins xs ys (omega (arith, l)) h)
 
--- a line and the lines behind it
+-- a line and the lines after it
 more_within : (text ys : List ℕ) → length text ≤ 131070 → AreWithin (parts ys) → AreWithin (parts ((text ++ 10 ∷ []) ++ ys))
 more_within text ys l h =
     subst (λ (t : List ℕ). AreWithin (parts t)) (sym (append_assoc text (10 ∷ []) ys))
@@ -117,7 +117,7 @@ info_few t =
     let all : length ((a ++ (b ++ (c ++ d))) ++ e) ≤ 300 = joined 291 9 (a ++ (b ++ (c ++ d))) e figures move in
     omega (arith, all)
 
-named_few : (name : List ℕ) → length name ≤ 65536 → length (codes "id name " ++ named name) ≤ 131070
+named_few : (name : List ℕ) → length name ≤ 65536 → length (codes "id name " ++ name_or_usual name) ≤ 131070
 named_few [] h = omega arith
 named_few (b ∷ bs) h = omega (arith, joined 8 65536 (codes "id name ") (b ∷ bs) (omega arith) h)
 
@@ -125,7 +125,7 @@ up_within : (line : UpLine) (rest : List ℕ) → IsOneLine line → AreWithin (
 up_within ReadyOk rest i h = more_within (codes "readyok") rest (omega arith) h
 up_within UciOk rest i h = more_within (codes "uciok") rest (omega arith) h
 up_within (Named name) rest i h =
-    subst (λ (t : List ℕ). AreWithin (parts (t ++ rest))) (append_assoc (codes "id name ") (named name) (10 ∷ [])) (more_within (codes "id name " ++ named name) rest (named_few name i.1) h)
+    subst (λ (t : List ℕ). AreWithin (parts (t ++ rest))) (append_assoc (codes "id name ") (name_or_usual name) (10 ∷ [])) (more_within (codes "id name " ++ name_or_usual name) rest (named_few name i.1) h)
 up_within (Reports thought) rest i h = more_within (info_text thought) rest (omega (arith, info_few thought)) h
 up_within (BestMove best) rest i h = more_within (best_text best) rest (omega (arith, best_few best)) h
 
@@ -165,14 +165,14 @@ level_whole k s i = by_parts (decimal k) (decimal (s / 60)) ((48 + s % 60 / 10) 
 counted : (word : List ℕ) (n : ℕ) → length word ≤ 20 → length (word ++ decimal n) ≤ 131070
 counted word n h = omega (arith, joined 20 64 word (decimal n) h (few n))
 
-down_within : (line : Line) (rest : List ℕ) → CanBeSaid line → AreWithin (parts rest) → AreWithin (parts (line_text line ++ rest))
+down_within : (line : DownLine) (rest : List ℕ) → CanBeSaid line → AreWithin (parts rest) → AreWithin (parts (line_text line ++ rest))
 down_within XBoard rest s h = more_within (codes "xboard") rest (omega arith) h
 down_within Protover rest s h = more_within (codes "protover 2") rest (omega arith) h
 down_within Quit rest s h = more_within (codes "quit") rest (omega arith) h
 down_within New rest s h = more_within (codes "new") rest (omega arith) h
 down_within Force rest s h = more_within (codes "force") rest (omega arith) h
 down_within Post rest s h = more_within (codes "post") rest (omega arith) h
-down_within (SetBoard p) rest s h = more_within (codes "setboard " ++ written p) rest (omega (arith, joined 9 93 (codes "setboard ") (written p) (omega arith) (length-written p s))) h
+down_within (SetBoard p) rest s h = more_within (codes "setboard " ++ position_fen p) rest (omega (arith, joined 9 93 (codes "setboard ") (position_fen p) (omega arith) (length-written p s))) h
 down_within (Played has_usermove m) rest s h =
     let text : length (ply_text m) ≤ 5 = subst (λ (t : List ℕ). length t ≤ 5) (ap ply_text s.1.0) (move_length s.0) in
     more_within (move_text has_usermove (ply_text m)) rest (omega (arith, move_few has_usermove (ply_text m) text)) h
@@ -190,7 +190,7 @@ down_within (Ping n) rest s h = more_within (codes "ping " ++ decimal n) rest (c
 down_within (Accepted name) rest s h = more_within (codes "accepted " ++ name) rest (omega (arith, joined 9 65536 (codes "accepted ") name (omega arith) s.short)) h
 down_within (Rejected name) rest s h = more_within (codes "rejected " ++ name) rest (omega (arith, joined 9 65536 (codes "rejected ") name (omega arith) s.short)) h
 
-downs_within : (lines : List Line) → AllByRecursion CanBeSaid lines → AreWithin (parts (lines_text lines))
+downs_within : (lines : List DownLine) → AllByRecursion CanBeSaid lines → AreWithin (parts (lines_text lines))
 downs_within [] s = tt
 downs_within (l ∷ ls) s = down_within l (lines_text ls) s.0 (downs_within ls s.1)
 

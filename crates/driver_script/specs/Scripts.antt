@@ -64,7 +64,7 @@ pub record Stands (lines : List Piece) (v : DriverParts) (text : List ℕ) : Typ
   pub driven : IsDriven lines text
   pub now : v ≡ now_of driven
 
--- why no line is taken behind these
+-- why no line is taken after these
 abbrev pub Says : List Piece → Ending → List ℕ → Type 0
 Says lines (endings.NoMark n) text = IsFault lines (endings.NoMark n) text
 Says lines (endings.MayNotCome n) text = IsFault lines (endings.MayNotCome n) text

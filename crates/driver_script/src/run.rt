@@ -13,7 +13,7 @@ use std::alloc::Global;
 /// Drives a CECP engine by the events of a script of version 1, writes the script of it, and reports how that ended.
 ///
 /// A line of the interface is an order and its end counts as `quit`; a line of the engine is heard, and nothing of it
-/// may come behind its end. The marks of written lines in the input are ignored.
+/// may come after its end. The marks of written lines in the input are ignored.
 pub fn run_drive<I: Source, O: Sink, D: Sink>(
     alloc: Global,
     input: &mut I,

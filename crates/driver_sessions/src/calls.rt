@@ -1,4 +1,4 @@
-// Sessions, call by call: what each gives up to the interface, and to the engine.
+// Sessions, call by call: what each passes up to the interface, and to the engine.
 ghost use Rattle.std.specs.Prelude.{◌≡◌, false};
 ghost use Rattle.line_io.specs.Event.{has_feed};
 

@@ -30,7 +30,7 @@ fn source(rt: &impl Abort, alloc: Global, bytes: &[u8], piece: usize) -> MemSour
     MemSource::make(alloc, bytes, piece, &[]).expect(rt, "memory for a source")
 }
 
-// A line of 65,537 bytes, and two orders behind it.
+// A line of 65,537 bytes, and two orders after it.
 fn long_lines(rt: &impl Abort, alloc: Global) -> MemSource {
     let mut bytes = vec![in alloc; b'a'; 65_537].expect(rt, "memory for a line");
     bytes

@@ -1,6 +1,6 @@
 // A host whose engine waits for what is written, and which keeps its log.
 ghost use Rattle.std.specs.Prelude.{◌≡◌, IfOk, None, false};
-ghost use Rattle.child_engine.specs.Hosts.{RisesBy, unused};
+ghost use Rattle.child_engine.specs.Hosts.{RisesBy, unused_books};
 ghost use Rattle.driver_sessions.specs.Talking.{books_with};
 
 use crate::talk::{DueText, Telling, Waiting};
@@ -47,7 +47,8 @@ impl<'a> TalkingHost<'a> {
         engine: &'static [DueText],
     ) -> Result<TalkingHost<'a>, NoMemory>
         ensures { IfOk result (λ h.
-            books_with h.runs_out h.logs_out h.runs_closed h.logs_closed ≡ unused None false) }
+            books_with h.runs_out h.logs_out h.runs_closed h.logs_closed
+            ≡ unused_books None false) }
     {
         Ok(TalkingHost {
             written,
@@ -90,7 +91,7 @@ impl<'a> Host for TalkingHost<'a> {
 
     type Log = Log;
 
-    type ChildProcess = ();
+    type EngineProcess = ();
 
     ghost faults = { λ h. h.faults };
 

@@ -22,9 +22,9 @@ use Rattle.driver_talk.specs.declared.talk.Reach.TheVariants as reaches
 use Rattle.driver_talk.specs.declared.talk.WantedSearch.{WantedSearch}
 use Rattle.driver_talk.specs.declared.talk.DriverCall.{DriverCall}
 use Rattle.driver_talk.specs.declared.talk.DriverCall.TheVariants as calls
-use Rattle.driver_talk.specs.Talk.{turn_of, quiet, thinks, closed, board_of, pinged, next_ping, resume_in, is_free_at, is_awaited, unawaited, stopped, hit, hit_by, resumed, kept, played_by, opened_by, begin_by, begin_from, begun, after_go, after_stop, after_hit, after_thought, after_moved, after_resigned, after_ended, after_quit, after_uci, after_ready, after_pong, is_open_stage}
+use Rattle.driver_talk.specs.Talk.{turn_of, quiet, thinks, closed, board_of, pinged, next_ping, resume_in, is_free_at, is_awaited, without_awaited, stopped, hit, hit_by, resumed, kept, played_by, opened_by, begin_by, begin_from, begun, after_go, after_stop, after_hit, after_thought, after_moved, after_resigned, after_ended, after_quit, after_uci, after_ready, after_pong, is_open_stage}
 use Rattle.driver_talk.specs.Laws as laws
-use Rattle.driver_talk.specs.Laws.{run, is_accepted, is_answer, tells_to_think, thinking, is_stop, is_hit, goes_on, is_open, unanswered, IsBusy, OpenIsBusy}
+use Rattle.driver_talk.specs.Laws.{run, is_accepted, is_answer, tells_to_think, has_thinking_search, is_stop, is_hit, goes_on, is_open, unanswered_ping, IsBusy, OpenIsBusy}
 use Rattle.driver_talk.specs.declared.words.DriverDeed.{DriverDeed}
 use Rattle.driver_talk.proofs.Counts.{talk_of}
 use Rattle.driver_talk.proofs.Pings.{awaited_is_unanswered}
@@ -158,7 +158,7 @@ resume_phase th on gone awaited pings kind clocks best Rests h = h
 resume_phase th on gone awaited pings kind clocks best (Thinks hurried) h = h
 
 pong_search : (th : Bool) (on : GoKind → Bool) (gone : Bool) (awaited : Option ℕ) (pings : ℕ) (search : Option OpenSearch) (b : Bool) → FitsIn th on awaited search
-    → Keeps th on (cond b (resume_in search (unawaited (talk_of stages.Open gone awaited pings search))) (quiet (talk_of stages.Open gone awaited pings search)))
+    → Keeps th on (cond b (resume_in search (without_awaited (talk_of stages.Open gone awaited pings search))) (quiet (talk_of stages.Open gone awaited pings search)))
 pong_search th on gone awaited pings None true h = tt
 pong_search th on gone awaited pings (Some s) true h = resume_phase th on gone awaited pings s.kind s.clocks s.kept s.phase h
 pong_search th on gone awaited pings search false h = h
@@ -254,9 +254,9 @@ call_keeps th st ht t calls.Ended h = ended_keeps th (on_by st ht) t.stage t.gon
 abbrev on_after : List DriverCall → GoKind → Bool
 on_after cs = on_by (laws.stopped cs) (laws.hit cs)
 
-run_fits : (cs : List DriverCall) → FitsIn (thinking cs) (on_after cs) (run cs).awaited (run cs).search
+run_fits : (cs : List DriverCall) → FitsIn (has_thinking_search cs) (on_after cs) (run cs).awaited (run cs).search
 run_fits [] = tt
-run_fits (c ∷ cs) = call_keeps (thinking cs) (laws.stopped cs) (laws.hit cs) (run cs) c (run_fits cs)
+run_fits (c ∷ cs) = call_keeps (has_thinking_search cs) (laws.stopped cs) (laws.hit cs) (run cs) c (run_fits cs)
 
 busy_phase : (th : Bool) (on : GoKind → Bool) (awaited : Option ℕ) (kind : GoKind) (p : Phase) → Fits th on awaited kind p → (th ≡ true) ⊎ ((on kind ≡ true) ⊎ IsSome awaited)
 busy_phase th on awaited kind (Thinks hurried) h = inl h
@@ -269,5 +269,5 @@ busy_phase th on awaited kind (WaitsToAnalyse (Some next)) h = inr (inr h)
 
 pub open_is_busy : OpenIsBusy
 open_is_busy cs s e =
-    let fits = subst (λ (x : Option OpenSearch). FitsIn (thinking cs) (on_after cs) (run cs).awaited x) e (run_fits cs) in
-    busy_phase (thinking cs) (on_after cs) (unanswered cs) s.kind s.phase (subst (λ (x : Option ℕ). FitsIn (thinking cs) (on_after cs) x (Some s)) (awaited_is_unanswered cs) fits)
+    let fits = subst (λ (x : Option OpenSearch). FitsIn (has_thinking_search cs) (on_after cs) (run cs).awaited x) e (run_fits cs) in
+    busy_phase (has_thinking_search cs) (on_after cs) (unanswered_ping cs) s.kind s.phase (subst (λ (x : Option ℕ). FitsIn (has_thinking_search cs) (on_after cs) x (Some s)) (awaited_is_unanswered cs) fits)

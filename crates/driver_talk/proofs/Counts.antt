@@ -22,7 +22,7 @@ use Rattle.driver_talk.specs.declared.talk.Reach.TheVariants as reaches
 use Rattle.driver_talk.specs.declared.talk.WantedSearch.{WantedSearch}
 use Rattle.driver_talk.specs.declared.talk.DriverCall.{DriverCall}
 use Rattle.driver_talk.specs.declared.talk.DriverCall.TheVariants as calls
-use Rattle.driver_talk.specs.Talk.{turn_of, quiet, thinks, closed, board_of, pinged, next_ping, resume_in, is_free_at, is_awaited, unawaited, stopped, hit, hit_by, resumed, kept, played, opened, played_by, opened_by, begin_by, begin_from, begun, after_begin, after_go, after_stop, after_hit, after_pong, after_thought, after_moved, after_resigned, after_ended, after_quit, after_uci, after_ready, is_open_stage}
+use Rattle.driver_talk.specs.Talk.{turn_of, quiet, thinks, closed, board_of, pinged, next_ping, resume_in, is_free_at, is_awaited, without_awaited, stopped, hit, hit_by, resumed, kept, played, opened, played_by, opened_by, begin_by, begin_from, begun, after_begin, after_go, after_stop, after_hit, after_pong, after_thought, after_moved, after_resigned, after_ended, after_quit, after_uci, after_ready, is_open_stage}
 use Rattle.driver_talk.specs.Laws.{run, gos, answers, one_if, is_accepted, is_answer, open_count, AnsweredOnce}
 
 -- so many were accepted, and what was open is answered or still open
@@ -87,9 +87,9 @@ resume_phase t s (WaitsToAnalyse None) e = refl
 resume_phase t s (WaitsToAnalyse (Some next)) e = refl
 resume_phase t s p e = same_open s t.search (sym e)
 
-pong_search : (t : DriverTalk) (search : Option OpenSearch) (b : Bool) (n : ℕ) → t.search ≡ search → Counted 0 search (cond b (resume_in search (unawaited t)) (quiet t))
+pong_search : (t : DriverTalk) (search : Option OpenSearch) (b : Bool) (n : ℕ) → t.search ≡ search → Counted 0 search (cond b (resume_in search (without_awaited t)) (quiet t))
 pong_search t None true n e = ap (λ (x : Option OpenSearch). 0 + open_count x) (sym e)
-pong_search t (Some s) true n e = resume_phase (unawaited t) s s.phase e
+pong_search t (Some s) true n e = resume_phase (without_awaited t) s s.phase e
 pong_search t search false n e = ap (λ (x : Option OpenSearch). 0 + open_count x) (sym e)
 
 keep_phase : (t : DriverTalk) (s : OpenSearch) (p : Phase) (thought : Thought) → t.search ≡ Some s → Counted 0 (Some s) (kept t s p thought)

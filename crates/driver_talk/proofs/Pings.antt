@@ -21,12 +21,12 @@ use Rattle.driver_talk.specs.declared.talk.Reach.TheVariants as reaches
 use Rattle.driver_talk.specs.declared.talk.WantedSearch.{WantedSearch}
 use Rattle.driver_talk.specs.declared.talk.DriverCall.{DriverCall}
 use Rattle.driver_talk.specs.declared.talk.DriverCall.TheVariants as calls
-use Rattle.driver_talk.specs.Talk.{turn_of, quiet, open_search, is_awaited, unawaited, stopped, stop_in, hit, hit_by, hit_in, resumed, resume_in, kept, thought_in, played_by, opened_by, begin_by, begin_from, is_free, closed, board_of, pinged, next_ping, quit_at, uci_at, unless_gone, ready_at, ended_in, gone, is_open_stage, is_thinking}
+use Rattle.driver_talk.specs.Talk.{turn_of, quiet, open_search, is_awaited, without_awaited, stopped, stop_in, hit, hit_by, hit_in, resumed, resume_in, kept, thought_in, played_by, opened_by, begin_by, begin_from, is_free, closed, board_of, pinged, next_ping, quit_at, uci_at, unless_gone, ready_at, ended_in, without_engine, is_open_stage, is_thinking}
 use Rattle.driver_talk.specs.Talk as talks
 use Rattle.driver_talk.specs.declared.words.ToIface.TheVariants as ups
 use Rattle.driver_talk.specs.declared.words.ToEngine.TheVariants as downs
 use Rattle.driver_talk.specs.declared.words.BoardChange.TheVariants as boards
-use Rattle.driver_talk.specs.Laws.{run, written_ping, last_ping, less_pong, unanswered, begins_search, IsAnswered, AwaitedWasWritten, AwaitedIsUnanswered, PongsComeFirst}
+use Rattle.driver_talk.specs.Laws.{run, written_ping, last_ping, less_pong, unanswered_ping, begins_search, IsAnswered, AwaitedWasWritten, AwaitedIsUnanswered, PongsComeFirst}
 
 -- THE PING THAT IS AWAITED
 
@@ -84,7 +84,7 @@ resigned_awaits : (t : DriverTalk) (b : Bool)
 resigned_awaits t true = refl
 resigned_awaits t false = refl
 
-resume_phase : (t : DriverTalk) (s : OpenSearch) (p : Phase) → Awaits None (resumed (unawaited t) s p)
+resume_phase : (t : DriverTalk) (s : OpenSearch) (p : Phase) → Awaits None (resumed (without_awaited t) s p)
 resume_phase t s (Leaves Answer) = refl
 resume_phase t s (Leaves Play) = refl
 resume_phase t s (WaitsToThink hurried) = refl
@@ -94,11 +94,11 @@ resume_phase t s Analyses = refl
 resume_phase t s Rests = refl
 resume_phase t s (Thinks hurried) = refl
 
-resume_awaits : (t : DriverTalk) (search : Option OpenSearch) → Awaits None (resume_in search (unawaited t))
+resume_awaits : (t : DriverTalk) (search : Option OpenSearch) → Awaits None (resume_in search (without_awaited t))
 resume_awaits t None = refl
 resume_awaits t (Some s) = resume_phase t s s.phase
 
-pong_awaits : (t : DriverTalk) (b : Bool) → Awaits (cond b None t.awaited) (cond b (resume_in t.search (unawaited t)) (quiet t))
+pong_awaits : (t : DriverTalk) (b : Bool) → Awaits (cond b None t.awaited) (cond b (resume_in t.search (without_awaited t)) (quiet t))
 pong_awaits t true = resume_awaits t t.search
 pong_awaits t false = refl
 
@@ -112,7 +112,7 @@ thought_awaits : (t : DriverTalk) (search : Option OpenSearch) (thought : Though
 thought_awaits t None thought = refl
 thought_awaits t (Some s) thought = keep_phase t s s.phase thought
 
-ended_awaits : (t : DriverTalk) (search : Option OpenSearch) → Awaits t.awaited (ended_in search (gone t))
+ended_awaits : (t : DriverTalk) (search : Option OpenSearch) → Awaits t.awaited (ended_in search (without_engine t))
 ended_awaits t None = refl
 ended_awaits t (Some s) = refl
 
@@ -190,11 +190,11 @@ last_by : (written left last : Option ℕ) (n : ℕ) → (left ≡ Some n → la
 last_by (Some m) left last n h e = e
 last_by None left last n h e = h e
 
-unanswered_was_written : (cs : List DriverCall) (n : ℕ) → unanswered cs ≡ Some n → last_ping cs ≡ Some n
+unanswered_was_written : (cs : List DriverCall) (n : ℕ) → unanswered_ping cs ≡ Some n → last_ping cs ≡ Some n
 unanswered_was_written [] n e = e
 unanswered_was_written (c ∷ cs) n e =
-    last_by (written_ping (turn_of (run cs) c).deed.down) (less_pong c (run cs) (unanswered cs)) (last_ping cs) n
-    (λ left. unanswered_was_written cs n (less_was c (run cs) (unanswered cs) n left)) e
+    last_by (written_ping (turn_of (run cs) c).deed.down) (less_pong c (run cs) (unanswered_ping cs)) (last_ping cs) n
+    (λ left. unanswered_was_written cs n (less_was c (run cs) (unanswered_ping cs) n left)) e
 
 pub awaited_was_written : AwaitedWasWritten
 awaited_was_written cs n e = unanswered_was_written cs n (sym (awaited_is_unanswered cs) ∙ e)
@@ -327,7 +327,7 @@ answered_by_pong None n e = tt
 answered_by_pong (Some ping) n e = same_number ping n e
 
 pong_answers : (t : DriverTalk) (n : ℕ) (is_open awaits : Bool) → is_awaited t.awaited n ≡ awaits
-    → begins_search (cond (is_open && awaits) (resume_in t.search (unawaited t)) (quiet t)).deed.down ≡ true → IsAnswered t.awaited (calls.Pong n)
+    → begins_search (cond (is_open && awaits) (resume_in t.search (without_awaited t)) (quiet t)).deed.down ≡ true → IsAnswered t.awaited (calls.Pong n)
 pong_answers t n true true a e = answered_by_pong t.awaited n a
 pong_answers t n true false a e = absurd (waits_quiet t e)
 pong_answers t n false awaits a e = absurd (waits_quiet t e)
@@ -345,4 +345,4 @@ pongs_come_first t (calls.Moved shown) e = absurd (moved_waits t shown (is_think
 pongs_come_first t calls.Resigned e = absurd (resigned_waits t (is_thinking t) e)
 pongs_come_first t (calls.Pong n) e = pong_answers t n (is_open_stage t.stage) (is_awaited t.awaited n) refl e
 pongs_come_first t (calls.Thought thought) e = absurd (thought_waits t (open_search t) thought e)
-pongs_come_first t calls.Ended e = absurd (ended_waits (gone t) (open_search t) e)
+pongs_come_first t calls.Ended e = absurd (ended_waits (without_engine t) (open_search t) e)

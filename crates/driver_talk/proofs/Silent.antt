@@ -22,7 +22,7 @@ use Rattle.driver_talk.specs.declared.talk.Reach.TheVariants as reaches
 use Rattle.driver_talk.specs.declared.talk.WantedSearch.{WantedSearch}
 use Rattle.driver_talk.specs.declared.talk.DriverCall.{DriverCall}
 use Rattle.driver_talk.specs.declared.talk.DriverCall.TheVariants as calls
-use Rattle.driver_talk.specs.Talk.{turn_of, quiet, is_free_at, is_awaited, unawaited, stopped, hit, hit_by, resumed, resume_in, kept, played_by, opened_by, begin_by, begin_from, begun, after_go, after_stop, after_hit, after_thought, after_moved, after_resigned, after_ended, after_quit, after_uci, after_ready, is_open_stage, is_thinking, is_free, open_search, stop_in, hit_in, thought_in, quit_at, uci_at, ready_at, ended_in, gone, closed, board_of, pinged, next_ping}
+use Rattle.driver_talk.specs.Talk.{turn_of, quiet, is_free_at, is_awaited, without_awaited, stopped, hit, hit_by, resumed, resume_in, kept, played_by, opened_by, begin_by, begin_from, begun, after_go, after_stop, after_hit, after_thought, after_moved, after_resigned, after_ended, after_quit, after_uci, after_ready, is_open_stage, is_thinking, is_free, open_search, stop_in, hit_in, thought_in, quit_at, uci_at, ready_at, ended_in, without_engine, closed, board_of, pinged, next_ping}
 use Rattle.driver_talk.specs.Laws.{is_open, HasNoMove, MovesAreIgnored, NoMoveHasCause}
 use Rattle.driver_talk.proofs.Counts.{talk_of}
 
@@ -91,8 +91,8 @@ resume_speaks : (t : DriverTalk) (search : Option OpenSearch) → Speaks (resume
 resume_speaks t None = silent t
 resume_speaks t (Some s) = resume_phase t s s.phase
 
-pong_speaks : (t : DriverTalk) (b : Bool) → Speaks (cond b (resume_in t.search (unawaited t)) (quiet t))
-pong_speaks t true = resume_speaks (unawaited t) t.search
+pong_speaks : (t : DriverTalk) (b : Bool) → Speaks (cond b (resume_in t.search (without_awaited t)) (quiet t))
+pong_speaks t true = resume_speaks (without_awaited t) t.search
 pong_speaks t false = silent t
 
 keep_phase : (t : DriverTalk) (s : OpenSearch) (p : Phase) (thought : Thought) → Speaks (kept t s p thought)
@@ -171,4 +171,4 @@ no_move_has_cause t (calls.Moved shown) e = let both = moved_cause t shown (is_t
 no_move_has_cause t calls.Resigned e = resigned_cause t (is_thinking t) e
 no_move_has_cause t (calls.Pong n) e = absurd (pong_speaks t (is_open_stage t.stage && is_awaited t.awaited n) e)
 no_move_has_cause t (calls.Thought thought) e = absurd (thought_speaks t (open_search t) thought e)
-no_move_has_cause t calls.Ended e = ended_cause (gone t) (open_search t) e
+no_move_has_cause t calls.Ended e = ended_cause (without_engine t) (open_search t) e

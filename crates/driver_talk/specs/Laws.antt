@@ -77,17 +77,17 @@ less_pong (calls.Pong n) t ping = if is_open_stage t.stage && is_awaited ping n 
 less_pong c t ping = ping
 
 -- the ping that was written last, if its pong has not come since
-abbrev pub unanswered : List DriverCall → Option ℕ
-unanswered [] = None
-unanswered (c ∷ cs) = option_or (written_ping (deed_after cs c).down) (less_pong c (run cs) (unanswered cs))
+abbrev pub unanswered_ping : List DriverCall → Option ℕ
+unanswered_ping [] = None
+unanswered_ping (c ∷ cs) = option_or (written_ping (deed_after cs c).down) (less_pong c (run cs) (unanswered_ping cs))
 
--- A ping that is awaited was written, and none behind it.
+-- A ping that is awaited was written, and none after it.
 abbrev pub AwaitedWasWritten : Type 0
 AwaitedWasWritten = (cs : List DriverCall) (n : ℕ) → (run cs).awaited ≡ Some n → last_ping cs ≡ Some n
 
 -- A ping is awaited as long as its pong has not come.
 abbrev pub AwaitedIsUnanswered : Type 0
-AwaitedIsUnanswered = (cs : List DriverCall) → (run cs).awaited ≡ unanswered cs
+AwaitedIsUnanswered = (cs : List DriverCall) → (run cs).awaited ≡ unanswered_ping cs
 
 -- WHAT AN OPEN SEARCH DOES
 
@@ -97,9 +97,9 @@ tells_to_think (downs.Resume clocks) = true
 tells_to_think down = false
 
 -- The engine was set to think since the last `bestmove`.
-abbrev pub thinking : List DriverCall → Bool
-thinking [] = false
-thinking (c ∷ cs) = if is_answer (deed_after cs c).up then false else tells_to_think (deed_after cs c).down || thinking cs
+abbrev pub has_thinking_search : List DriverCall → Bool
+has_thinking_search [] = false
+has_thinking_search (c ∷ cs) = if is_answer (deed_after cs c).up then false else tells_to_think (deed_after cs c).down || has_thinking_search cs
 
 abbrev pub is_open : Option OpenSearch → Bool
 is_open None = false
@@ -134,7 +134,7 @@ goes_on kinds.Analyse stopped hit = not stopped
 -- An open search is one whose engine was set to think, an analysis that goes on, or one that waits for a ping whose pong has
 -- not come.
 abbrev pub IsBusy : List DriverCall → OpenSearch → Type 0
-IsBusy cs s = (thinking cs ≡ true) ⊎ ((goes_on s.kind (stopped cs) (hit cs) ≡ true) ⊎ IsSome (unanswered cs))
+IsBusy cs s = (has_thinking_search cs ≡ true) ⊎ ((goes_on s.kind (stopped cs) (hit cs) ≡ true) ⊎ IsSome (unanswered_ping cs))
 
 abbrev pub OpenIsBusy : Type 0
 OpenIsBusy = (cs : List DriverCall) (s : OpenSearch) → (run cs).search ≡ Some s → IsBusy cs s

@@ -66,7 +66,7 @@ search_at stages.Over search = None
 abbrev pub open_search : DriverTalk → Option OpenSearch
 open_search t = search_at t.stage t.search
 
--- a `go` and a `position` are accepted behind `uci`, before `quit`, if no search is open
+-- a `go` and a `position` are accepted after `uci`, before `quit`, if no search is open
 abbrev pub is_free_at : DriverStage → Option OpenSearch → Bool
 is_free_at stages.Open None = true
 is_free_at stages.Open (Some s) = false
@@ -240,8 +240,8 @@ abbrev pub is_awaited : Option ℕ → ℕ → Bool
 is_awaited None n = false
 is_awaited (Some ping) n = ping == n
 
-abbrev pub unawaited : DriverTalk → DriverTalk
-unawaited t = record { stage = t.stage; gone = t.gone; awaited = None; pings = t.pings; search = t.search }
+abbrev pub without_awaited : DriverTalk → DriverTalk
+without_awaited t = record { stage = t.stage; gone = t.gone; awaited = None; pings = t.pings; search = t.search }
 
 abbrev pub is_open_stage : DriverStage → Bool
 is_open_stage stages.Open = true
@@ -249,7 +249,7 @@ is_open_stage stages.Fresh = false
 is_open_stage stages.Over = false
 
 abbrev pub after_pong : DriverTalk → ℕ → DriverTurn
-after_pong t n = if is_open_stage t.stage && is_awaited t.awaited n then resume_in t.search (unawaited t) else quiet t
+after_pong t n = if is_open_stage t.stage && is_awaited t.awaited n then resume_in t.search (without_awaited t) else quiet t
 
 abbrev pub better : OpenSearch → Move → OpenSearch
 better s m = record { kind = s.kind; clocks = s.clocks; kept = m; phase = s.phase }
@@ -267,15 +267,15 @@ thought_in (Some s) t thought = kept t s s.phase thought
 abbrev pub after_thought : DriverTalk → Thought → DriverTurn
 after_thought t thought = thought_in (open_search t) t thought
 
-abbrev pub gone : DriverTalk → DriverTalk
-gone t = record { stage = t.stage; gone = true; awaited = t.awaited; pings = t.pings; search = t.search }
+abbrev pub without_engine : DriverTalk → DriverTalk
+without_engine t = record { stage = t.stage; gone = true; awaited = t.awaited; pings = t.pings; search = t.search }
 
 abbrev pub ended_in : Option OpenSearch → DriverTalk → DriverTurn
 ended_in None t = quiet t
 ended_in (Some s) t = give (closed t) (ups.Best None) downs.Nothing
 
 abbrev pub after_ended : DriverTalk → DriverTurn
-after_ended t = ended_in (open_search t) (gone t)
+after_ended t = ended_in (open_search t) (without_engine t)
 
 -- what comes of a call
 unfoldable pub turn_of : DriverTalk → DriverCall → DriverTurn

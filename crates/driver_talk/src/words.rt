@@ -29,7 +29,7 @@ pub struct Thought {
     pub best: Move,
 }
 
-/// What follows once an engine that left analysis has answered the `ping` behind `exit`.
+/// What follows once an engine that left analysis has answered the `ping` after `exit`.
 #[derive(Clone, Copy)]
 pub enum AfterAnalysis {
     /// The search is answered.
@@ -66,7 +66,7 @@ pub struct OpenSearch {
     pub phase: Phase,
 }
 
-/// What is given up to the interface.
+/// What is passed up to the interface.
 #[derive(Clone, Copy)]
 pub enum ToIface {
     Nothing,

@@ -15,13 +15,13 @@ use Rattle.chess_board.specs.Board.{file_of, rank_of}
 use Rattle.chess_board.specs.Position.{Position}
 use Rattle.chess_board.specs.Play.{IsPosition}
 use Rattle.chess_board.specs.Text.{promotion_text, text_of}
-use Rattle.fen_text.specs.Written.{board_text, passant_text, rights_text, side_text, written}
+use Rattle.fen_text.specs.Written.{board_text, passant_text, rights_text, side_text, position_fen}
 use Rattle.fen_text.proofs.Boards.{word-board}
 use Rattle.fen_text.proofs.Cut.{Above}
 use Rattle.fen_text.proofs.Others.{word-passant, word-rights, word-side}
 use Rattle.game_record.specs.Line.{ply_text}
 use Rattle.peer_words.proofs.Written.{decimal_digits}
-use Rattle.driver_lines.specs.Lines.{Line, XBoard, Protover, Quit, New, Force, Post, SetBoard, Played, St, Level, Time, Otim, Sd, Go, Analyze, Hurry, Exit, Ping, Accepted, Rejected, move_text, two_digits}
+use Rattle.driver_lines.specs.Lines.{DownLine, XBoard, Protover, Quit, New, Force, Post, SetBoard, Played, St, Level, Time, Otim, Sd, Go, Analyze, Hurry, Exit, Ping, Accepted, Rejected, move_text, two_digits}
 use Rattle.cecp_driver.specs.Said.{CanBeSaid}
 use Rattle.driver_wire.specs.Wire.{bare_text}
 
@@ -56,8 +56,8 @@ joined_fed : (w : List ℕ) (ws : List (List ℕ)) → AllByRecursion (λ t. has
 joined_fed w [] a = a.0
 joined_fed w (v ∷ ws) a = both w _ a.0 (both (32 ∷ []) (join_with_byte 32 (v ∷ ws)) refl (joined_fed v ws a.1))
 
-written_fed : (p : Position) → IsPosition p → has_feed (written p) ≡ false
-unfolding written
+written_fed : (p : Position) → IsPosition p → has_feed (position_fen p) ≡ false
+unfolding position_fen
 written_fed p h =
     joined_fed (board_text p.men) (side_text p.side ∷ rights_text p.rights ∷ passant_text p.passant ∷ decimal p.half ∷ decimal p.full ∷ []) (
       above_fed (board_text p.men) (word-board p.men).1,
@@ -101,14 +101,14 @@ level_fed k s i h =
     let seconds : has_feed c ≡ false = both (b ++ codes ":") (two_digits (s % 60)) (both b (codes ":") minutes refl) (two_fed (s % 60)) in
     both (c ++ codes " ") (decimal i) (both c (codes " ") seconds refl) (number_fed i (omega (arith, h.2)))
 
-pub bare_fed : (line : Line) → CanBeSaid line → has_feed (bare_text line) ≡ false
+pub bare_fed : (line : DownLine) → CanBeSaid line → has_feed (bare_text line) ≡ false
 bare_fed XBoard h = refl
 bare_fed Protover h = refl
 bare_fed Quit h = refl
 bare_fed New h = refl
 bare_fed Force h = refl
 bare_fed Post h = refl
-bare_fed (SetBoard p) h = both (codes "setboard ") (written p) refl (written_fed p h)
+bare_fed (SetBoard p) h = both (codes "setboard ") (position_fen p) refl (written_fed p h)
 bare_fed (Played has_usermove m) h = played_fed has_usermove (ply_text m) (subst (λ (t : List ℕ). has_feed t ≡ false) (ap ply_text h.1.0) (move_fed h.0))
 bare_fed (St n) h = both (codes "st ") (decimal n) refl (number_fed n (omega (arith, h)))
 bare_fed (Level k s i) h = level_fed k s i h

@@ -7,7 +7,7 @@ use Rattle.game_record.specs.Game.{Game, ply_of}
 use Rattle.line_io.specs.Event.{Event, Iface}
 use Rattle.cecp_lines.specs.Messages.{IfaceMsg}
 use Rattle.cecp_lines.specs.Messages as says
-use Rattle.driver_lines.specs.Lines.{Line, XBoard, Protover, Quit, New, Force, Post, SetBoard, Played, St, Level, Time, Otim, Sd, Go, Analyze, Hurry, Exit, Ping, Accepted, Rejected, ended, line_text, lines_text}
+use Rattle.driver_lines.specs.Lines.{DownLine, XBoard, Protover, Quit, New, Force, Post, SetBoard, Played, St, Level, Time, Otim, Sd, Go, Analyze, Hurry, Exit, Ping, Accepted, Rejected, line_with_feed, line_text, lines_text}
 use Rattle.cecp_driver.specs.declared.driver.DriverParts.{DriverParts}
 use Rattle.cecp_driver.specs.Driver.{opening}
 use Rattle.cecp_driver.specs.EngineGame.{AllFollow, AllOn, CanPlay, IsNoQuit, QuitIsLast, SearchesOn, Sets, has_quit, set_by, set_by_all, with_own}
@@ -21,17 +21,17 @@ use Rattle.driver_wire.proofs.Held.{Holds, takes_line, takes_move}
 use Rattle.driver_wire.proofs.Spelled.{cecp}
 
 -- the game at a line that begins a search
-abbrev AtLine : Game → Game → Line → Type 0
+abbrev AtLine : Game → Game → DownLine → Type 0
 AtLine ordered g Go = g ≡ ordered
 AtLine ordered g Analyze = g ≡ ordered
 AtLine ordered g line = Unit {0}
 
-split : (ordered g : Game) (l : Line) (ls : List Line) → SearchesOn ordered g (l ∷ ls) → AtLine ordered g l × SearchesOn ordered (set_by g l) ls
+split : (ordered g : Game) (l : DownLine) (ls : List DownLine) → SearchesOn ordered g (l ∷ ls) → AtLine ordered g l × SearchesOn ordered (set_by g l) ls
 split ordered g Go ls s = (s.0, s.1)
 split ordered g Analyze ls s = (s.0, s.1)
 split ordered g l ls s = (tt, s)
 
-at_message : (ordered g : Game) (l : Line) (msg : IfaceMsg) → IsMessage l msg → AtLine ordered g l → SearchesAt ordered g msg
+at_message : (ordered g : Game) (l : DownLine) (msg : IfaceMsg) → IsMessage l msg → AtLine ordered g l → SearchesAt ordered g msg
 at_message ordered g XBoard msg i a = subst (SearchesAt ordered g) (sym i.1) tt
 at_message ordered g Protover msg i a = subst (SearchesAt ordered g) (sym i) tt
 at_message ordered g Quit msg i a = subst (SearchesAt ordered g) (sym i) tt
@@ -59,27 +59,27 @@ at_message ordered g (Rejected name) msg i a = subst (SearchesAt ordered g) (sym
 abbrev HoldsAfter : Settings → List Event → Game → Type 0
 HoldsAfter o taken g = Holds (alone o taken) g
 
-record Reads (o : Settings) (ordered g : Game) (taken : List Event) (lines : List Line) : Type 0 where
+record Reads (o : Settings) (ordered g : Game) (taken : List Event) (lines : List DownLine) : Type 0 where
   spoken : List Spoken
   written : lines_text lines ≡ spoken_text spoken
   spelled : AllByRecursion IsSpelled spoken
   on : SearchesHeld o ordered taken spoken
   after : HoldsAfter o (with_lines taken spoken) (set_by_all g lines)
 
-abbrev spoken_as : Line → IfaceMsg → Spoken
+abbrev spoken_as : DownLine → IfaceMsg → Spoken
 spoken_as l msg = record { text = bare_text l; msg = msg }
 
-reads_more : (o : Settings) (ordered g : Game) (taken : List Event) (l : Line) (ls : List Line) (msg : IfaceMsg) → HoldsAfter o taken g → IsCecp l msg → AtLine ordered g l
+reads_more : (o : Settings) (ordered g : Game) (taken : List Event) (l : DownLine) (ls : List DownLine) (msg : IfaceMsg) → HoldsAfter o taken g → IsCecp l msg → AtLine ordered g l
     → Reads o ordered (set_by g l) (Iface (bare_text l) ∷ taken) ls → Reads o ordered g taken (l ∷ ls)
 reads_more o ordered g taken l ls msg k c a r = record {
   spoken = spoken_as l msg ∷ r.spoken;
-  written = ap (λ (t : List ℕ). t ++ lines_text ls) c.whole ∙ ap (λ (t : List ℕ). ended (bare_text l) ++ t) r.written;
+  written = ap (λ (t : List ℕ). t ++ lines_text ls) c.whole ∙ ap (λ (t : List ℕ). line_with_feed (bare_text l) ++ t) r.written;
   spelled = ((c.no_feed, c.spelled), r.spelled);
   on = (subst (λ (x : Game). SearchesAt ordered x msg) (sym k.game) (at_message ordered g l msg c.is a), r.on);
   after = r.after;
 }
 
-reads : (o : Settings) (ordered g : Game) (taken : List Event) (lines : List Line) → HoldsAfter o taken g → AllByRecursion CanBeSaid lines → SearchesOn ordered g lines → AllFollow g lines → AllByRecursion IsNoQuit lines → Reads o ordered g taken lines
+reads : (o : Settings) (ordered g : Game) (taken : List Event) (lines : List DownLine) → HoldsAfter o taken g → AllByRecursion CanBeSaid lines → SearchesOn ordered g lines → AllFollow g lines → AllByRecursion IsNoQuit lines → Reads o ordered g taken lines
 reads o ordered g taken [] k s on f q = record { spoken = []; written = refl; spelled = tt; on = tt; after = k }
 reads o ordered g taken (l ∷ ls) k s on f q =
     let parts = split ordered g l ls on in

@@ -12,10 +12,10 @@ use Rattle.chess_board.proofs.Legal.{legal-law}
 use Rattle.chess_board.proofs.Texts.{legal-written}
 use Rattle.fen_text.specs.declared.fault.FenFault.{FenFault}
 use Rattle.fen_text.specs.Fen.{position_of}
-use Rattle.game_record.specs.Game.{Ply, Game, begun, now_of, ply_of, with_ply}
+use Rattle.game_record.specs.Game.{Ply, Game, game_from, now_of, ply_of, with_ply}
 use Rattle.cecp_lines.specs.Messages.{IfaceMsg}
 use Rattle.cecp_lines.specs.Messages as says
-use Rattle.cecp_lines.specs.Reading.{reading}
+use Rattle.cecp_lines.specs.Reading.{message_or_fault}
 use Rattle.cecp_lines.specs.Quit.{is_quit, is_quit_message}
 use Rattle.cecp_lines.specs.declared.iface.IfaceFault.{IfaceFault}
 use Rattle.cecp_lines.proofs.Complete.{spells_reading}
@@ -24,10 +24,10 @@ use Rattle.uci_lines.specs.Orders.{order_text}
 use Rattle.desk_rules.specs.declared.effect.Refusal.{Refusal}
 use Rattle.desk_rules.specs.Desk.{Situation}
 use Rattle.desk_rules.specs.Early.{may_wait}
-use Rattle.desk_rules.specs.Lines.{at_position, asks, change, deferred, is_early, judged, refusal, verdict}
+use Rattle.desk_rules.specs.Lines.{at_position, asks, change, early_verdict, is_early, verdict_on, refusal, verdict}
 use Rattle.desk_rules.specs.Steps.{Nothing, classify, desk_after_effect, line_effect}
 use Rattle.adapter_core.specs.Alone.{Alone, lone_after, lone_situation}
-use Rattle.driver_lines.specs.Lines.{Line, XBoard, Protover, Quit, New, Force, Post, SetBoard, Played, St, Level, Time, Otim, Sd, Go, Analyze, Hurry, Exit, Ping, Accepted, Rejected}
+use Rattle.driver_lines.specs.Lines.{DownLine, XBoard, Protover, Quit, New, Force, Post, SetBoard, Played, St, Level, Time, Otim, Sd, Go, Analyze, Hurry, Exit, Ping, Accepted, Rejected}
 use Rattle.cecp_driver.specs.EngineGame.{CanFollow, CanPlay, IsNoQuit, set_by}
 use Rattle.driver_wire.specs.Wire.{IsCecp, IsMessage, bare_text}
 use Rattle.driver_wire.proofs.Spelled.{move_spelled}
@@ -36,7 +36,7 @@ use Rattle.driver_wire.proofs.Spelled.{move_spelled}
 
 -- the game after a message, by why it is refused
 abbrev judged_game : Situation → IfaceMsg → Option Refusal → List ℕ → Game
-judged_game h m r line = (desk_after_effect h (line_effect (judged m r) line)).game
+judged_game h m r line = (desk_after_effect h (line_effect (verdict_on m r) line)).game
 
 -- neither a game, nor a position, nor a move
 abbrev IsStill : IfaceMsg → Type 0
@@ -107,18 +107,18 @@ module _ (o : Settings) (a : Alone) (still : a.ends.closed ≡ false) where
   abbrev refused : IfaceMsg → Option Refusal
   refused m = refusal h [] m
 
-  judged_after : (line : List ℕ) (m : IfaceMsg) → reading line ≡ Ok m → is_early h m ≡ false → game_after line ≡ judged_game h m (refused m) line
+  judged_after : (line : List ℕ) (m : IfaceMsg) → message_or_fault line ≡ Ok m → is_early h m ≡ false → game_after line ≡ judged_game h m (refused m) line
   unfolding classify verdict
   judged_after line m r e =
-      ap (λ (b : Bool). (desk_after_effect h (cond b Nothing (line_effect (verdict h [] line (reading line)) line))).game) still
+      ap (λ (b : Bool). (desk_after_effect h (cond b Nothing (line_effect (verdict h [] line (message_or_fault line)) line))).game) still
       ∙ ap (λ (x : Result IfaceMsg IfaceFault). (desk_after_effect h (line_effect (verdict h [] line x) line)).game) r
-      ∙ ap (λ (b : Bool). (desk_after_effect h (line_effect (cond b (deferred (may_wait h.desk.early line)) (judged m (refused m))) line)).game) e
+      ∙ ap (λ (b : Bool). (desk_after_effect h (line_effect (cond b (early_verdict (may_wait h.desk.early line)) (verdict_on m (refused m))) line)).game) e
 
-  new_judged : (line : List ℕ) → judged_game h says.New (refused says.New) line ≡ begun start_position
+  new_judged : (line : List ℕ) → judged_game h says.New (refused says.New) line ≡ game_from start_position
   unfolding desk_after_effect change refusal asks order_text
   new_judged line = refl
 
-  board_judged : (text line : List ℕ) (p : Position) → position_of text ≡ Ok p → judged_game h (says.SetBoard text) (refused (says.SetBoard text)) line ≡ begun p
+  board_judged : (text line : List ℕ) (p : Position) → position_of text ≡ Ok p → judged_game h (says.SetBoard text) (refused (says.SetBoard text)) line ≡ game_from p
   unfolding desk_after_effect change refusal asks
   board_judged text line p e = rw e (ap (λ (x : Result Position FenFault). (at_position a.desk x).game) e)
 
@@ -131,17 +131,17 @@ module _ (o : Settings) (a : Alone) (still : a.ends.closed ≡ false) where
       let room : nat_le 12000 (length g.moves) ≡ false = grind (arith, nat_tests) in
       rw (is, room) refl
 
-  still_after : (line : List ℕ) (m : IfaceMsg) → reading line ≡ Ok m → IsStill m → game_after line ≡ a.desk.game
+  still_after : (line : List ℕ) (m : IfaceMsg) → message_or_fault line ≡ Ok m → IsStill m → game_after line ≡ a.desk.game
   still_after line m r s = judged_after line m r (still_early h m s) ∙ still_game h m (refused m) line s
 
-  move_after : (line : List ℕ) (m : Move) → reading line ≡ Ok (says.UserMove m) → CanPlay a.desk.game (ply_of m) → game_after line ≡ with_ply a.desk.game (ply_of m)
+  move_after : (line : List ℕ) (m : Move) → message_or_fault line ≡ Ok (says.UserMove m) → CanPlay a.desk.game (ply_of m) → game_after line ≡ with_ply a.desk.game (ply_of m)
   move_after line m r c = judged_after line (says.UserMove m) r refl ∙ move_judged m line c
 
   -- the line of a message that is still, by which message it is
-  still_by : (line : List ℕ) (m n : IfaceMsg) → reading line ≡ Ok m → m ≡ n → IsStill n → game_after line ≡ a.desk.game
+  still_by : (line : List ℕ) (m n : IfaceMsg) → message_or_fault line ≡ Ok m → m ≡ n → IsStill n → game_after line ≡ a.desk.game
   still_by line m n r e s = still_after line n (r ∙ ap (λ (x : IfaceMsg). Ok x) e) s
 
-  line_after : (l : Line) (m : IfaceMsg) → reading (bare_text l) ≡ Ok m → IsMessage l m → CanFollow a.desk.game l → game_after (bare_text l) ≡ set_by a.desk.game l
+  line_after : (l : DownLine) (m : IfaceMsg) → message_or_fault (bare_text l) ≡ Ok m → IsMessage l m → CanFollow a.desk.game l → game_after (bare_text l) ≡ set_by a.desk.game l
   line_after New m r i f = judged_after (bare_text New) says.New (r ∙ ap (λ (x : IfaceMsg). Ok x) i) refl ∙ new_judged (bare_text New)
   line_after (SetBoard p) m r i f =
       let t = i.0 in
@@ -169,7 +169,7 @@ module _ (o : Settings) (a : Alone) (still : a.ends.closed ≡ false) where
   line_after (Rejected name) m r i f = still_by (bare_text (Rejected name)) m _ r i.1 tt
 
 -- it is no `quit`
-unquit : (l : Line) (m : IfaceMsg) → IsNoQuit l → IsMessage l m → is_quit_message (Ok m) ≡ false
+unquit : (l : DownLine) (m : IfaceMsg) → IsNoQuit l → IsMessage l m → is_quit_message (Ok m) ≡ false
 unquit Quit m q i = absurd q
 unquit XBoard m q i = ap (λ (x : IfaceMsg). is_quit_message (Ok x)) i.1
 unquit (SetBoard p) m q i = ap (λ (x : IfaceMsg). is_quit_message (Ok x)) i.1.0
@@ -183,10 +183,10 @@ pub record Holds (a : Alone) (g : Game) : Type 0 where
   pub not_closed : a.ends.closed ≡ false
   pub game : a.desk.game ≡ g
 
-still_open : (a : Alone) (line : List ℕ) (m : IfaceMsg) → a.ends.closed ≡ false → reading line ≡ Ok m → is_quit_message (Ok m) ≡ false → (a.ends.closed || is_quit line) ≡ false
+still_open : (a : Alone) (line : List ℕ) (m : IfaceMsg) → a.ends.closed ≡ false → message_or_fault line ≡ Ok m → is_quit_message (Ok m) ≡ false → (a.ends.closed || is_quit line) ≡ false
 still_open a line m e r q = ap (λ (b : Bool). b || is_quit line) e ∙ ap is_quit_message r ∙ q
 
-pub takes_line : (o : Settings) (a : Alone) (g : Game) (l : Line) (m : IfaceMsg) → Holds a g → IsCecp l m → CanFollow g l → IsNoQuit l → Holds (lone_after o a (Iface (bare_text l))) (set_by g l)
+pub takes_line : (o : Settings) (a : Alone) (g : Game) (l : DownLine) (m : IfaceMsg) → Holds a g → IsCecp l m → CanFollow g l → IsNoQuit l → Holds (lone_after o a (Iface (bare_text l))) (set_by g l)
 takes_line o a g l m k c f q =
     let r = spells_reading (bare_text l) m c.spelled in
     record {

@@ -13,7 +13,7 @@ use Rattle.chess_board.specs.Play.{IsPosition}
 use Rattle.chess_board.specs.Text.{text_of, IsOfficer}
 use Rattle.chess_board.proofs.Texts.{reads-back}
 use Rattle.fen_text.specs.Fen.{position_of, position_of_fields}
-use Rattle.fen_text.specs.Written.{written}
+use Rattle.fen_text.specs.Written.{position_fen}
 use Rattle.fen_text.proofs.Back.{reads_back}
 use Rattle.game_record.specs.Game.{Ply, with_ply}
 use Rattle.game_record.specs.Line.{ply_text}
@@ -29,7 +29,7 @@ use Rattle.cecp_lines.specs.Messages as says
 use Rattle.cecp_lines.specs.Reading.{base_at, base_time, minutes_seconds, HasMove, Spells}
 use Rattle.cecp_iface_side.proofs.Rereads.{cut_position, no_position, after_cut}
 use Rattle.cecp_iface_side.proofs.Spoken.{one_word, black_over, longer_token}
-use Rattle.driver_lines.specs.Lines.{Line, XBoard, Protover, Quit, New, Force, Post, SetBoard, Played, St, Level, Time, Otim, Sd, Go, Analyze, Hurry, Exit, Ping, Accepted, Rejected, move_text, two_digits}
+use Rattle.driver_lines.specs.Lines.{DownLine, XBoard, Protover, Quit, New, Force, Post, SetBoard, Played, St, Level, Time, Otim, Sd, Go, Analyze, Hurry, Exit, Ping, Accepted, Rejected, move_text, two_digits}
 use Rattle.cecp_driver.specs.Said.{CanBeSaid}
 use Rattle.driver_wire.proofs.Fed.{bare_fed}
 use Rattle.driver_wire.specs.Wire.{IsCecp, LinesAreCecp, at_position, bare_text}
@@ -137,19 +137,19 @@ level_cecp k s i h = (
 
 -- A POSITION
 
-board_read : (p : Position) → IsPosition p → position_of (trimmed (written p)) ≡ Ok p
+board_read : (p : Position) → IsPosition p → position_of (trimmed (position_fen p)) ≡ Ok p
 unfolding position_of
-board_read p h = ap (λ (ts : List (List ℕ)). position_of_fields ts) (tokens_trimmed (written p)) ∙ reads_back p h
+board_read p h = ap (λ (ts : List (List ℕ)). position_of_fields ts) (tokens_trimmed (position_fen p)) ∙ reads_back p h
 
 board_cecp : (p : Position) → IsPosition p → (msg : IfaceMsg) × IsCecp (SetBoard p) msg
 board_cecp p h =
     let read = board_read p h in (
-      says.SetBoard (trimmed (written p)),
+      says.SetBoard (trimmed (position_fen p)),
       record {
         whole = refl;
         no_feed = bare_fed (SetBoard p) h;
-        spelled = (token_first (codes "setboard") (written p) 32 refl refl, sym (token_rest (codes "setboard") (written p) 32 refl refl));
-        is = (trimmed (written p), (refl, read));
+        spelled = (token_first (codes "setboard") (position_fen p) 32 refl refl, sym (token_rest (codes "setboard") (position_fen p) 32 refl refl));
+        is = (trimmed (position_fen p), (refl, read));
         sets = λ g. sym (ap (at_position g) read);
       },
     )

@@ -10,7 +10,7 @@ use Rattle.cecp_lines.specs.Messages as says
 use Rattle.cecp_lines.specs.Reading.{Spells}
 use Rattle.policy_rules.specs.declared.settings.Settings.{Settings}
 use Rattle.adapter_core.specs.Alone.{alone}
-use Rattle.driver_lines.specs.Lines.{ended}
+use Rattle.driver_lines.specs.Lines.{line_with_feed}
 use Rattle.cecp_driver.specs.declared.driver.DriverParts.{DriverParts}
 use Rattle.cecp_driver.specs.Driver.{opening}
 use Rattle.cecp_driver.specs.EngineGame.{IsOwn}
@@ -30,7 +30,7 @@ IsSpelled s = (has_feed s.text ≡ false) × Spells s.text s.msg
 -- the texts of these lines, each with its line feed
 abbrev pub spoken_text : List Spoken → List ℕ
 spoken_text [] = []
-spoken_text (s ∷ ss) = ended s.text ++ spoken_text ss
+spoken_text (s ∷ ss) = line_with_feed s.text ++ spoken_text ss
 
 -- THE ENGINE AS A BRIDGE
 

@@ -6,26 +6,26 @@ use Rattle.chess_board.specs.Position.{Position}
 use Rattle.chess_board.specs.Play.{start_position}
 use Rattle.fen_text.specs.declared.fault.FenFault.{FenFault}
 use Rattle.fen_text.specs.Fen.{position_of}
-use Rattle.fen_text.specs.Written.{written}
-use Rattle.game_record.specs.Game.{Game, begun, ply_of, with_ply}
+use Rattle.fen_text.specs.Written.{position_fen}
+use Rattle.game_record.specs.Game.{Game, game_from, ply_of, with_ply}
 use Rattle.game_record.specs.Line.{ply_text}
 use Rattle.cecp_lines.specs.Messages.{IfaceMsg}
 use Rattle.cecp_lines.specs.Messages as says
 use Rattle.cecp_lines.specs.Reading.{Spells}
-use Rattle.driver_lines.specs.Lines.{Line, XBoard, Protover, Quit, New, Force, Post, SetBoard, Played, St, Level, Time, Otim, Sd, Go, Analyze, Hurry, Exit, Ping, Accepted, Rejected, ended, line_text, move_text, two_digits}
+use Rattle.driver_lines.specs.Lines.{DownLine, XBoard, Protover, Quit, New, Force, Post, SetBoard, Played, St, Level, Time, Otim, Sd, Go, Analyze, Hurry, Exit, Ping, Accepted, Rejected, line_with_feed, line_text, move_text, two_digits}
 use Rattle.cecp_driver.specs.EngineGame.{set_by}
 use Rattle.cecp_driver.specs.Said.{CanBeSaid}
 use Rattle.peer_words.specs.declared.numbers.TheConstants.{SECOND}
 
 -- the text of a line, without its line feed
-abbrev pub bare_text : Line → List ℕ
+abbrev pub bare_text : DownLine → List ℕ
 bare_text XBoard = codes "xboard"
 bare_text Protover = codes "protover 2"
 bare_text Quit = codes "quit"
 bare_text New = codes "new"
 bare_text Force = codes "force"
 bare_text Post = codes "post"
-bare_text (SetBoard p) = codes "setboard " ++ written p
+bare_text (SetBoard p) = codes "setboard " ++ position_fen p
 bare_text (Played has_usermove m) = move_text has_usermove (ply_text m)
 bare_text (St seconds) = codes "st " ++ decimal seconds
 bare_text (Level moves seconds increment) =
@@ -42,7 +42,7 @@ bare_text (Accepted name) = codes "accepted " ++ name
 bare_text (Rejected name) = codes "rejected " ++ name
 
 -- the message that a line is
-abbrev pub IsMessage : Line → IfaceMsg → Type 0
+abbrev pub IsMessage : DownLine → IfaceMsg → Type 0
 IsMessage Protover msg = msg ≡ says.Protover 2
 IsMessage Quit msg = msg ≡ says.Quit
 IsMessage New msg = msg ≡ says.New
@@ -64,23 +64,23 @@ IsMessage line msg = (text : List ℕ) × (msg ≡ says.Ignored text)
 
 -- what a message does to the game of an engine that takes it
 abbrev pub at_position : Game → Result Position FenFault → Game
-at_position g (Ok p) = begun p
+at_position g (Ok p) = game_from p
 at_position g (Err fault) = g
 
 abbrev pub game_by : Game → IfaceMsg → Game
-game_by g says.New = begun start_position
+game_by g says.New = game_from start_position
 game_by g (says.SetBoard text) = at_position g (position_of text)
 game_by g (says.UserMove m) = with_ply g (ply_of m)
 game_by g msg = g
 
 -- A line, its text and its message: the text is one line, that spells the message, and the message does to each game what the
 -- line does.
-pub record IsCecp (line : Line) (msg : IfaceMsg) : Type 0 where
-  pub whole : line_text line ≡ ended (bare_text line)
+pub record IsCecp (line : DownLine) (msg : IfaceMsg) : Type 0 where
+  pub whole : line_text line ≡ line_with_feed (bare_text line)
   pub no_feed : has_feed (bare_text line) ≡ false
   pub spelled : Spells (bare_text line) msg
   pub is : IsMessage line msg
   pub sets : (g : Game) → set_by g line ≡ game_by g msg
 
 abbrev pub LinesAreCecp : Type 0
-LinesAreCecp = (line : Line) → CanBeSaid line → (msg : IfaceMsg) × IsCecp line msg
+LinesAreCecp = (line : DownLine) → CanBeSaid line → (msg : IfaceMsg) × IsCecp line msg

@@ -24,9 +24,9 @@ type Turn = (&'static [u8], &'static [u8]);
 
 /// The words of a program, and its turns until its input is let go and it ends.
 const RUNS: [(&[&str], &[Turn]); 2] = [
-    // it gives its input back, behind `quit` too
+    // it gives its input back, after `quit` too
     (&["cat"], &[(b"quit\n", b"quit\n"), (b"stop\n", b"stop\n")]),
-    // it writes the arguments behind its first one
+    // it writes the arguments after its first one
     (
         &["printf", "%s.%s", "uci", "two words"],
         &[(b"", b"uci.two words")],

@@ -1,4 +1,4 @@
-// The words behind a program's name.
+// The words after a program's name.
 use program_edges::{WORD_ROOM, WORDS_ROOM, words_of};
 use std::env::{Env, FillError};
 

@@ -1,6 +1,6 @@
 // Lines on their way through the channel.
 ghost use Rattle.std.specs.Prelude.{◌≡◌, []};
-ghost use Rattle.event_pipe.specs.Ends.{IsSender, IsTaker, KeepsSender, KeepsTaker, sent};
+ghost use Rattle.event_pipe.specs.Ends.{IsSender, IsTaker, KeepsSender, KeepsTaker, events_sent};
 
 use event_pipe::{Pipe, PipeSend, PipeTake, ReadEnd, read_pipe};
 use line_io::{Event, MemSource, ReadFault};
@@ -31,7 +31,7 @@ const NOTHING: Given = Given {
 type Row = (Given, Given, &'static [Event<'static>]);
 
 const ROWS: [Row; 3] = [
-    // nothing comes behind `quit`
+    // nothing comes after `quit`
     (
         Given {
             bytes: b"uciok\nbest",
@@ -83,7 +83,7 @@ const ROWS: [Row; 3] = [
 /// Sends the lines that a side gives.
 fn send(rt: &(impl Abort + Wait), alloc: Global, given: &Given, to: &mut PipeSend)
     requires sender { IsSender to.old }
-    requires fresh { sent to.old ≡ [] }
+    requires fresh { events_sent to.old ≡ [] }
     ensures { KeepsSender to.old to.new }
 {
     let mut bytes = vec![in alloc; b'a'; given.letters].expect(rt, "memory for the letters");

@@ -6,7 +6,7 @@ use Rattle.peer_words.specs.declared.kinds.GoKind.TheVariants as kinds
 use Rattle.cecp_lines.specs.Quit.{is_quit}
 use Rattle.engine_revival.specs.Orders.{RevivalOrder as AnyOrder}
 use Rattle.engine_revival.specs.Orders as orders
-use Rattle.engine_revival.specs.Asked.{asked}
+use Rattle.engine_revival.specs.Asked.{order_of_line}
 use Rattle.engine_revival.specs.declared.words.DialogueState.{DialogueState}
 use Rattle.engine_revival.specs.declared.words.DialogueState.TheVariants as upper
 use Rattle.engine_revival.specs.declared.words.LifeState.{LifeState}
@@ -20,9 +20,9 @@ use Rattle.engine_revival.specs.declared.words.StandInAnswer.TheVariants as answ
 use Rattle.engine_revival.specs.declared.state.RevivalState.{RevivalState}
 use Rattle.engine_revival.specs.Dialogue.{after_order, after_said, after_hit, after_stop, where_true, said_in, is_before, is_idle, is_placed}
 use Rattle.engine_revival.specs.Lists.{can_join, is_nil}
-use Rattle.engine_revival.specs.Steps.{with_value, with_button, takes_at_once, after_at_once, life_after_said, due_to, due_orders, after_due, answer_to, after_answer, is_given, gives, accepting, accepted, reading, with_quit, accepted_at_once, read_at_once, quit_to, hearing, may_begin, first_order, due_of, answer_of, settled, settled_orders, is_ended}
-use Rattle.engine_revival.specs.Calls.{Call, Order, Heard, Ended, Begin, Over, may, turned, first_orders, orders_of, after}
-use Rattle.engine_revival.specs.Laws.{Wire, Open, Closed, Gone, written, all_written, open_or_broken, heard, met, wire_of, is_whole, state_of, MayCome, LivesAreInOrder, is_search, FitsUp, GivenFits, AnswersFit, IsAnswerIn, NoLifeIdles, is_idle_life, waits}
+use Rattle.engine_revival.specs.Steps.{with_value, with_button, takes_at_once, after_at_once, life_after_said, due_to, due_orders, after_due, answer_to, after_answer, is_given, gives, state_if_accepted, upper_if_accepted, state_after_reading, with_quit, accepted_at_once, read_at_once, quit_to, state_once_heard, may_begin, first_order, due_of, answer_of, state_once_settled, settled_orders, is_ended}
+use Rattle.engine_revival.specs.Calls.{RevivalCall, Order, Heard, Ended, Begin, Over, may, state_after_call, first_orders, orders_of, after}
+use Rattle.engine_revival.specs.Laws.{LifeWire, Open, Closed, Gone, wire_after_order, all_written, open_or_broken, heard, wire_after_call, wire_of, is_whole, state_of, MayCome, LivesAreInOrder, is_search, FitsUp, GivenFits, AnswersFit, IsAnswerIn, NoLifeIdles, is_idle_life, waits}
 use Rattle.engine_revival.proofs.Rooms.{where_is, unquit}
 use Rattle.engine_revival.proofs.Wires.{told, behind_setups, AreSetups, is_setup, with_setup, is_open, SearchIs, search_more, hit_open, stop_open, search_open, placed_open}
 
@@ -34,7 +34,7 @@ UpperIs life.Search u = is_search u ≡ true
 UpperIs state u = Unit {0}
 
 -- and of its wire
-abbrev pub WireIs : LifeState → Bool → DialogueState → Wire → Type 0
+abbrev pub WireIs : LifeState → Bool → DialogueState → LifeWire → Type 0
 WireIs life.Fresh q u w = w ≡ Open upper.Before
 WireIs life.Ended q u w = w ≡ Gone
 WireIs life.Over q u w = w ≡ Gone
@@ -47,17 +47,17 @@ WireIs life.Idle false u w = w ≡ Open upper.Idle
 WireIs life.Search true u w = w ≡ Closed
 WireIs life.Search false u w = w ≡ Open u
 
-pub record Stands (l : LifeState) (q : Bool) (u : DialogueState) (w : Wire) : Type 0 where
+pub record Stands (l : LifeState) (q : Bool) (u : DialogueState) (w : LifeWire) : Type 0 where
   pub upper_is : UpperIs l u
   pub wire_is : WireIs l q u w
 
-pub record Agrees (s : RevivalState) (w : Wire) : Type 0 where
+pub record Agrees (s : RevivalState) (w : LifeWire) : Type 0 where
   pub stands : Stands s.life s.quit s.upper w
   pub kept : AreSetups s.kept
   pub unsent : AreSetups s.unsent
   pub search : SearchIs s.upper s.search
 
-whole : (l : LifeState) (q : Bool) (u : DialogueState) (w : Wire) → WireIs l q u w → is_whole w ≡ true
+whole : (l : LifeState) (q : Bool) (u : DialogueState) (w : LifeWire) → WireIs l q u w → is_whole w ≡ true
 whole life.Boot true u w h = ap is_whole h
 whole l true u w h = ap is_whole h
 whole l q u w h = ap is_whole h
@@ -76,18 +76,18 @@ fresh_heard said.Report q got_all = record { upper_is = refl; wire_is = refl }
 fresh_heard said.Best q got_all = record { upper_is = refl; wire_is = refl }
 fresh_heard said.Nothing q got_all = record { upper_is = refl; wire_is = refl }
 
-getting_heard : (word : LifeSaid) (got_all : Bool) (q : Bool) (w : Wire) → WireIs life.Getting q upper.Getting w → Stands (life_after_said life.Getting word) q (upper_heard word life.Getting upper.Getting got_all) (heard word w)
+getting_heard : (word : LifeSaid) (got_all : Bool) (q : Bool) (w : LifeWire) → WireIs life.Getting q upper.Getting w → Stands (life_after_said life.Getting word) q (upper_heard word life.Getting upper.Getting got_all) (heard word w)
 getting_heard said.ReadyOk got_all true w h = record { upper_is = tt; wire_is = ap (heard said.ReadyOk) h }
 getting_heard said.ReadyOk got_all false w h = record { upper_is = tt; wire_is = ap (heard said.ReadyOk) h }
 getting_heard word got_all true w h = record { upper_is = refl; wire_is = ap (heard word) h }
 getting_heard word got_all q w h = record { upper_is = refl; wire_is = ap (heard word) h }
 
-boot_heard : (word : LifeSaid) (q : Bool) (u up : DialogueState) (w : Wire) → WireIs life.Boot q u w → Stands (life_after_said life.Boot word) q up (heard word w)
+boot_heard : (word : LifeSaid) (q : Bool) (u up : DialogueState) (w : LifeWire) → WireIs life.Boot q u w → Stands (life_after_said life.Boot word) q up (heard word w)
 boot_heard said.Introduction true u up w h = record { upper_is = tt; wire_is = ap (heard said.Introduction) h }
 boot_heard word true u up w h = record { upper_is = tt; wire_is = ap (heard word) h }
 boot_heard word q u up w h = record { upper_is = tt; wire_is = ap (heard word) h }
 
-search_heard : (word : LifeSaid) (got_all : Bool) (q : Bool) (u : DialogueState) (w : Wire) → is_search u ≡ true → WireIs life.Search q u w → Stands (life_after_said life.Search word) q (upper_heard word life.Search u got_all) (heard word w)
+search_heard : (word : LifeSaid) (got_all : Bool) (q : Bool) (u : DialogueState) (w : LifeWire) → is_search u ≡ true → WireIs life.Search q u w → Stands (life_after_said life.Search word) q (upper_heard word life.Search u got_all) (heard word w)
 search_heard word got_all q upper.Before w e h = absurd (true≢false (sym e))
 search_heard word got_all q upper.Boot w e h = absurd (true≢false (sym e))
 search_heard word got_all q upper.Getting w e h = absurd (true≢false (sym e))
@@ -98,10 +98,10 @@ search_heard said.Best got_all false (upper.Search k b) w e h = record { upper_i
 search_heard word got_all true u w e h = record { upper_is = refl; wire_is = ap (heard word) h }
 search_heard word got_all q u w e h = record { upper_is = refl; wire_is = ap (heard word) h }
 
-heard_stands : (l : LifeState) (q : Bool) (u : DialogueState) (w : Wire) (word : LifeSaid) (got_all : Bool) → Stands l q u w → Stands (life_after_said l word) q (upper_heard word l u got_all) (heard word w)
+heard_stands : (l : LifeState) (q : Bool) (u : DialogueState) (w : LifeWire) (word : LifeSaid) (got_all : Bool) → Stands l q u w → Stands (life_after_said l word) q (upper_heard word l u got_all) (heard word w)
 heard_stands life.Fresh q u w word got_all h =
     subst (λ (x : DialogueState). Stands life.Fresh q (upper_heard word life.Fresh x got_all) (heard word w)) (sym h.upper_is)
-    (subst (λ (x : Wire). Stands life.Fresh q (upper_heard word life.Fresh upper.Before got_all) (heard word x)) (sym h.wire_is) (fresh_heard word q got_all))
+    (subst (λ (x : LifeWire). Stands life.Fresh q (upper_heard word life.Fresh upper.Before got_all) (heard word x)) (sym h.wire_is) (fresh_heard word q got_all))
 heard_stands life.Boot q u w word got_all h = boot_heard word q u (upper_heard word life.Boot u got_all) w h.wire_is
 heard_stands life.Getting q u w word got_all h =
     subst (λ (x : DialogueState). Stands (life_after_said life.Getting word) q (upper_heard word life.Getting x got_all) (heard word w)) (sym h.upper_is)
@@ -136,12 +136,12 @@ hit_search kinds.Analyse b up e = absurd (cc)
 hit_search kinds.Ponder true up e = absurd (cc)
 hit_search kinds.Ponder false up e = subst (λ (x : DialogueState). is_search x ≡ true) (some_is (upper.Search kinds.Move false) up e) refl
 
-search_ordered : (k : GoKind) (b : Bool) (c : AnyOrder) (up : DialogueState) (w : Wire) → after_order c (upper.Search k b) ≡ Some up → w ≡ Open (upper.Search k b) → Stands (after_at_once life.Search c) false up (all_written (as_it_comes life.Search c) w)
-search_ordered k b orders.Stop up w e h = record { upper_is = stopped_search k b up e; wire_is = ap (written orders.Stop) h ∙ ap open_or_broken e }
-search_ordered k b orders.PonderHit up w e h = record { upper_is = hit_search k b up e; wire_is = ap (written orders.PonderHit) h ∙ ap open_or_broken e }
+search_ordered : (k : GoKind) (b : Bool) (c : AnyOrder) (up : DialogueState) (w : LifeWire) → after_order c (upper.Search k b) ≡ Some up → w ≡ Open (upper.Search k b) → Stands (after_at_once life.Search c) false up (all_written (as_it_comes life.Search c) w)
+search_ordered k b orders.Stop up w e h = record { upper_is = stopped_search k b up e; wire_is = ap (wire_after_order orders.Stop) h ∙ ap open_or_broken e }
+search_ordered k b orders.PonderHit up w e h = record { upper_is = hit_search k b up e; wire_is = ap (wire_after_order orders.PonderHit) h ∙ ap open_or_broken e }
 search_ordered k b c up w e h = absurd (cc)
 
-in_search : (u : DialogueState) (c : AnyOrder) (up : DialogueState) (w : Wire) → is_search u ≡ true → after_order c u ≡ Some up → w ≡ Open u → Stands (after_at_once life.Search c) false up (all_written (as_it_comes life.Search c) w)
+in_search : (u : DialogueState) (c : AnyOrder) (up : DialogueState) (w : LifeWire) → is_search u ≡ true → after_order c u ≡ Some up → w ≡ Open u → Stands (after_at_once life.Search c) false up (all_written (as_it_comes life.Search c) w)
 in_search upper.Before c up w s e h = absurd (true≢false (sym s))
 in_search upper.Boot c up w s e h = absurd (true≢false (sym s))
 in_search upper.Getting c up w s e h = absurd (true≢false (sym s))
@@ -149,9 +149,9 @@ in_search upper.Idle c up w s e h = absurd (true≢false (sym s))
 in_search upper.Placed c up w s e h = absurd (true≢false (sym s))
 in_search (upper.Search k b) c up w s e h = search_ordered k b c up w e h
 
-ordered_stands : (l : LifeState) (u : DialogueState) (w : Wire) (c : AnyOrder) (up : DialogueState) → after_order c u ≡ Some up → Stands l false u w → Stands (after_at_once l c) false up (all_written (as_it_comes l c) w)
+ordered_stands : (l : LifeState) (u : DialogueState) (w : LifeWire) (c : AnyOrder) (up : DialogueState) → after_order c u ≡ Some up → Stands l false u w → Stands (after_at_once l c) false up (all_written (as_it_comes l c) w)
 ordered_stands life.Fresh u w c up e h =
-    subst (λ (x : Wire). Stands (after_at_once life.Fresh c) false up (all_written (as_it_comes life.Fresh c) x)) (sym h.wire_is)
+    subst (λ (x : LifeWire). Stands (after_at_once life.Fresh c) false up (all_written (as_it_comes life.Fresh c) x)) (sym h.wire_is)
     (fresh_ordered c up (ap (after_order c) (sym h.upper_is) ∙ e))
 ordered_stands life.Boot u w c up e h = record { upper_is = tt; wire_is = h.wire_is }
 ordered_stands life.Getting u w c up e h = absurd (getting_takes_none c up (ap (after_order c) (sym h.upper_is) ∙ e))
@@ -160,7 +160,7 @@ ordered_stands life.Search u w c up e h = in_search u c up w h.upper_is e h.wire
 ordered_stands life.Ended u w c up e h = record { upper_is = tt; wire_is = h.wire_is }
 ordered_stands life.Over u w c up e h = record { upper_is = tt; wire_is = h.wire_is }
 
-quit_in_search : (u : DialogueState) → is_search u ≡ true → written orders.Quit (Open u) ≡ Closed
+quit_in_search : (u : DialogueState) → is_search u ≡ true → wire_after_order orders.Quit (Open u) ≡ Closed
 quit_in_search upper.Before s = absurd (true≢false (sym s))
 quit_in_search upper.Boot s = absurd (true≢false (sym s))
 quit_in_search upper.Getting s = absurd (true≢false (sym s))
@@ -168,11 +168,11 @@ quit_in_search upper.Idle s = absurd (true≢false (sym s))
 quit_in_search upper.Placed s = absurd (true≢false (sym s))
 quit_in_search (upper.Search k b) s = refl
 
-quit_stands : (l : LifeState) (q : Bool) (u : DialogueState) (w : Wire) → Stands l q u w → Stands l true u (all_written (quit_to q l) w)
-quit_stands life.Boot false u w h = record { upper_is = h.upper_is; wire_is = ap (written orders.Quit) h.wire_is }
-quit_stands life.Getting false u w h = record { upper_is = h.upper_is; wire_is = ap (written orders.Quit) h.wire_is }
-quit_stands life.Idle false u w h = record { upper_is = h.upper_is; wire_is = ap (written orders.Quit) h.wire_is }
-quit_stands life.Search false u w h = record { upper_is = h.upper_is; wire_is = ap (written orders.Quit) h.wire_is ∙ quit_in_search u h.upper_is }
+quit_stands : (l : LifeState) (q : Bool) (u : DialogueState) (w : LifeWire) → Stands l q u w → Stands l true u (all_written (quit_to q l) w)
+quit_stands life.Boot false u w h = record { upper_is = h.upper_is; wire_is = ap (wire_after_order orders.Quit) h.wire_is }
+quit_stands life.Getting false u w h = record { upper_is = h.upper_is; wire_is = ap (wire_after_order orders.Quit) h.wire_is }
+quit_stands life.Idle false u w h = record { upper_is = h.upper_is; wire_is = ap (wire_after_order orders.Quit) h.wire_is }
+quit_stands life.Search false u w h = record { upper_is = h.upper_is; wire_is = ap (wire_after_order orders.Quit) h.wire_is ∙ quit_in_search u h.upper_is }
 quit_stands l true u w h = record { upper_is = h.upper_is; wire_is = h.wire_is }
 quit_stands l q u w h = record { upper_is = h.upper_is; wire_is = h.wire_is }
 
@@ -197,7 +197,7 @@ abbrev upper_answered : StandInAnswer → DialogueState → DialogueState
 upper_answered answers.Nothing u = u
 upper_answered a u = upper.Idle
 
-idle_settles : (u : DialogueState) (w : Wire) (unsent search : List AnyOrder) → w ≡ Open upper.Idle → AreSetups unsent → SearchIs u search → Stands (life_due (due_to life.Idle false u) life.Idle) false u (all_written (due_orders (due_to life.Idle false u) unsent search) w)
+idle_settles : (u : DialogueState) (w : LifeWire) (unsent search : List AnyOrder) → w ≡ Open upper.Idle → AreSetups unsent → SearchIs u search → Stands (life_due (due_to life.Idle false u) life.Idle) false u (all_written (due_orders (due_to life.Idle false u) unsent search) w)
 idle_settles upper.Before w unsent search h a s = record { upper_is = tt; wire_is = h }
 idle_settles upper.Boot w unsent search h a s = record { upper_is = tt; wire_is = h }
 idle_settles upper.Idle w unsent search h a s = record { upper_is = tt; wire_is = h }
@@ -211,13 +211,13 @@ idle_settles (upper.Search k b) w unsent search h a s = record {
   wire_is = ap (all_written (unsent ++ search)) h ∙ told (unsent ++ search) upper.Idle (upper.Search k b) (behind_setups unsent search a ∙ s refl);
 }
 
-settles : (l : LifeState) (q : Bool) (u : DialogueState) (w : Wire) (unsent search : List AnyOrder) → Stands l q u w → AreSetups unsent → SearchIs u search → Stands (life_due (due_to l q u) l) q (upper_answered (answer_to l u) u) (all_written (due_orders (due_to l q u) unsent search) w)
+settles : (l : LifeState) (q : Bool) (u : DialogueState) (w : LifeWire) (unsent search : List AnyOrder) → Stands l q u w → AreSetups unsent → SearchIs u search → Stands (life_due (due_to l q u) l) q (upper_answered (answer_to l u) u) (all_written (due_orders (due_to l q u) unsent search) w)
 settles life.Idle true u w unsent search h a s = record { upper_is = tt; wire_is = h.wire_is }
 settles life.Idle false u w unsent search h a s = idle_settles u w unsent search h.wire_is a s
 settles life.Over q u w unsent search h a s = record { upper_is = tt; wire_is = h.wire_is }
 settles l q u w unsent search h a s = record { upper_is = h.upper_is; wire_is = h.wire_is }
 
-answered_as : (a : StandInAnswer) (s : RevivalState) (w : Wire) → Stands s.life s.quit (upper_answered a s.upper) w → AreSetups s.kept → AreSetups s.unsent → SearchIs (upper_answered a s.upper) s.search → Agrees (after_answer a s) w
+answered_as : (a : StandInAnswer) (s : RevivalState) (w : LifeWire) → Stands s.life s.quit (upper_answered a s.upper) w → AreSetups s.kept → AreSetups s.unsent → SearchIs (upper_answered a s.upper) s.search → Agrees (after_answer a s) w
 answered_as answers.Nothing s w h k u e = record { stands = h; kept = k; unsent = u; search = e }
 answered_as answers.UciOk s w h k u e = record { stands = h; kept = k; unsent = u; search = e }
 answered_as answers.ReadyOk s w h k u e = record { stands = h; kept = k; unsent = u; search = e }
@@ -229,12 +229,12 @@ answered_search answers.UciOk u search h = λ e. absurd (true≢false (sym e))
 answered_search answers.ReadyOk u search h = λ e. absurd (true≢false (sym e))
 answered_search answers.NoMove u search h = λ e. absurd (true≢false (sym e))
 
-due_as : (d : DueOrders) (a : StandInAnswer) (s : RevivalState) (w : Wire) → Stands (life_due d s.life) s.quit (upper_answered a s.upper) w → AreSetups s.kept → AreSetups s.unsent → SearchIs (upper_answered a s.upper) s.search → Agrees (after_answer a (after_due d s)) w
+due_as : (d : DueOrders) (a : StandInAnswer) (s : RevivalState) (w : LifeWire) → Stands (life_due d s.life) s.quit (upper_answered a s.upper) w → AreSetups s.kept → AreSetups s.unsent → SearchIs (upper_answered a s.upper) s.search → Agrees (after_answer a (after_due d s)) w
 due_as due.Nothing a s w h k u e = answered_as a s w h k u e
 due_as due.Settings a s w h k u e = answered_as a (after_due due.Settings s) w h k tt e
 due_as due.Search a s w h k u e = answered_as a (after_due due.Search s) w h k tt e
 
-settled_agrees : (s : RevivalState) (w : Wire) → Agrees s w → Agrees (settled s) (all_written (settled_orders s) w)
+settled_agrees : (s : RevivalState) (w : LifeWire) → Agrees s w → Agrees (state_once_settled s) (all_written (settled_orders s) w)
 settled_agrees s w h =
     due_as (due_of s) (answer_of s) s (all_written (settled_orders s) w)
     (settles s.life s.quit s.upper w s.unsent s.search h.stands h.unsent h.search)
@@ -245,20 +245,20 @@ settled_agrees s w h =
 calm : (up next : DialogueState) (search : List AnyOrder) (w : Bool) → where_true w next ≡ Some up → is_open next ≡ false → SearchIs up search
 calm up next search w e n = λ o. absurd (true≢false (sym o ∙ ap is_open (sym (where_is w next up e).1) ∙ n))
 
-value_agrees : (w : Bool) (s : RevivalState) (c : AnyOrder) (up : DialogueState) (l : LifeState) (wire : Wire) → Stands l s.quit up wire → AreSetups s.kept → AreSetups s.unsent → SearchIs up s.search → is_setup c ≡ true → Agrees (record (with_value w s c) { upper = up; life = l }) wire
+value_agrees : (w : Bool) (s : RevivalState) (c : AnyOrder) (up : DialogueState) (l : LifeState) (wire : LifeWire) → Stands l s.quit up wire → AreSetups s.kept → AreSetups s.unsent → SearchIs up s.search → is_setup c ≡ true → Agrees (record (with_value w s c) { upper = up; life = l }) wire
 value_agrees true s c up l wire h k u e n = record { stands = h; kept = with_setup s.kept c k n; unsent = with_setup s.unsent c u n; search = e }
 value_agrees false s c up l wire h k u e n = record { stands = h; kept = k; unsent = u; search = e }
 
-button_agrees : (w : Bool) (s : RevivalState) (c : AnyOrder) (up : DialogueState) (l : LifeState) (wire : Wire) → Stands l s.quit up wire → AreSetups s.kept → AreSetups s.unsent → SearchIs up s.search → is_setup c ≡ true → Agrees (record (with_button w s c) { upper = up; life = l }) wire
+button_agrees : (w : Bool) (s : RevivalState) (c : AnyOrder) (up : DialogueState) (l : LifeState) (wire : LifeWire) → Stands l s.quit up wire → AreSetups s.kept → AreSetups s.unsent → SearchIs up s.search → is_setup c ≡ true → Agrees (record (with_button w s c) { upper = up; life = l }) wire
 button_agrees true s c up l wire h k u e n = record { stands = h; kept = k; unsent = with_setup s.unsent c u n; search = e }
 button_agrees false s c up l wire h k u e n = record { stands = h; kept = k; unsent = u; search = e }
 
-stands_then : (s : RevivalState) (c : AnyOrder) (up : DialogueState) (w : Wire) → s.quit ≡ false → after_order c s.upper ≡ Some up → Stands s.life s.quit s.upper w → Stands (after_at_once s.life c) s.quit up (all_written (as_it_comes s.life c) w)
+stands_then : (s : RevivalState) (c : AnyOrder) (up : DialogueState) (w : LifeWire) → s.quit ≡ false → after_order c s.upper ≡ Some up → Stands s.life s.quit s.upper w → Stands (after_at_once s.life c) s.quit up (all_written (as_it_comes s.life c) w)
 stands_then s c up w f e h =
     subst (λ (q : Bool). Stands (after_at_once s.life c) q up (all_written (as_it_comes s.life c) w)) (sym f)
     (ordered_stands s.life s.upper w c up e (subst (λ (q : Bool). Stands s.life q s.upper w) f h))
 
-accepting_agrees : (s : RevivalState) (c : AnyOrder) (up : DialogueState) (w : Wire) → s.quit ≡ false → after_order c s.upper ≡ Some up → Agrees s w → Agrees (accepting (Some up) s c) (all_written (as_it_comes s.life c) w)
+accepting_agrees : (s : RevivalState) (c : AnyOrder) (up : DialogueState) (w : LifeWire) → s.quit ≡ false → after_order c s.upper ≡ Some up → Agrees s w → Agrees (state_if_accepted (Some up) s c) (all_written (as_it_comes s.life c) w)
 accepting_agrees s orders.Uci up w f e h = record { stands = stands_then s orders.Uci up w f e h.stands; kept = h.kept; unsent = h.unsent; search = calm up upper.Boot s.search (is_before s.upper) e refl }
 accepting_agrees s orders.IsReady up w f e h = record { stands = stands_then s orders.IsReady up w f e h.stands; kept = h.kept; unsent = h.unsent; search = calm up upper.Getting s.search (is_idle s.upper) e refl }
 accepting_agrees s orders.NewGame up w f e h =
@@ -284,17 +284,17 @@ no_quit : (q : Bool) (o : Option DialogueState) (up : DialogueState) → (if q t
 no_quit true o up e = absurd (cc)
 no_quit false o up e = refl
 
-accepted_agrees : (s : RevivalState) (c : AnyOrder) (o : Option DialogueState) (w : Wire) → accepted s c ≡ o → Agrees s w → Agrees (accepting o s c) (all_written (accepted_at_once o s.life c) w)
+accepted_agrees : (s : RevivalState) (c : AnyOrder) (o : Option DialogueState) (w : LifeWire) → upper_if_accepted s c ≡ o → Agrees s w → Agrees (state_if_accepted o s c) (all_written (accepted_at_once o s.life c) w)
 accepted_agrees s c None w e h = h
 accepted_agrees s c (Some up) w e h = accepting_agrees s c up w (no_quit s.quit (after_order c s.upper) up e) (unquit s.quit (after_order c s.upper) up e) h
 
-reading_agrees : (s : RevivalState) (o : Option AnyOrder) (w : Wire) → Agrees s w → Agrees (reading s o) (all_written (read_at_once s o) w)
+reading_agrees : (s : RevivalState) (o : Option AnyOrder) (w : LifeWire) → Agrees s w → Agrees (state_after_reading s o) (all_written (read_at_once s o) w)
 reading_agrees s None w h = h
-reading_agrees s (Some c) w h = accepted_agrees s c (accepted s c) w refl h
+reading_agrees s (Some c) w h = accepted_agrees s c (upper_if_accepted s c) w refl h
 
-ordering_agrees : (s : RevivalState) (line : List ℕ) (q : Bool) (w : Wire) → Agrees s w → Agrees (if q then with_quit s else reading s (asked line)) (all_written (if q then quit_to s.quit s.life else read_at_once s (asked line)) w)
+ordering_agrees : (s : RevivalState) (line : List ℕ) (q : Bool) (w : LifeWire) → Agrees s w → Agrees (if q then with_quit s else state_after_reading s (order_of_line line)) (all_written (if q then quit_to s.quit s.life else read_at_once s (order_of_line line)) w)
 ordering_agrees s line true w h = record { stands = quit_stands s.life s.quit s.upper w h.stands; kept = h.kept; unsent = h.unsent; search = h.search }
-ordering_agrees s line false w h = reading_agrees s (asked line) w h
+ordering_agrees s line false w h = reading_agrees s (order_of_line line) w h
 
 -- EACH CALL
 
@@ -304,7 +304,7 @@ said_search true upper.Getting said.ReadyOk search h = λ e. absurd (true≢fals
 said_search true (upper.Search k b) said.Best search h = λ e. absurd (true≢false (sym e))
 said_search b u word search h = h
 
-hearing_agrees : (s : RevivalState) (word : LifeSaid) (w : Wire) → Agrees s w → Agrees (hearing s word) (heard word w)
+hearing_agrees : (s : RevivalState) (word : LifeSaid) (w : LifeWire) → Agrees s w → Agrees (state_once_heard s word) (heard word w)
 hearing_agrees s word w h = record {
   stands = heard_stands s.life s.quit s.upper w word (is_nil s.unsent) h.stands;
   kept = h.kept;
@@ -315,7 +315,7 @@ hearing_agrees s word w h = record {
 begins_unquit : (s : RevivalState) → may_begin s ≡ true → s.quit ≡ false
 begins_unquit s h = not-true s.quit (and_parts (nat_lt s.begun s.lives) (not s.quit) (and_parts (nat_lt s.begun s.lives && not s.quit) (not s.full) h).0).1
 
-pub turned_agrees : (s : RevivalState) (call : Call) (w : Wire) → may s call ≡ true → Agrees s w → Agrees (turned s call) (all_written (first_orders s call) (met call w))
+pub turned_agrees : (s : RevivalState) (call : RevivalCall) (w : LifeWire) → may s call ≡ true → Agrees s w → Agrees (state_after_call s call) (all_written (first_orders s call) (wire_after_call call w))
 turned_agrees s (Order line) w m h = ordering_agrees s line (is_quit line) w h
 turned_agrees s (Heard line) w m h = hearing_agrees s (said_in line) w h
 turned_agrees s Ended w m h = record { stands = record { upper_is = tt; wire_is = refl }; kept = h.kept; unsent = h.unsent; search = h.search }
@@ -327,18 +327,18 @@ turned_agrees s Begin w m h = record {
 }
 turned_agrees s Over w m h = record { stands = record { upper_is = tt; wire_is = refl }; kept = h.kept; unsent = h.unsent; search = h.search }
 
-written_behind : (a b : List AnyOrder) (w : Wire) → all_written (a ++ b) w ≡ all_written b (all_written a w)
+written_behind : (a b : List AnyOrder) (w : LifeWire) → all_written (a ++ b) w ≡ all_written b (all_written a w)
 written_behind [] b w = refl
-written_behind (c ∷ cs) b w = written_behind cs b (written c w)
+written_behind (c ∷ cs) b w = written_behind cs b (wire_after_order c w)
 
-call_agrees : (s : RevivalState) (call : Call) (w : Wire) → may s call ≡ true → Agrees s w → Agrees (after s call) (all_written (orders_of s call) (met call w))
+call_agrees : (s : RevivalState) (call : RevivalCall) (w : LifeWire) → may s call ≡ true → Agrees s w → Agrees (after s call) (all_written (orders_of s call) (wire_after_call call w))
 call_agrees s call w m h =
-    subst (λ (x : Wire). Agrees (after s call) x) (sym (written_behind (first_orders s call) (settled_orders (turned s call)) (met call w)))
-    (settled_agrees (turned s call) (all_written (first_orders s call) (met call w)) (turned_agrees s call w m h))
+    subst (λ (x : LifeWire). Agrees (after s call) x) (sym (written_behind (first_orders s call) (settled_orders (state_after_call s call)) (wire_after_call call w)))
+    (settled_agrees (state_after_call s call) (all_written (first_orders s call) (wire_after_call call w)) (turned_agrees s call w m h))
 
 -- THE LAWS
 
-pub agrees : (lives : ℕ) (calls : List Call) → MayCome lives calls → Agrees (state_of lives calls) (wire_of lives calls)
+pub agrees : (lives : ℕ) (calls : List RevivalCall) → MayCome lives calls → Agrees (state_of lives calls) (wire_of lives calls)
 agrees lives [] m = record { stands = record { upper_is = refl; wire_is = refl }; kept = tt; unsent = tt; search = λ e. absurd (true≢false (sym e)) }
 agrees lives (call ∷ calls) m = call_agrees (state_of lives calls) call (wire_of lives calls) m.1 (agrees lives calls m.0)
 
@@ -386,4 +386,4 @@ no_idle_by due.Search answers.Nothing t e q i = absurd (true≢false (sym i))
 no_idle_by due.Nothing answers.Nothing t e q i = quiet t.life t.quit t.upper e q i
 
 pub no_idle : NoLifeIdles
-no_idle s call q i = no_idle_by (due_of (turned s call)) (answer_of (turned s call)) (turned s call) refl q i
+no_idle s call q i = no_idle_by (due_of (state_after_call s call)) (answer_of (state_after_call s call)) (state_after_call s call) refl q i

@@ -15,7 +15,7 @@ use Rattle.uci_talk.specs.Kinds.{has_word, kind_asked}
 use Rattle.uci_talk.specs.Lines.{Line, line_of}
 use Rattle.engine_revival.specs.Orders.{RevivalOrder, order_text}
 use Rattle.engine_revival.specs.Orders as orders
-use Rattle.engine_revival.specs.Asked.{asked_by, named, order_in, position_asked, setting_asked, setting_of, word_asked}
+use Rattle.engine_revival.specs.Asked.{asked_by, setting_after_name, order_in, position_asked, setting_asked, setting_of, word_asked}
 
 some_is : (a b : RevivalOrder) → Some a ≡ Some b → a ≡ b
 some_is a b e = cc
@@ -40,7 +40,7 @@ unfolding order_text
 setting_text true ts line c e = ap order_text (some_is (setting_of true ts line) c e)
 setting_text false ts line c e = ap order_text (some_is (setting_of false ts line) c e)
 
-named_text : (b : Bool) (ts : List (List ℕ)) (line : List ℕ) (c : RevivalOrder) → (if b then named ts line else None) ≡ Some c → line ≡ order_text c
+named_text : (b : Bool) (ts : List (List ℕ)) (line : List ℕ) (c : RevivalOrder) → (if b then setting_after_name ts line else None) ≡ Some c → line ≡ order_text c
 named_text true [] line c e = absurd (cc)
 named_text true (t ∷ ts) line c e = setting_text (has_word (codes "value") ts) (t ∷ ts) line c e
 named_text false ts line c e = absurd (cc)

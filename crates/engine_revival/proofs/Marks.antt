@@ -13,7 +13,7 @@ use Rattle.cecp_lines.specs.Quit.{is_quit}
 use Rattle.engine_revival.specs.Orders.{RevivalOrder, order_text}
 use Rattle.engine_revival.specs.Orders as orders
 use Rattle.peer_words.specs.Tokens.{trimmed}
-use Rattle.engine_revival.specs.Asked.{asked, order_in}
+use Rattle.engine_revival.specs.Asked.{order_of_line, order_in}
 use Rattle.engine_revival.proofs.Asked.{asked_text, trimmed_feedless}
 use Rattle.engine_revival.specs.declared.order_list.LineSpan.{LineSpan}
 use Rattle.engine_revival.specs.declared.order_list.TheConstants.{LIST_BYTES, LIST_ORDERS}
@@ -31,7 +31,7 @@ use Rattle.engine_revival.specs.Kept.{Spells, spelled, line_at, orders_at, AreIn
 use Rattle.engine_revival.specs.Lists.{batch_text, order_line}
 use Rattle.engine_revival.specs.Marks.{IsOneLine, AreLines, HaveRoom}
 use Rattle.engine_revival.specs.Rooms.{IsRoomy}
-use Rattle.engine_revival.specs.Steps.{accepted, accepted_at_once, answer_text, at_once, due_of, due_orders, first_order, is_served, quit_to, read_at_once, settled_orders, takes_at_once}
+use Rattle.engine_revival.specs.Steps.{upper_if_accepted, accepted_at_once, answer_text, at_once, due_of, due_orders, first_order, is_served, quit_to, read_at_once, settled_orders, takes_at_once}
 use Rattle.engine_revival.proofs.Lines.{batch_first, batch_last}
 
 -- THE MARKS OF ANY TEXT
@@ -109,7 +109,7 @@ accepted_lines (Some up) life c h = one_if (takes_at_once life c) c h
 
 read_lines : (s : RevivalState) (line : List ℕ) (o : Option RevivalOrder) → order_in line ≡ o → has_feed line ≡ false → AreLines (read_at_once s o) 1
 read_lines s line None e h = no_lines 1
-read_lines s line (Some c) e h = accepted_lines (accepted s c) s.life c (ap (λ (t : List ℕ). has_feed t) (sym (asked_text line c e)) ∙ h)
+read_lines s line (Some c) e h = accepted_lines (upper_if_accepted s c) s.life c (ap (λ (t : List ℕ). has_feed t) (sym (asked_text line c e)) ∙ h)
 
 quit_line : IsOneLine orders.Quit
 unfolding order_text
@@ -123,9 +123,9 @@ pub ready_line : AreLines (orders.IsReady ∷ []) 1
 unfolding order_text
 ready_line = record { one_line = (refl, tt); few = omega arith }
 
-at_once_by : (w : Bool) (s : RevivalState) (line : List ℕ) → has_feed line ≡ false → AreLines (if w then quit_to s.quit s.life else read_at_once s (asked line)) 1
+at_once_by : (w : Bool) (s : RevivalState) (line : List ℕ) → has_feed line ≡ false → AreLines (if w then quit_to s.quit s.life else read_at_once s (order_of_line line)) 1
 at_once_by true s line h = one_if (not s.quit && is_served s.life) orders.Quit quit_line
-at_once_by false s line h = read_lines s (trimmed line) (asked line) refl (trimmed_feedless line h)
+at_once_by false s line h = read_lines s (trimmed line) (order_of_line line) refl (trimmed_feedless line h)
 
 pub at_once_lines : (s : RevivalState) (line : List ℕ) → has_feed line ≡ false → AreLines (at_once s line) 1
 at_once_lines s line h = at_once_by (is_quit line) s line h

@@ -4,7 +4,7 @@ use Rattle.std.proofs.lemmas.Bool.{not-false}
 use Rattle.cecp_lines.specs.Quit.{is_quit}
 use Rattle.engine_revival.specs.Orders.{RevivalOrder as AnyOrder, are_same_names}
 use Rattle.engine_revival.specs.Orders as orders
-use Rattle.engine_revival.specs.Asked.{asked}
+use Rattle.engine_revival.specs.Asked.{order_of_line}
 use Rattle.engine_revival.specs.declared.words.DialogueState.{DialogueState}
 use Rattle.engine_revival.specs.declared.words.LifeState.{LifeState}
 use Rattle.engine_revival.specs.declared.words.LifeState.TheVariants as life
@@ -15,9 +15,9 @@ use Rattle.engine_revival.specs.declared.words.StandInAnswer.TheVariants as answ
 use Rattle.engine_revival.specs.declared.state.RevivalState.{RevivalState}
 use Rattle.engine_revival.specs.Dialogue.{is_before}
 use Rattle.engine_revival.specs.Lists.{are_for_same, staying_beside, with_order, can_join}
-use Rattle.engine_revival.specs.Steps.{with_value, with_button, takes_at_once, is_served, due_orders, after_due, after_answer, accepting, accepted, reading, with_quit, accepted_at_once, read_at_once, quit_to, first_order, due_of, answer_of, settled, settled_orders, after_at_once}
-use Rattle.engine_revival.specs.Calls.{Call, Order, Heard, Ended, Begin, Over, turned, first_orders, after}
-use Rattle.engine_revival.specs.Laws.{state_of, later_or, accepted_by, accepted_read, accepted_in, accepted_in_life, carried, gives_settings, is_press, last_for, life_orders, same_order, PressesAreGiven}
+use Rattle.engine_revival.specs.Steps.{with_value, with_button, takes_at_once, is_served, due_orders, after_due, after_answer, state_if_accepted, upper_if_accepted, state_after_reading, with_quit, accepted_at_once, read_at_once, quit_to, first_order, due_of, answer_of, state_once_settled, settled_orders, after_at_once}
+use Rattle.engine_revival.specs.Calls.{RevivalCall, Order, Heard, Ended, Begin, Over, state_after_call, first_orders, after}
+use Rattle.engine_revival.specs.Laws.{state_of, later_or, accepted_by, accepted_read, accepted_in, accepted_in_life, orders_in_same_life, gives_settings, is_press, last_for, life_orders, same_order, PressesAreGiven}
 use Rattle.engine_revival.proofs.Values.{append_regrouped, as_it_comes, later_assoc, later_none, nil_behind, same_names, settled_full, turned_full}
 
 -- OF LISTS
@@ -146,14 +146,14 @@ button_step false c s l a d up x more p f n h = absurd (true≢false f)
 in_search : (c : AnyOrder) (search : List AnyOrder) (d : AnyOrder) → same_order c d ≡ None → last_for c search ≡ None → last_for c (search ++ d ∷ []) ≡ None
 in_search c search d e h = plain c search d e ∙ h
 
-accepting_presses : (c : AnyOrder) (s : RevivalState) (l a : List AnyOrder) (d : AnyOrder) (up : DialogueState) → is_press c ≡ true → (accepting (Some up) s d).full ≡ false → Presses c s l a → Presses c (accepting (Some up) s d) (l ++ as_it_comes s.life d) (a ++ d ∷ [])
-accepting_presses c s l a orders.NewGame up p f h = joined c s (accepting (Some up) s orders.NewGame) l a (as_it_comes s.life orders.NewGame) orders.NewGame p h.kept refl refl (comes_none c s.life orders.NewGame p) h
+accepting_presses : (c : AnyOrder) (s : RevivalState) (l a : List AnyOrder) (d : AnyOrder) (up : DialogueState) → is_press c ≡ true → (state_if_accepted (Some up) s d).full ≡ false → Presses c s l a → Presses c (state_if_accepted (Some up) s d) (l ++ as_it_comes s.life d) (a ++ d ∷ [])
+accepting_presses c s l a orders.NewGame up p f h = joined c s (state_if_accepted (Some up) s orders.NewGame) l a (as_it_comes s.life orders.NewGame) orders.NewGame p h.kept refl refl (comes_none c s.life orders.NewGame p) h
 accepting_presses c s l a orders.Stop up p f h =
     let e = unpressed c orders.Stop p refl in
-    other c s (accepting (Some up) s orders.Stop) l a (as_it_comes s.life orders.Stop) orders.Stop e refl refl (in_search c s.search orders.Stop e h.search) (comes_none c s.life orders.Stop p) h
+    other c s (state_if_accepted (Some up) s orders.Stop) l a (as_it_comes s.life orders.Stop) orders.Stop e refl refl (in_search c s.search orders.Stop e h.search) (comes_none c s.life orders.Stop p) h
 accepting_presses c s l a orders.PonderHit up p f h =
     let e = unpressed c orders.PonderHit p refl in
-    other c s (accepting (Some up) s orders.PonderHit) l a (as_it_comes s.life orders.PonderHit) orders.PonderHit e refl refl (in_search c s.search orders.PonderHit e h.search) (comes_none c s.life orders.PonderHit p) h
+    other c s (state_if_accepted (Some up) s orders.PonderHit) l a (as_it_comes s.life orders.PonderHit) orders.PonderHit e refl refl (in_search c s.search orders.PonderHit e h.search) (comes_none c s.life orders.PonderHit p) h
 accepting_presses c s l a (orders.Button n v) up p f h =
     let d = orders.Button n v in
     button_step (can_join s.unsent d) c s l a d up (after_at_once s.life d) (as_it_comes s.life d) p f (comes_none c s.life d p) h
@@ -163,47 +163,47 @@ accepting_presses c s l a (orders.Value n v) up p f h =
 accepting_presses c s l a (orders.Position q) up p f h =
     let d = orders.Position q in
     let e = unpressed c d p refl in
-    other c s (accepting (Some up) s d) l a (as_it_comes s.life d) d e refl refl e (comes_none c s.life d p) h
+    other c s (state_if_accepted (Some up) s d) l a (as_it_comes s.life d) d e refl refl e (comes_none c s.life d p) h
 accepting_presses c s l a (orders.Go k q) up p f h =
     let d = orders.Go k q in
     let e = unpressed c d p refl in
-    other c s (accepting (Some up) s d) l a (as_it_comes s.life d) d e refl refl (in_search c s.search d e h.search) (comes_none c s.life d p) h
-accepting_presses c s l a d up p f h = other c s (accepting (Some up) s d) l a (as_it_comes s.life d) d (unpressed c d p refl) refl refl h.search (comes_none c s.life d p) h
+    other c s (state_if_accepted (Some up) s d) l a (as_it_comes s.life d) d e refl refl (in_search c s.search d e h.search) (comes_none c s.life d p) h
+accepting_presses c s l a d up p f h = other c s (state_if_accepted (Some up) s d) l a (as_it_comes s.life d) d (unpressed c d p refl) refl refl h.search (comes_none c s.life d p) h
 
 same_nil : (c : AnyOrder) (t : RevivalState) (l a : List AnyOrder) → Presses c t l a → Presses c t (l ++ []) (a ++ [])
 same_nil c t l a h = subst (λ (x : List AnyOrder). Presses c t x (a ++ [])) (sym (nil_behind l)) (subst (λ (x : List AnyOrder). Presses c t l x) (sym (nil_behind a)) h)
 
-accepted_presses : (c : AnyOrder) (s : RevivalState) (l a : List AnyOrder) (d : AnyOrder) (o : Option DialogueState) → is_press c ≡ true → (accepting o s d).full ≡ false → Presses c s l a → Presses c (accepting o s d) (l ++ accepted_at_once o s.life d) (a ++ accepted_by o d)
+accepted_presses : (c : AnyOrder) (s : RevivalState) (l a : List AnyOrder) (d : AnyOrder) (o : Option DialogueState) → is_press c ≡ true → (state_if_accepted o s d).full ≡ false → Presses c s l a → Presses c (state_if_accepted o s d) (l ++ accepted_at_once o s.life d) (a ++ accepted_by o d)
 accepted_presses c s l a d None p f h = same_nil c s l a h
 accepted_presses c s l a d (Some up) p f h = accepting_presses c s l a d up p f h
 
-reading_presses : (c : AnyOrder) (s : RevivalState) (l a : List AnyOrder) (o : Option AnyOrder) → is_press c ≡ true → (reading s o).full ≡ false → Presses c s l a → Presses c (reading s o) (l ++ read_at_once s o) (a ++ accepted_read s o)
+reading_presses : (c : AnyOrder) (s : RevivalState) (l a : List AnyOrder) (o : Option AnyOrder) → is_press c ≡ true → (state_after_reading s o).full ≡ false → Presses c s l a → Presses c (state_after_reading s o) (l ++ read_at_once s o) (a ++ accepted_read s o)
 reading_presses c s l a None p f h = same_nil c s l a h
-reading_presses c s l a (Some d) p f h = accepted_presses c s l a d (accepted s d) p f h
+reading_presses c s l a (Some d) p f h = accepted_presses c s l a d (upper_if_accepted s d) p f h
 
 to_a : (c : AnyOrder) (t : RevivalState) (l a : List AnyOrder) → Presses c t l a → Presses c t l (a ++ [])
 to_a c t l a h = subst (λ (x : List AnyOrder). Presses c t l x) (sym (nil_behind a)) h
 
-ordering_presses : (c : AnyOrder) (s : RevivalState) (l a : List AnyOrder) (line : List ℕ) (q : Bool) → is_press c ≡ true → (if q then with_quit s else reading s (asked line)).full ≡ false → Presses c s l a
-    → Presses c (if q then with_quit s else reading s (asked line)) (l ++ (if q then quit_to s.quit s.life else read_at_once s (asked line))) (a ++ (if q then [] else accepted_read s (asked line)))
+ordering_presses : (c : AnyOrder) (s : RevivalState) (l a : List AnyOrder) (line : List ℕ) (q : Bool) → is_press c ≡ true → (if q then with_quit s else state_after_reading s (order_of_line line)).full ≡ false → Presses c s l a
+    → Presses c (if q then with_quit s else state_after_reading s (order_of_line line)) (l ++ (if q then quit_to s.quit s.life else read_at_once s (order_of_line line))) (a ++ (if q then [] else accepted_read s (order_of_line line)))
 ordering_presses c s l a line true p f h =
     to_a c (with_quit s) (l ++ quit_to s.quit s.life) a (quiet c s (with_quit s) l a (quit_to s.quit s.life) refl refl h.search (none_by (not s.quit && is_served s.life) c orders.Quit (λ e. unpressed c orders.Quit p refl)) h)
-ordering_presses c s l a line false p f h = reading_presses c s l a (asked line) p f h
+ordering_presses c s l a line false p f h = reading_presses c s l a (order_of_line line) p f h
 
 first_none : (c : AnyOrder) (w : Bool) → is_press c ≡ true → last_for c (if w then [] else orders.Uci ∷ []) ≡ None
 first_none c true p = refl
 first_none c false p = unpressed c orders.Uci p refl
 
-turned_presses : (c : AnyOrder) (s : RevivalState) (call : Call) (l a : List AnyOrder) → is_press c ≡ true → (turned s call).full ≡ false → Presses c s l a → Presses c (turned s call) (carried call l ++ first_orders s call) (carried call a ++ accepted_in s call)
+turned_presses : (c : AnyOrder) (s : RevivalState) (call : RevivalCall) (l a : List AnyOrder) → is_press c ≡ true → (state_after_call s call).full ≡ false → Presses c s l a → Presses c (state_after_call s call) (orders_in_same_life call l ++ first_orders s call) (orders_in_same_life call a ++ accepted_in s call)
 turned_presses c s (Order line) l a p f h = ordering_presses c s l a line (is_quit line) p f h
-turned_presses c s (Heard line) l a p f h = to_a c (turned s (Heard line)) (l ++ []) a (quiet c s (turned s (Heard line)) l a [] refl refl h.search refl h)
-turned_presses c s Ended l a p f h = to_a c (turned s Ended) (l ++ []) a (quiet c s (turned s Ended) l a [] refl refl h.search refl h)
+turned_presses c s (Heard line) l a p f h = to_a c (state_after_call s (Heard line)) (l ++ []) a (quiet c s (state_after_call s (Heard line)) l a [] refl refl h.search refl h)
+turned_presses c s Ended l a p f h = to_a c (state_after_call s Ended) (l ++ []) a (quiet c s (state_after_call s Ended) l a [] refl refl h.search refl h)
 turned_presses c s Begin l a p f h = record {
   kept = h.kept;
   unsent = ap (λ (o : Option AnyOrder). later_or o (last_for c (first_order s.upper))) h.kept ∙ first_none c (is_before s.upper) p;
   search = h.search;
 }
-turned_presses c s Over l a p f h = to_a c (turned s Over) (l ++ []) a (quiet c s (turned s Over) l a [] refl refl h.search refl h)
+turned_presses c s Over l a p f h = to_a c (state_after_call s Over) (l ++ []) a (quiet c s (state_after_call s Over) l a [] refl refl h.search refl h)
 
 -- WHAT FOLLOWS
 
@@ -221,20 +221,20 @@ due_presses c due.Nothing t l a p h = subst (λ (x : List AnyOrder). Presses c t
 due_presses c due.Settings t l a p h = record { kept = h.kept; unsent = all_sent c l t.unsent (orders.IsReady ∷ []) (unpressed c orders.IsReady p refl) ∙ h.unsent; search = h.search }
 due_presses c due.Search t l a p h = record { kept = h.kept; unsent = all_sent c l t.unsent t.search h.search ∙ h.unsent; search = h.search }
 
-settled_presses : (c : AnyOrder) (t : RevivalState) (l a : List AnyOrder) → is_press c ≡ true → Presses c t l a → Presses c (settled t) (l ++ settled_orders t) a
+settled_presses : (c : AnyOrder) (t : RevivalState) (l a : List AnyOrder) → is_press c ≡ true → Presses c t l a → Presses c (state_once_settled t) (l ++ settled_orders t) a
 settled_presses c t l a p h = answered_presses c (answer_of t) (after_due (due_of t) t) (l ++ settled_orders t) a (due_presses c (due_of t) t l a p h)
 
-presses : (c : AnyOrder) (lives : ℕ) (calls : List Call) → is_press c ≡ true → (state_of lives calls).full ≡ false → Presses c (state_of lives calls) (life_orders lives calls) (accepted_in_life lives calls)
+presses : (c : AnyOrder) (lives : ℕ) (calls : List RevivalCall) → is_press c ≡ true → (state_of lives calls).full ≡ false → Presses c (state_of lives calls) (life_orders lives calls) (accepted_in_life lives calls)
 presses c lives [] p f = record { kept = refl; unsent = refl; search = refl }
 presses c lives (call ∷ calls) p f =
     let s = state_of lives calls in
-    let t = turned s call in
+    let t = state_after_call s call in
     let g : t.full ≡ false = settled_full (answer_of t) (due_of t) t f in
     let l = life_orders lives calls in
     let a = accepted_in_life lives calls in
     let h = turned_presses c s call l a p g (presses c lives calls p (turned_full s call g)) in
-    subst (λ (x : List AnyOrder). Presses c (after s call) x (carried call a ++ accepted_in s call)) (append_regrouped (carried call l) (first_orders s call) (settled_orders t))
-    (settled_presses c t (carried call l ++ first_orders s call) (carried call a ++ accepted_in s call) p h)
+    subst (λ (x : List AnyOrder). Presses c (after s call) x (orders_in_same_life call a ++ accepted_in s call)) (append_regrouped (orders_in_same_life call l) (first_orders s call) (settled_orders t))
+    (settled_presses c t (orders_in_same_life call l ++ first_orders s call) (orders_in_same_life call a ++ accepted_in s call) p h)
 
 none_left : (w : StandInAnswer) (d : DueOrders) (t : RevivalState) → gives_settings d ≡ true → (after_answer w (after_due d t)).unsent ≡ []
 none_left answers.Nothing due.Settings t e = refl
@@ -245,6 +245,6 @@ none_left w due.Nothing t e = absurd (true≢false (sym e))
 
 pub presses_are_given : PressesAreGiven
 presses_are_given lives call calls c e p f =
-    let t = turned (state_of lives calls) call in
+    let t = state_after_call (state_of lives calls) call in
     ap (λ (x : List AnyOrder). later_or (last_for c x) (last_for c (life_orders lives (call ∷ calls)))) (sym (none_left (answer_of t) (due_of t) t e))
     ∙ (presses c lives (call ∷ calls) p f).unsent

@@ -9,7 +9,7 @@ use Rattle.engine_revival.specs.declared.orders.RevivalOrder.{RevivalOrder as Co
 use Rattle.engine_revival.specs.declared.orders.RevivalOrder.TheVariants as says
 use Rattle.engine_revival.specs.Orders.{RevivalOrder, order_of, order_text, NewGame}
 use Rattle.engine_revival.specs.Orders as orders
-use Rattle.engine_revival.specs.Asked.{asked, order_in}
+use Rattle.engine_revival.specs.Asked.{order_of_line, order_in}
 use Rattle.engine_revival.proofs.Asked.{asked_text, trimmed_short}
 use Rattle.cecp_lines.specs.Quit.{is_quit}
 use Rattle.engine_revival.specs.declared.words.DialogueState.{DialogueState}
@@ -27,7 +27,7 @@ use Rattle.engine_revival.specs.declared.order_list.TheConstants.{MOST_ORDERS, M
 use Rattle.engine_revival.specs.Dialogue.{said_in, after_order, after_said, where_true, is_placed, is_idle, is_before, after_hit, after_stop}
 use Rattle.engine_revival.specs.Lists.{staying_beside, with_order, batch_text, can_join, are_for_same}
 use Rattle.engine_revival.specs.Rooms.{AreWithin, IsSearchIn, IsRoomy}
-use Rattle.engine_revival.specs.Steps.{keeping, with_value, with_button, accepting, accepted, reading, ordering, with_quit, hearing, given, gives, beginning, after_due, after_answer, due_of, answer_of, settled, after_at_once}
+use Rattle.engine_revival.specs.Steps.{state_with_kept, with_value, with_button, state_if_accepted, upper_if_accepted, state_after_reading, state_after_line, with_quit, state_once_heard, line_passed_up, gives, state_at_new_life, after_due, after_answer, due_of, answer_of, state_once_settled, after_at_once}
 use Rattle.engine_revival.proofs.Lines.{batch_first, batch_last}
 
 pub is_new_game : (o : CodeOrder) (c : RevivalOrder) → order_of o ≡ c → o ≡ says.NewGame → c ≡ NewGame
@@ -195,7 +195,7 @@ game_beside l n m h =
     nil [] = refl
     nil (c ∷ cs) = ap (λ (t : List RevivalOrder). c ∷ t) (nil cs)
 
-game_step : (s : RevivalState) → IsRoomy s → IsRoomy (keeping s NewGame)
+game_step : (s : RevivalState) → IsRoomy s → IsRoomy (state_with_kept s NewGame)
 game_step s h = record {
   kept = h.kept;
   settings = game_beside s.unsent MOST_ORDERS MOST_BYTES h.settings;
@@ -208,13 +208,13 @@ with_search : (s : RevivalState) (up : DialogueState) (life : LifeState) (search
 with_search s up life search h k = record { kept = h.kept; settings = h.settings; unsent = h.unsent; search = all_search up search k; stage = k }
 
 -- after an order that may stand in the upper state, of a line that is no longer than a line may be
-pub accepting_roomy : (s : RevivalState) (c : RevivalOrder) (up : DialogueState) → after_order c s.upper ≡ Some up → length (order_text c) ≤ MOST_LINE → IsRoomy s → IsRoomy (accepting (Some up) s c)
+pub accepting_roomy : (s : RevivalState) (c : RevivalOrder) (up : DialogueState) → after_order c s.upper ≡ Some up → length (order_text c) ≤ MOST_LINE → IsRoomy s → IsRoomy (state_if_accepted (Some up) s c)
 accepting_roomy s orders.Uci up e l h =
     calm s up (after_at_once s.life orders.Uci) h (subst (λ (x : DialogueState). IsSearchIn x s.search) (where_is (is_before s.upper) upper.Boot up e).1 h.search)
 accepting_roomy s orders.IsReady up e l h =
     calm s up (after_at_once s.life orders.IsReady) h (subst (λ (x : DialogueState). IsSearchIn x s.search) (where_is (is_idle s.upper) upper.Getting up e).1 h.search)
 accepting_roomy s orders.NewGame up e l h =
-    calm (keeping s NewGame) up (after_at_once s.life NewGame) (game_step s h) (subst (λ (x : DialogueState). IsSearchIn x s.search) (where_is (is_idle s.upper) upper.Idle up e).1 h.search)
+    calm (state_with_kept s NewGame) up (after_at_once s.life NewGame) (game_step s h) (subst (λ (x : DialogueState). IsSearchIn x s.search) (where_is (is_idle s.upper) upper.Idle up e).1 h.search)
 accepting_roomy s (orders.Value name line) up e l h =
     let order = orders.Value name line in
     let fits = can_join s.kept order && can_join s.unsent order in
@@ -244,19 +244,19 @@ pub unquit : (q : Bool) (o : Option DialogueState) (up : DialogueState) → (if 
 unquit true o up e = absurd (cc)
 unquit false o up e = e
 
-accepting_by : (s : RevivalState) (c : RevivalOrder) (w : Option DialogueState) → accepted s c ≡ w → length (order_text c) ≤ MOST_LINE → IsRoomy s → IsRoomy (accepting w s c)
+accepting_by : (s : RevivalState) (c : RevivalOrder) (w : Option DialogueState) → upper_if_accepted s c ≡ w → length (order_text c) ≤ MOST_LINE → IsRoomy s → IsRoomy (state_if_accepted w s c)
 accepting_by s c None e l h = h
 accepting_by s c (Some up) e l h = accepting_roomy s c up (unquit s.quit (after_order c s.upper) up e) l h
 
-reading_roomy : (s : RevivalState) (line : List ℕ) (o : Option RevivalOrder) → order_in line ≡ o → length line ≤ MOST_LINE → IsRoomy s → IsRoomy (reading s o)
+reading_roomy : (s : RevivalState) (line : List ℕ) (o : Option RevivalOrder) → order_in line ≡ o → length line ≤ MOST_LINE → IsRoomy s → IsRoomy (state_after_reading s o)
 reading_roomy s line None e l h = h
-reading_roomy s line (Some c) e l h = accepting_by s c (accepted s c) refl (omega (arith, l, ap (λ (t : List ℕ). length t) (asked_text line c e))) h
+reading_roomy s line (Some c) e l h = accepting_by s c (upper_if_accepted s c) refl (omega (arith, l, ap (λ (t : List ℕ). length t) (asked_text line c e))) h
 
-ordering_by : (s : RevivalState) (line : List ℕ) (w : Bool) → length line ≤ MOST_LINE → IsRoomy s → IsRoomy (if w then with_quit s else reading s (asked line))
+ordering_by : (s : RevivalState) (line : List ℕ) (w : Bool) → length line ≤ MOST_LINE → IsRoomy s → IsRoomy (if w then with_quit s else state_after_reading s (order_of_line line))
 ordering_by s line true l h = record { kept = h.kept; settings = h.settings; unsent = h.unsent; search = h.search; stage = h.stage }
-ordering_by s line false l h = reading_roomy s (trimmed line) (asked line) refl (trimmed_short line MOST_LINE l) h
+ordering_by s line false l h = reading_roomy s (trimmed line) (order_of_line line) refl (trimmed_short line MOST_LINE l) h
 
-pub ordering_roomy : (s : RevivalState) (line : List ℕ) → length line ≤ MOST_LINE → IsRoomy s → IsRoomy (ordering s line)
+pub ordering_roomy : (s : RevivalState) (line : List ℕ) → length line ≤ MOST_LINE → IsRoomy s → IsRoomy (state_after_line s line)
 ordering_roomy s line l h = ordering_by s line (is_quit line) l h
 
 -- THE OTHER CALLS
@@ -267,10 +267,10 @@ said_stage true upper.Getting said.ReadyOk search h k = k
 said_stage true (upper.Search kind b) said.Best search h k = k
 said_stage w u word search h k = h
 
-pub hearing_roomy : (s : RevivalState) (word : LifeSaid) → IsRoomy s → IsRoomy (hearing s word)
+pub hearing_roomy : (s : RevivalState) (word : LifeSaid) → IsRoomy s → IsRoomy (state_once_heard s word)
 hearing_roomy s word h = record { kept = h.kept; settings = h.settings; unsent = h.unsent; search = h.search; stage = said_stage (gives s word) s.upper word s.search h.stage h.search }
 
-pub beginning_roomy : (s : RevivalState) → IsRoomy s → IsRoomy (beginning s)
+pub beginning_roomy : (s : RevivalState) → IsRoomy s → IsRoomy (state_at_new_life s)
 beginning_roomy s h = record {
   kept = h.kept;
   settings = beside NewGame s.kept MOST_ORDERS MOST_BYTES h.kept;
@@ -293,12 +293,12 @@ answer_roomy answers.UciOk s h = record { kept = h.kept; settings = h.settings; 
 answer_roomy answers.ReadyOk s h = record { kept = h.kept; settings = h.settings; unsent = h.unsent; search = h.search; stage = h.search }
 answer_roomy answers.NoMove s h = record { kept = h.kept; settings = h.settings; unsent = h.unsent; search = h.search; stage = h.search }
 
-pub settled_roomy : (s : RevivalState) → IsRoomy s → IsRoomy (settled s)
+pub settled_roomy : (s : RevivalState) → IsRoomy s → IsRoomy (state_once_settled s)
 settled_roomy s h = answer_roomy (answer_of s) (after_due (due_of s) s) (due_roomy (due_of s) s h)
 
 given_by : (w : Bool) (line : List ℕ) → length (if w then line ++ 10 ∷ [] else []) ≤ length line + 1
 given_by true line = omega (arith, length-append line (10 ∷ []))
 given_by false line = omega arith
 
-pub given_short : (s : RevivalState) (line : List ℕ) → length (given s line) ≤ length line + 1
+pub given_short : (s : RevivalState) (line : List ℕ) → length (line_passed_up s line) ≤ length line + 1
 given_short s line = given_by (gives s (said_in line)) line

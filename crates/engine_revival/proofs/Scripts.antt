@@ -15,7 +15,7 @@ use Rattle.cecp_lines.specs.Quit.{is_quit}
 use Rattle.engine_revival.specs.Orders.{RevivalOrder as AnyOrder, NewGame, order_text}
 use Rattle.engine_revival.specs.Orders as orders
 use Rattle.peer_words.specs.Tokens.{trimmed}
-use Rattle.engine_revival.specs.Asked.{asked, order_in}
+use Rattle.engine_revival.specs.Asked.{order_of_line, order_in}
 use Rattle.engine_revival.proofs.Asked.{asked_text, trimmed_line}
 use Rattle.engine_revival.specs.declared.state.RevivalState.{RevivalState}
 use Rattle.engine_revival.specs.declared.words.StandInAnswer.{StandInAnswer}
@@ -26,8 +26,8 @@ use Rattle.engine_revival.specs.declared.words.DueOrders.TheVariants as due
 use Rattle.engine_revival.specs.declared.words.LifeState.{LifeState}
 use Rattle.engine_revival.specs.Dialogue.{is_before, said_in}
 use Rattle.engine_revival.specs.Lists.{are_for_same, batch_text, can_join, staying_beside, with_order}
-use Rattle.engine_revival.specs.Steps.{accepted, accepted_at_once, accepting, after_answer, after_due, answer_of, answer_text, due_of, due_orders, gives, is_served, keeping, may_begin, opening, quit_to, read_at_once, reading, settled_orders, takes_at_once, with_button, with_quit, with_value}
-use Rattle.engine_revival.specs.Calls.{Call, Order, Heard, Ended, Begin, Over, after, child_of, first_orders, orders_of, turned, up_of}
+use Rattle.engine_revival.specs.Steps.{upper_if_accepted, accepted_at_once, state_if_accepted, after_answer, after_due, answer_of, answer_text, due_of, due_orders, gives, is_served, state_with_kept, may_begin, opening, quit_to, read_at_once, state_after_reading, settled_orders, takes_at_once, with_button, with_quit, with_value}
+use Rattle.engine_revival.specs.Calls.{RevivalCall, Order, Heard, Ended, Begin, Over, after, child_of, first_orders, orders_of, state_after_call, up_of}
 use Rattle.engine_revival.specs.Script.{call_of, state_after, state_before, texts_from}
 
 -- ORDERS WHOSE MARKS ARE LINES OF SCRIPTS
@@ -95,7 +95,7 @@ button_marks false s c k h = record { kept = h.kept; unsent = h.unsent; search =
 search_marks : (s : RevivalState) (c : AnyOrder) → CanMark c → HasMarks s → HasMarks (record s { search = s.search ++ c ∷ [] })
 search_marks s c k h = record { kept = h.kept; unsent = h.unsent; search = all_mark s.search (c ∷ []) h.search (k, tt) }
 
-keeping_marks : (s : RevivalState) (c : AnyOrder) → CanMark c → HasMarks s → HasMarks (keeping s c)
+keeping_marks : (s : RevivalState) (c : AnyOrder) → CanMark c → HasMarks s → HasMarks (state_with_kept s c)
 keeping_marks s (orders.Value name line) k h =
     value_marks (can_join s.kept (orders.Value name line) && can_join s.unsent (orders.Value name line)) s (orders.Value name line) k h
 keeping_marks s (orders.Button name line) k h = button_marks (can_join s.unsent (orders.Button name line)) s (orders.Button name line) k h
@@ -106,25 +106,25 @@ keeping_marks s orders.IsReady k h = h
 keeping_marks s orders.Quit k h = h
 keeping_marks s c k h = search_marks s c k h
 
-accepting_marks : (w : Option DialogueState) (s : RevivalState) (c : AnyOrder) → CanMark c → HasMarks s → HasMarks (accepting w s c)
+accepting_marks : (w : Option DialogueState) (s : RevivalState) (c : AnyOrder) → CanMark c → HasMarks s → HasMarks (state_if_accepted w s c)
 accepting_marks None s c k h = h
 accepting_marks (Some up) s c k h = let m = keeping_marks s c k h in record { kept = m.kept; unsent = m.unsent; search = m.search }
 
-reading_marks : (s : RevivalState) (line : List ℕ) (o : Option AnyOrder) → order_in line ≡ o → is_line line ≡ true → HasMarks s → HasMarks (reading s o)
+reading_marks : (s : RevivalState) (line : List ℕ) (o : Option AnyOrder) → order_in line ≡ o → is_line line ≡ true → HasMarks s → HasMarks (state_after_reading s o)
 reading_marks s line None e l h = h
-reading_marks s line (Some c) e l h = accepting_marks (accepted s c) s c (came line c l e) h
+reading_marks s line (Some c) e l h = accepting_marks (upper_if_accepted s c) s c (came line c l e) h
 
-ordering_by : (w : Bool) (s : RevivalState) (line : List ℕ) → is_line line ≡ true → HasMarks s → HasMarks (if w then with_quit s else reading s (asked line))
+ordering_by : (w : Bool) (s : RevivalState) (line : List ℕ) → is_line line ≡ true → HasMarks s → HasMarks (if w then with_quit s else state_after_reading s (order_of_line line))
 ordering_by true s line l h = record { kept = h.kept; unsent = h.unsent; search = h.search }
-ordering_by false s line l h = reading_marks s (trimmed line) (asked line) refl (trimmed_line line l) h
+ordering_by false s line l h = reading_marks s (trimmed line) (order_of_line line) refl (trimmed_line line l) h
 
 -- a call whose line is one that a peer may send
-abbrev pub IsProperCall : Call → Type 0
+abbrev pub IsProperCall : RevivalCall → Type 0
 IsProperCall (Order line) = is_line line ≡ true
 IsProperCall (Heard line) = is_line line ≡ true
 IsProperCall call = Unit {0}
 
-turned_marks : (s : RevivalState) (call : Call) → IsProperCall call → HasMarks s → HasMarks (turned s call)
+turned_marks : (s : RevivalState) (call : RevivalCall) → IsProperCall call → HasMarks s → HasMarks (state_after_call s call)
 turned_marks s (Order line) l h = ordering_by (is_quit line) s line l h
 turned_marks s (Heard line) l h = record { kept = h.kept; unsent = h.unsent; search = h.search }
 turned_marks s Ended l h = record { kept = h.kept; unsent = h.unsent; search = h.search }
@@ -142,8 +142,8 @@ answer_marks answers.UciOk s h = record { kept = h.kept; unsent = h.unsent; sear
 answer_marks answers.ReadyOk s h = record { kept = h.kept; unsent = h.unsent; search = h.search }
 answer_marks answers.NoMove s h = record { kept = h.kept; unsent = h.unsent; search = h.search }
 
-after_marks : (s : RevivalState) (call : Call) → IsProperCall call → HasMarks s → HasMarks (after s call)
-after_marks s call l h = let t = turned s call in answer_marks (answer_of t) (after_due (due_of t) t) (due_marks (due_of t) t (turned_marks s call l h))
+after_marks : (s : RevivalState) (call : RevivalCall) → IsProperCall call → HasMarks s → HasMarks (after s call)
+after_marks s call l h = let t = state_after_call s call in answer_marks (answer_of t) (after_due (due_of t) t) (due_marks (due_of t) t (turned_marks s call l h))
 
 -- THE ORDERS OF A CALL
 
@@ -157,17 +157,17 @@ accepted_mark (Some up) life c k = mark_if (takes_at_once life c) c k
 
 read_mark : (s : RevivalState) (line : List ℕ) (o : Option AnyOrder) → order_in line ≡ o → is_line line ≡ true → AllMark (read_at_once s o)
 read_mark s line None e l = tt
-read_mark s line (Some c) e l = accepted_mark (accepted s c) s.life c (came line c l e)
+read_mark s line (Some c) e l = accepted_mark (upper_if_accepted s c) s.life c (came line c l e)
 
-at_once_by : (w : Bool) (s : RevivalState) (line : List ℕ) → is_line line ≡ true → AllMark (if w then quit_to s.quit s.life else read_at_once s (asked line))
+at_once_by : (w : Bool) (s : RevivalState) (line : List ℕ) → is_line line ≡ true → AllMark (if w then quit_to s.quit s.life else read_at_once s (order_of_line line))
 at_once_by true s line l = mark_if (not s.quit && is_served s.life) orders.Quit quit_mark
-at_once_by false s line l = read_mark s (trimmed line) (asked line) refl (trimmed_line line l)
+at_once_by false s line l = read_mark s (trimmed line) (order_of_line line) refl (trimmed_line line l)
 
 first_by : (w : Bool) → AllMark (if w then [] else orders.Uci ∷ [])
 first_by true = tt
 first_by false = (uci_mark, tt)
 
-first_mark : (s : RevivalState) (call : Call) → IsProperCall call → AllMark (first_orders s call)
+first_mark : (s : RevivalState) (call : RevivalCall) → IsProperCall call → AllMark (first_orders s call)
 first_mark s (Order line) l = at_once_by (is_quit line) s line l
 first_mark s (Heard line) l = tt
 first_mark s Ended l = tt
@@ -179,9 +179,9 @@ due_mark due.Nothing u s h k = tt
 due_mark due.Settings u s h k = all_mark u (orders.IsReady ∷ []) h (ready_mark, tt)
 due_mark due.Search u s h k = all_mark u s h k
 
-orders_mark : (s : RevivalState) (call : Call) → IsProperCall call → HasMarks s → AllMark (orders_of s call)
+orders_mark : (s : RevivalState) (call : RevivalCall) → IsProperCall call → HasMarks s → AllMark (orders_of s call)
 orders_mark s call l h =
-    let t = turned s call in
+    let t = state_after_call s call in
     let m = turned_marks s call l h in
     all_mark (first_orders s call) (settled_orders t) (first_mark s call l) (due_mark (due_of t) t.unsent t.search m.unsent m.search)
 
@@ -217,12 +217,12 @@ given_parts : (w : Bool) (line : List ℕ) (a : StandInAnswer) → is_line line 
 given_parts true line a l = line_parts line (answer_text a) (line_written line l) (answer_parts a)
 given_parts false line a l = answer_parts a
 
-up_parts : (s : RevivalState) (call : Call) → IsProperCall call → AllWritten (parts (up_of s call))
-up_parts s (Heard line) l = given_parts (gives s (said_in line)) line (answer_of (turned s (Heard line))) l
-up_parts s (Order line) l = answer_parts (answer_of (turned s (Order line)))
-up_parts s Ended l = answer_parts (answer_of (turned s Ended))
-up_parts s Begin l = answer_parts (answer_of (turned s Begin))
-up_parts s Over l = answer_parts (answer_of (turned s Over))
+up_parts : (s : RevivalState) (call : RevivalCall) → IsProperCall call → AllWritten (parts (up_of s call))
+up_parts s (Heard line) l = given_parts (gives s (said_in line)) line (answer_of (state_after_call s (Heard line))) l
+up_parts s (Order line) l = answer_parts (answer_of (state_after_call s (Order line)))
+up_parts s Ended l = answer_parts (answer_of (state_after_call s Ended))
+up_parts s Begin l = answer_parts (answer_of (state_after_call s Begin))
+up_parts s Over l = answer_parts (answer_of (state_after_call s Over))
 
 -- THE MARKS OF AN EVENT
 

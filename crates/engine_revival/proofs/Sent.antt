@@ -3,7 +3,7 @@ use Rattle.std.proofs.Common.{◌≡◌, ◌⊎◌, inl, inr, ℕ, List, [], ◌
 use Rattle.cecp_lines.specs.Quit.{is_quit}
 use Rattle.engine_revival.specs.Orders.{RevivalOrder as AnyOrder}
 use Rattle.engine_revival.specs.Orders as orders
-use Rattle.engine_revival.specs.Asked.{asked}
+use Rattle.engine_revival.specs.Asked.{order_of_line}
 use Rattle.engine_revival.specs.declared.words.DialogueState.{DialogueState}
 use Rattle.engine_revival.specs.declared.words.DialogueState.TheVariants as upper
 use Rattle.engine_revival.specs.declared.words.LifeState.{LifeState}
@@ -17,9 +17,9 @@ use Rattle.engine_revival.specs.declared.words.StandInAnswer.TheVariants as answ
 use Rattle.engine_revival.specs.declared.state.RevivalState.{RevivalState}
 use Rattle.engine_revival.specs.Dialogue.{after_order, said_in, is_before}
 use Rattle.engine_revival.specs.Lists.{is_nil}
-use Rattle.engine_revival.specs.Steps.{accepted, accepting, after_answer, after_at_once, after_due, answer_of, due_of, is_alive, is_given, keeping, life_after_said, reading, with_quit}
-use Rattle.engine_revival.specs.Calls.{Call, Order, Heard, Ended, Begin, Over, turned}
-use Rattle.engine_revival.specs.Laws.{AwaitedIsGiven, LivesAreAsked, MayCome, Open, Closed, Gone, Wire, is_awaited, is_idle_life, is_search, state_of, waits, wire_of}
+use Rattle.engine_revival.specs.Steps.{upper_if_accepted, state_if_accepted, after_answer, after_at_once, after_due, answer_of, due_of, is_alive, is_given, state_with_kept, life_after_said, state_after_reading, with_quit}
+use Rattle.engine_revival.specs.Calls.{RevivalCall, Order, Heard, Ended, Begin, Over, state_after_call}
+use Rattle.engine_revival.specs.Laws.{AwaitedIsGiven, LivesAreAsked, MayCome, Open, Closed, Gone, LifeWire, is_awaited, is_idle_life, is_search, state_of, waits, wire_of}
 use Rattle.engine_revival.proofs.Rooms.{unquit}
 use Rattle.engine_revival.proofs.Agrees.{Stands, UpperIs, agrees, getting_takes_none, no_idle}
 
@@ -39,17 +39,17 @@ once_sent life.Search c u up unsent h e = tt
 once_sent life.Ended c u up unsent h e = tt
 once_sent life.Over c u up unsent h e = tt
 
-accepted_sent : (s : RevivalState) (c : AnyOrder) (o : Option DialogueState) → accepted s c ≡ o → UpperIs s.life s.upper → AllSent s.life s.unsent → AllSent (accepting o s c).life (accepting o s c).unsent
+accepted_sent : (s : RevivalState) (c : AnyOrder) (o : Option DialogueState) → upper_if_accepted s c ≡ o → UpperIs s.life s.upper → AllSent s.life s.unsent → AllSent (state_if_accepted o s c).life (state_if_accepted o s c).unsent
 accepted_sent s c None e u h = h
-accepted_sent s c (Some up) e u h = once_sent s.life c s.upper up (keeping s c).unsent u (unquit s.quit (after_order c s.upper) up e)
+accepted_sent s c (Some up) e u h = once_sent s.life c s.upper up (state_with_kept s c).unsent u (unquit s.quit (after_order c s.upper) up e)
 
-reading_sent : (s : RevivalState) (o : Option AnyOrder) → UpperIs s.life s.upper → AllSent s.life s.unsent → AllSent (reading s o).life (reading s o).unsent
+reading_sent : (s : RevivalState) (o : Option AnyOrder) → UpperIs s.life s.upper → AllSent s.life s.unsent → AllSent (state_after_reading s o).life (state_after_reading s o).unsent
 reading_sent s None u h = h
-reading_sent s (Some c) u h = accepted_sent s c (accepted s c) refl u h
+reading_sent s (Some c) u h = accepted_sent s c (upper_if_accepted s c) refl u h
 
-ordering_sent : (s : RevivalState) (line : List ℕ) (q : Bool) → UpperIs s.life s.upper → AllSent s.life s.unsent → AllSent (if q then with_quit s else reading s (asked line)).life (if q then with_quit s else reading s (asked line)).unsent
+ordering_sent : (s : RevivalState) (line : List ℕ) (q : Bool) → UpperIs s.life s.upper → AllSent s.life s.unsent → AllSent (if q then with_quit s else state_after_reading s (order_of_line line)).life (if q then with_quit s else state_after_reading s (order_of_line line)).unsent
 ordering_sent s line true u h = h
-ordering_sent s line false u h = reading_sent s (asked line) u h
+ordering_sent s line false u h = reading_sent s (order_of_line line) u h
 
 said_sent : (l : LifeState) (word : LifeSaid) (unsent : List AnyOrder) → AllSent l unsent → AllSent (life_after_said l word) unsent
 said_sent life.Getting said.ReadyOk unsent h = tt
@@ -67,7 +67,7 @@ begun_sent : (w : Bool) (unsent : List AnyOrder) → AllSent (if w then life.Fre
 begun_sent true unsent = tt
 begun_sent false unsent = tt
 
-turned_sent : (s : RevivalState) (call : Call) → UpperIs s.life s.upper → AllSent s.life s.unsent → AllSent (turned s call).life (turned s call).unsent
+turned_sent : (s : RevivalState) (call : RevivalCall) → UpperIs s.life s.upper → AllSent s.life s.unsent → AllSent (state_after_call s call).life (state_after_call s call).unsent
 turned_sent s (Order line) u h = ordering_sent s line (is_quit line) u h
 turned_sent s (Heard line) u h = said_sent s.life (said_in line) s.unsent h
 turned_sent s Ended u h = tt
@@ -85,19 +85,19 @@ answered_sent answers.UciOk s h = h
 answered_sent answers.ReadyOk s h = h
 answered_sent answers.NoMove s h = h
 
-all_sent : (lives : ℕ) (calls : List Call) → MayCome lives calls → AllSent (state_of lives calls).life (state_of lives calls).unsent
+all_sent : (lives : ℕ) (calls : List RevivalCall) → MayCome lives calls → AllSent (state_of lives calls).life (state_of lives calls).unsent
 all_sent lives [] m = tt
 all_sent lives (call ∷ calls) m =
     let s = state_of lives calls in
-    let t = turned s call in
+    let t = state_after_call s call in
     answered_sent (answer_of t) (after_due (due_of t) t) (due_sent (due_of t) t
     (turned_sent s call (agrees lives calls m.0).stands.upper_is (all_sent lives calls m.0)))
 
 -- WHAT IT ANSWERS
 
 -- no line of these is awaited
-unawaited : (w w' : Wire) (word : LifeSaid) → w ≡ w' → is_awaited w' word ≡ false → is_awaited w word ≡ true → ⊥
-unawaited w w' word e n h = true≢false (sym h ∙ ap (λ (x : Wire). is_awaited x word) e ∙ n)
+unawaited : (w w' : LifeWire) (word : LifeSaid) → w ≡ w' → is_awaited w' word ≡ false → is_awaited w word ≡ true → ⊥
+unawaited w w' word e n h = true≢false (sym h ∙ ap (λ (x : LifeWire). is_awaited x word) e ∙ n)
 
 getting_answers : (word : LifeSaid) (u : DialogueState) (unsent : List AnyOrder) → u ≡ upper.Getting → unsent ≡ [] → is_awaited (Open upper.Getting) word ≡ true → is_given word life.Getting u (is_nil unsent) ≡ true
 getting_answers said.ReadyOk u unsent e f h = ap (λ (x : DialogueState). is_given said.ReadyOk life.Getting x (is_nil unsent)) e ∙ ap is_nil f
@@ -113,10 +113,10 @@ search_answers said.Report (upper.Search k b) got_all e h = refl
 search_answers said.Best (upper.Search k b) got_all e h = refl
 search_answers word (upper.Search k b) got_all e h = absurd (true≢false (sym h))
 
-on_wire : (w w' : Wire) (word : LifeSaid) → w ≡ w' → is_awaited w word ≡ true → is_awaited w' word ≡ true
-on_wire w w' word e h = subst (λ (x : Wire). is_awaited x word ≡ true) e h
+on_wire : (w w' : LifeWire) (word : LifeSaid) → w ≡ w' → is_awaited w word ≡ true → is_awaited w' word ≡ true
+on_wire w w' word e h = subst (λ (x : LifeWire). is_awaited x word ≡ true) e h
 
-answers_given : (l : LifeState) (q : Bool) (u : DialogueState) (w : Wire) (word : LifeSaid) (unsent : List AnyOrder) → Stands l q u w → AllSent l unsent → is_awaited w word ≡ true → is_given word l u (is_nil unsent) ≡ true
+answers_given : (l : LifeState) (q : Bool) (u : DialogueState) (w : LifeWire) (word : LifeSaid) (unsent : List AnyOrder) → Stands l q u w → AllSent l unsent → is_awaited w word ≡ true → is_given word l u (is_nil unsent) ≡ true
 answers_given life.Fresh q u w word unsent s a h = absurd (unawaited w (Open upper.Before) word s.wire_is refl h)
 answers_given life.Boot true u w word unsent s a h = absurd (unawaited w Closed word s.wire_is refl h)
 answers_given life.Boot false u w word unsent s a h = absurd (unawaited w (Open upper.Boot) word s.wire_is refl h)
@@ -136,7 +136,7 @@ awaited_is_given lives calls line m h =
 
 -- WHAT IT WAS ASKED FOR
 
-asked_by : (l : LifeState) (q : Bool) (u : DialogueState) (w : Wire) → q ≡ false → is_alive l ≡ true → waits u ≡ true → (is_idle_life l ≡ true → waits u ≡ false) → Stands l q u w → (w ≡ Open upper.Boot) ⊎ (w ≡ Open u)
+asked_by : (l : LifeState) (q : Bool) (u : DialogueState) (w : LifeWire) → q ≡ false → is_alive l ≡ true → waits u ≡ true → (is_idle_life l ≡ true → waits u ≡ false) → Stands l q u w → (w ≡ Open upper.Boot) ⊎ (w ≡ Open u)
 asked_by l true u w e a h i s = absurd (true≢false e)
 asked_by life.Fresh false u w e a h i s = absurd (true≢false (sym h ∙ ap waits s.upper_is))
 asked_by life.Boot false u w e a h i s = inl s.wire_is

@@ -6,7 +6,7 @@ use Rattle.std.proofs.lemmas.Bool.{and_parts, not-false}
 use Rattle.cecp_lines.specs.Quit.{is_quit}
 use Rattle.engine_revival.specs.Orders.{RevivalOrder as AnyOrder, are_same_names}
 use Rattle.engine_revival.specs.Orders as orders
-use Rattle.engine_revival.specs.Asked.{asked}
+use Rattle.engine_revival.specs.Asked.{order_of_line}
 use Rattle.engine_revival.specs.declared.words.DialogueState.{DialogueState}
 use Rattle.engine_revival.specs.declared.words.DialogueState.TheVariants as upper
 use Rattle.engine_revival.specs.declared.words.LifeState.{LifeState}
@@ -18,9 +18,9 @@ use Rattle.engine_revival.specs.declared.words.StandInAnswer.TheVariants as answ
 use Rattle.engine_revival.specs.declared.state.RevivalState.{RevivalState}
 use Rattle.engine_revival.specs.Dialogue.{is_before}
 use Rattle.engine_revival.specs.Lists.{are_for_same, staying_beside, with_order, can_join}
-use Rattle.engine_revival.specs.Steps.{with_value, with_button, takes_at_once, is_served, due_to, due_orders, after_due, after_answer, accepting, accepted, reading, with_quit, accepted_at_once, read_at_once, quit_to, first_order, due_of, answer_of, settled, settled_orders, after_at_once}
-use Rattle.engine_revival.specs.Calls.{Call, Order, Heard, Ended, Begin, Over, turned, first_orders, after}
-use Rattle.engine_revival.specs.Laws.{state_of, value_of, later_or, value_in, accepted_by, accepted_read, accepted_in, accepted_of, carried, life_orders, SearchesAreGiven, is_search}
+use Rattle.engine_revival.specs.Steps.{with_value, with_button, takes_at_once, is_served, due_to, due_orders, after_due, after_answer, state_if_accepted, upper_if_accepted, state_after_reading, with_quit, accepted_at_once, read_at_once, quit_to, first_order, due_of, answer_of, state_once_settled, settled_orders, after_at_once}
+use Rattle.engine_revival.specs.Calls.{RevivalCall, Order, Heard, Ended, Begin, Over, state_after_call, first_orders, after}
+use Rattle.engine_revival.specs.Laws.{state_of, value_of, later_or, value_in, accepted_by, accepted_read, accepted_in, accepted_of, orders_in_same_life, life_orders, SearchesAreGiven, is_search}
 use Rattle.engine_revival.proofs.Wires.{told, search_open, is_open}
 use Rattle.engine_revival.proofs.Agrees.{agrees, turned_agrees}
 use Rattle.engine_revival.proofs.Searches.{searches_turned}
@@ -170,53 +170,53 @@ other name s t l a more c e k u x n h = accepts name t (l ++ more) a c e (quiet 
 in_search : (name : List (List ℕ)) (search : List AnyOrder) (c : AnyOrder) → value_of name c ≡ None → value_in name search ≡ None → value_in name (search ++ c ∷ []) ≡ None
 in_search name search c e h = plain name search c e ∙ h
 
-accepting_values : (name : List (List ℕ)) (s : RevivalState) (l a : List AnyOrder) (c : AnyOrder) (up : DialogueState) → (accepting (Some up) s c).full ≡ false → Values name s l a → Values name (accepting (Some up) s c) (l ++ as_it_comes s.life c) (a ++ c ∷ [])
-accepting_values name s l a orders.NewGame up f h = joined name s (accepting (Some up) s orders.NewGame) l a (as_it_comes s.life orders.NewGame) orders.NewGame refl refl refl refl (comes_none name s.life orders.NewGame) h
-accepting_values name s l a orders.Stop up f h = other name s (accepting (Some up) s orders.Stop) l a (as_it_comes s.life orders.Stop) orders.Stop refl refl refl (in_search name s.search orders.Stop refl h.search) (comes_none name s.life orders.Stop) h
-accepting_values name s l a orders.PonderHit up f h = other name s (accepting (Some up) s orders.PonderHit) l a (as_it_comes s.life orders.PonderHit) orders.PonderHit refl refl refl (in_search name s.search orders.PonderHit refl h.search) (comes_none name s.life orders.PonderHit) h
+accepting_values : (name : List (List ℕ)) (s : RevivalState) (l a : List AnyOrder) (c : AnyOrder) (up : DialogueState) → (state_if_accepted (Some up) s c).full ≡ false → Values name s l a → Values name (state_if_accepted (Some up) s c) (l ++ as_it_comes s.life c) (a ++ c ∷ [])
+accepting_values name s l a orders.NewGame up f h = joined name s (state_if_accepted (Some up) s orders.NewGame) l a (as_it_comes s.life orders.NewGame) orders.NewGame refl refl refl refl (comes_none name s.life orders.NewGame) h
+accepting_values name s l a orders.Stop up f h = other name s (state_if_accepted (Some up) s orders.Stop) l a (as_it_comes s.life orders.Stop) orders.Stop refl refl refl (in_search name s.search orders.Stop refl h.search) (comes_none name s.life orders.Stop) h
+accepting_values name s l a orders.PonderHit up f h = other name s (state_if_accepted (Some up) s orders.PonderHit) l a (as_it_comes s.life orders.PonderHit) orders.PonderHit refl refl refl (in_search name s.search orders.PonderHit refl h.search) (comes_none name s.life orders.PonderHit) h
 accepting_values name s l a (orders.Button n v) up f h =
     let c = orders.Button n v in
     button_step (can_join s.unsent c) name s l a c up (after_at_once s.life c) (as_it_comes s.life c) refl f (comes_none name s.life c) h
 accepting_values name s l a (orders.Value n v) up f h =
     let c = orders.Value n v in
     value_step (can_join s.kept c && can_join s.unsent c) name s l a c up (after_at_once s.life c) (as_it_comes s.life c) f (comes_none name s.life c) h
-accepting_values name s l a (orders.Position p) up f h = other name s (accepting (Some up) s (orders.Position p)) l a (as_it_comes s.life (orders.Position p)) (orders.Position p) refl refl refl refl (comes_none name s.life (orders.Position p)) h
-accepting_values name s l a (orders.Go k p) up f h = other name s (accepting (Some up) s (orders.Go k p)) l a (as_it_comes s.life (orders.Go k p)) (orders.Go k p) refl refl refl (in_search name s.search (orders.Go k p) refl h.search) (comes_none name s.life (orders.Go k p)) h
-accepting_values name s l a c up f h = other name s (accepting (Some up) s c) l a (as_it_comes s.life c) c refl refl refl h.search (comes_none name s.life c) h
+accepting_values name s l a (orders.Position p) up f h = other name s (state_if_accepted (Some up) s (orders.Position p)) l a (as_it_comes s.life (orders.Position p)) (orders.Position p) refl refl refl refl (comes_none name s.life (orders.Position p)) h
+accepting_values name s l a (orders.Go k p) up f h = other name s (state_if_accepted (Some up) s (orders.Go k p)) l a (as_it_comes s.life (orders.Go k p)) (orders.Go k p) refl refl refl (in_search name s.search (orders.Go k p) refl h.search) (comes_none name s.life (orders.Go k p)) h
+accepting_values name s l a c up f h = other name s (state_if_accepted (Some up) s c) l a (as_it_comes s.life c) c refl refl refl h.search (comes_none name s.life c) h
 
 same_nil : (name : List (List ℕ)) (t : RevivalState) (l a : List AnyOrder) → Values name t l a → Values name t (l ++ []) (a ++ [])
 same_nil name t l a h = subst (λ (x : List AnyOrder). Values name t x (a ++ [])) (sym (nil_behind l)) (subst (λ (x : List AnyOrder). Values name t l x) (sym (nil_behind a)) h)
 
-accepted_values : (name : List (List ℕ)) (s : RevivalState) (l a : List AnyOrder) (c : AnyOrder) (o : Option DialogueState) → (accepting o s c).full ≡ false → Values name s l a → Values name (accepting o s c) (l ++ accepted_at_once o s.life c) (a ++ accepted_by o c)
+accepted_values : (name : List (List ℕ)) (s : RevivalState) (l a : List AnyOrder) (c : AnyOrder) (o : Option DialogueState) → (state_if_accepted o s c).full ≡ false → Values name s l a → Values name (state_if_accepted o s c) (l ++ accepted_at_once o s.life c) (a ++ accepted_by o c)
 accepted_values name s l a c None f h = same_nil name s l a h
 accepted_values name s l a c (Some up) f h = accepting_values name s l a c up f h
 
-reading_values : (name : List (List ℕ)) (s : RevivalState) (l a : List AnyOrder) (o : Option AnyOrder) → (reading s o).full ≡ false → Values name s l a → Values name (reading s o) (l ++ read_at_once s o) (a ++ accepted_read s o)
+reading_values : (name : List (List ℕ)) (s : RevivalState) (l a : List AnyOrder) (o : Option AnyOrder) → (state_after_reading s o).full ≡ false → Values name s l a → Values name (state_after_reading s o) (l ++ read_at_once s o) (a ++ accepted_read s o)
 reading_values name s l a None f h = same_nil name s l a h
-reading_values name s l a (Some c) f h = accepted_values name s l a c (accepted s c) f h
+reading_values name s l a (Some c) f h = accepted_values name s l a c (upper_if_accepted s c) f h
 
 to_a : (name : List (List ℕ)) (t : RevivalState) (l a : List AnyOrder) → Values name t l a → Values name t l (a ++ [])
 to_a name t l a h = subst (λ (x : List AnyOrder). Values name t l x) (sym (nil_behind a)) h
 
-ordering_values : (name : List (List ℕ)) (s : RevivalState) (l a : List AnyOrder) (line : List ℕ) (q : Bool) → (if q then with_quit s else reading s (asked line)).full ≡ false → Values name s l a → Values name (if q then with_quit s else reading s (asked line)) (l ++ (if q then quit_to s.quit s.life else read_at_once s (asked line))) (a ++ (if q then [] else accepted_read s (asked line)))
+ordering_values : (name : List (List ℕ)) (s : RevivalState) (l a : List AnyOrder) (line : List ℕ) (q : Bool) → (if q then with_quit s else state_after_reading s (order_of_line line)).full ≡ false → Values name s l a → Values name (if q then with_quit s else state_after_reading s (order_of_line line)) (l ++ (if q then quit_to s.quit s.life else read_at_once s (order_of_line line))) (a ++ (if q then [] else accepted_read s (order_of_line line)))
 ordering_values name s l a line true f h =
     to_a name (with_quit s) (l ++ quit_to s.quit s.life) a (quiet name s (with_quit s) l a (quit_to s.quit s.life) refl refl h.search (sets_none_by (not s.quit && is_served s.life) name orders.Quit (λ e. refl)) h)
-ordering_values name s l a line false f h = reading_values name s l a (asked line) f h
+ordering_values name s l a line false f h = reading_values name s l a (order_of_line line) f h
 
 first_none : (name : List (List ℕ)) (w : Bool) → value_in name (if w then [] else orders.Uci ∷ []) ≡ None
 first_none name true = refl
 first_none name false = refl
 
-turned_values : (name : List (List ℕ)) (s : RevivalState) (call : Call) (l a : List AnyOrder) → (turned s call).full ≡ false → Values name s l a → Values name (turned s call) (carried call l ++ first_orders s call) (a ++ accepted_in s call)
+turned_values : (name : List (List ℕ)) (s : RevivalState) (call : RevivalCall) (l a : List AnyOrder) → (state_after_call s call).full ≡ false → Values name s l a → Values name (state_after_call s call) (orders_in_same_life call l ++ first_orders s call) (a ++ accepted_in s call)
 turned_values name s (Order line) l a f h = ordering_values name s l a line (is_quit line) f h
-turned_values name s (Heard line) l a f h = to_a name (turned s (Heard line)) (l ++ []) a (quiet name s (turned s (Heard line)) l a [] refl refl h.search refl h)
-turned_values name s Ended l a f h = to_a name (turned s Ended) (l ++ []) a (quiet name s (turned s Ended) l a [] refl refl h.search refl h)
-turned_values name s Begin l a f h = to_a name (turned s Begin) (first_order s.upper) a (record {
+turned_values name s (Heard line) l a f h = to_a name (state_after_call s (Heard line)) (l ++ []) a (quiet name s (state_after_call s (Heard line)) l a [] refl refl h.search refl h)
+turned_values name s Ended l a f h = to_a name (state_after_call s Ended) (l ++ []) a (quiet name s (state_after_call s Ended) l a [] refl refl h.search refl h)
+turned_values name s Begin l a f h = to_a name (state_after_call s Begin) (first_order s.upper) a (record {
   kept = h.kept;
   unsent = ap (later_or (value_in name s.kept)) (first_none name (is_before s.upper)) ∙ later_none (value_in name s.kept) ∙ h.kept;
   search = h.search;
 })
-turned_values name s Over l a f h = to_a name (turned s Over) (l ++ []) a (quiet name s (turned s Over) l a [] refl refl h.search refl h)
+turned_values name s Over l a f h = to_a name (state_after_call s Over) (l ++ []) a (quiet name s (state_after_call s Over) l a [] refl refl h.search refl h)
 
 -- WHAT FOLLOWS
 
@@ -234,7 +234,7 @@ due_values name due.Nothing t l a h = subst (λ (x : List AnyOrder). Values name
 due_values name due.Settings t l a h = record { kept = h.kept; unsent = all_sent name l t.unsent (orders.IsReady ∷ []) refl ∙ h.unsent; search = h.search }
 due_values name due.Search t l a h = record { kept = h.kept; unsent = all_sent name l t.unsent t.search h.search ∙ h.unsent; search = h.search }
 
-settled_values : (name : List (List ℕ)) (t : RevivalState) (l a : List AnyOrder) → Values name t l a → Values name (settled t) (l ++ settled_orders t) a
+settled_values : (name : List (List ℕ)) (t : RevivalState) (l a : List AnyOrder) → Values name t l a → Values name (state_once_settled t) (l ++ settled_orders t) a
 settled_values name t l a h = answered_values name (answer_of t) (after_due (due_of t) t) (l ++ settled_orders t) a (due_values name (due_of t) t l a h)
 
 -- A list that was full stays so.
@@ -251,7 +251,7 @@ button_full : (w : Bool) (s : RevivalState) (c : AnyOrder) → (with_button w s 
 button_full true s c e = e
 button_full false s c e = absurd (true≢false e)
 
-accepting_full : (s : RevivalState) (c : AnyOrder) (o : Option DialogueState) → (accepting o s c).full ≡ false → s.full ≡ false
+accepting_full : (s : RevivalState) (c : AnyOrder) (o : Option DialogueState) → (state_if_accepted o s c).full ≡ false → s.full ≡ false
 accepting_full s (orders.Button n v) (Some up) e =
     let c = orders.Button n v in
     button_full (can_join s.unsent c) s c e
@@ -261,15 +261,15 @@ accepting_full s (orders.Value n v) (Some up) e =
 accepting_full s c None e = e
 accepting_full s c o e = e
 
-reading_full : (s : RevivalState) (o : Option AnyOrder) → (reading s o).full ≡ false → s.full ≡ false
+reading_full : (s : RevivalState) (o : Option AnyOrder) → (state_after_reading s o).full ≡ false → s.full ≡ false
 reading_full s None e = e
-reading_full s (Some c) e = accepting_full s c (accepted s c) e
+reading_full s (Some c) e = accepting_full s c (upper_if_accepted s c) e
 
-ordering_full : (s : RevivalState) (line : List ℕ) (q : Bool) → (if q then with_quit s else reading s (asked line)).full ≡ false → s.full ≡ false
+ordering_full : (s : RevivalState) (line : List ℕ) (q : Bool) → (if q then with_quit s else state_after_reading s (order_of_line line)).full ≡ false → s.full ≡ false
 ordering_full s line true e = e
-ordering_full s line false e = reading_full s (asked line) e
+ordering_full s line false e = reading_full s (order_of_line line) e
 
-pub turned_full : (s : RevivalState) (call : Call) → (turned s call).full ≡ false → s.full ≡ false
+pub turned_full : (s : RevivalState) (call : RevivalCall) → (state_after_call s call).full ≡ false → s.full ≡ false
 turned_full s (Order line) e = ordering_full s line (is_quit line) e
 turned_full s (Heard line) e = e
 turned_full s Ended e = e
@@ -280,16 +280,16 @@ pub append_regrouped : (a b c : List AnyOrder) → (a ++ b) ++ c ≡ a ++ (b ++ 
 append_regrouped [] b c = refl
 append_regrouped (x ∷ xs) b c = ap (λ (t : List AnyOrder). x ∷ t) (append_regrouped xs b c)
 
-values : (name : List (List ℕ)) (lives : ℕ) (calls : List Call) → (state_of lives calls).full ≡ false → Values name (state_of lives calls) (life_orders lives calls) (accepted_of lives calls)
+values : (name : List (List ℕ)) (lives : ℕ) (calls : List RevivalCall) → (state_of lives calls).full ≡ false → Values name (state_of lives calls) (life_orders lives calls) (accepted_of lives calls)
 values name lives [] f = record { kept = refl; unsent = refl; search = refl }
 values name lives (call ∷ calls) f =
     let s = state_of lives calls in
-    let t = turned s call in
+    let t = state_after_call s call in
     let g : t.full ≡ false = settled_full (answer_of t) (due_of t) t f in
     let l = life_orders lives calls in
     let h = turned_values name s call l (accepted_of lives calls) g (values name lives calls (turned_full s call g)) in
-    subst (λ (x : List AnyOrder). Values name (after s call) x (accepted_of lives calls ++ accepted_in s call)) (append_regrouped (carried call l) (first_orders s call) (settled_orders t))
-    (settled_values name t (carried call l ++ first_orders s call) (accepted_of lives calls ++ accepted_in s call) h)
+    subst (λ (x : List AnyOrder). Values name (after s call) x (accepted_of lives calls ++ accepted_in s call)) (append_regrouped (orders_in_same_life call l) (first_orders s call) (settled_orders t))
+    (settled_values name t (orders_in_same_life call l ++ first_orders s call) (accepted_of lives calls ++ accepted_in s call) h)
 
 -- SEARCHES
 
@@ -305,7 +305,7 @@ none_unsent w d t e = absurd (cc)
 pub given_searches : SearchesAreGiven
 given_searches lives call calls m e =
     let s = state_of lives calls in
-    let t = turned s call in
+    let t = state_after_call s call in
     let a = turned_agrees s call _ m.1 (agrees lives calls m.0) in
     let open_up : is_open t.upper ≡ true = search_open t.upper (search_due t.life t.quit t.upper e) in
     record {

@@ -8,18 +8,18 @@ use Rattle.engine_revival.specs.declared.words.DialogueState.{DialogueState}
 use Rattle.engine_revival.specs.declared.words.DialogueState.TheVariants as upper
 use Rattle.engine_revival.specs.Dialogue.{after_order, after_hit, after_stop, is_placed}
 use Rattle.engine_revival.specs.Lists.{staying_beside, with_order, are_for_same}
-use Rattle.engine_revival.specs.Laws.{Open, written, all_written, open_or_broken, is_search}
+use Rattle.engine_revival.specs.Laws.{Open, wire_after_order, all_written, open_or_broken, is_search}
 
 -- the dialogue after orders in a row, where each may stand at its place
 abbrev pub telling : List RevivalOrder → DialogueState → Option DialogueState
 telling [] d = Some d
 telling (c ∷ cs) d = option_and_then (telling cs) (after_order c d)
 
-one_written : (c : RevivalOrder) (d next : DialogueState) → after_order c d ≡ Some next → written c (Open d) ≡ Open next
+one_written : (c : RevivalOrder) (d next : DialogueState) → after_order c d ≡ Some next → wire_after_order c (Open d) ≡ Open next
 one_written orders.Quit d next e = absurd (cc)
 one_written c d next e = ap open_or_broken e
 
-told_step : (o : Option DialogueState) (c : RevivalOrder) (cs : List RevivalOrder) (d last : DialogueState) → after_order c d ≡ o → option_and_then (telling cs) o ≡ Some last → ((next : DialogueState) → telling cs next ≡ Some last → all_written cs (Open next) ≡ Open last) → all_written cs (written c (Open d)) ≡ Open last
+told_step : (o : Option DialogueState) (c : RevivalOrder) (cs : List RevivalOrder) (d last : DialogueState) → after_order c d ≡ o → option_and_then (telling cs) o ≡ Some last → ((next : DialogueState) → telling cs next ≡ Some last → all_written cs (Open next) ≡ Open last) → all_written cs (wire_after_order c (Open d)) ≡ Open last
 told_step None c cs d last e f h = absurd (cc)
 told_step (Some next) c cs d last e f h = ap (all_written cs) (one_written c d next e) ∙ h next f
 

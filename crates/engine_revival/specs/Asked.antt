@@ -24,14 +24,14 @@ setting_of true ts line = Value (name_in ts) line
 setting_of false ts line = Button (name_in ts) line
 
 -- by the tokens after `name`
-abbrev pub named : List (List ℕ) → List ℕ → Option RevivalOrder
-named [] line = None
-named (t ∷ ts) line = Some (setting_of (has_word (codes "value") ts) (t ∷ ts) line)
+abbrev pub setting_after_name : List (List ℕ) → List ℕ → Option RevivalOrder
+setting_after_name [] line = None
+setting_after_name (t ∷ ts) line = Some (setting_of (has_word (codes "value") ts) (t ∷ ts) line)
 
 -- by the tokens after `setoption`
 abbrev pub setting_asked : List (List ℕ) → List ℕ → Option RevivalOrder
 setting_asked [] line = None
-setting_asked (t ∷ ts) line = if is_word (codes "name") t then named ts line else None
+setting_asked (t ∷ ts) line = if is_word (codes "name") t then setting_after_name ts line else None
 
 -- A `position` is one in the spelling that the bridge writes, or one that says a position and moves that are legal in their turn.
 abbrev pub position_asked : Option OwnOrder → Option Line → List ℕ → Option RevivalOrder
@@ -52,5 +52,5 @@ unfoldable pub order_in : List ℕ → Option RevivalOrder
 order_in line = asked_by (tokens line) line
 
 -- the order that a line of the interface is, as it came but without the white space at its ends
-abbrev pub asked : List ℕ → Option RevivalOrder
-asked line = order_in (trimmed line)
+abbrev pub order_of_line : List ℕ → Option RevivalOrder
+order_of_line line = order_in (trimmed line)

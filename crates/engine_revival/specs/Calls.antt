@@ -6,21 +6,21 @@ use Rattle.engine_revival.specs.declared.words.LifeState.TheVariants as life
 use Rattle.engine_revival.specs.declared.state.RevivalState.{RevivalState}
 use Rattle.engine_revival.specs.Dialogue.{said_in}
 use Rattle.engine_revival.specs.Lists.{batch_text}
-use Rattle.engine_revival.specs.Steps.{ordering, at_once, hearing, given, ending, beginning, first_order, closing, is_alive, is_ended, may_begin, settled, settled_orders, answer_of, answer_text}
+use Rattle.engine_revival.specs.Steps.{state_after_line, at_once, state_once_heard, line_passed_up, state_once_ended, state_at_new_life, first_order, state_once_over, is_alive, is_ended, may_begin, state_once_settled, settled_orders, answer_of, answer_text}
 
-pub data Call : Type 0 where
-  Order : (line : List ℕ) → Call
-  Heard : (line : List ℕ) → Call
-  Ended : Call
-  Begin : Call
-  Over : Call
+pub data RevivalCall : Type 0 where
+  Order : (line : List ℕ) → RevivalCall
+  Heard : (line : List ℕ) → RevivalCall
+  Ended : RevivalCall
+  Begin : RevivalCall
+  Over : RevivalCall
 
 abbrev pub is_over : LifeState → Bool
 is_over life.Over = true
 is_over state = false
 
 -- After `ended` comes `begin`, if another life may begin, or `over`. After `over` only orders come.
-abbrev pub may : RevivalState → Call → Bool
+abbrev pub may : RevivalState → RevivalCall → Bool
 may s (Order line) = not (is_ended s.life)
 may s (Heard line) = is_alive s.life
 may s Ended = is_alive s.life
@@ -28,42 +28,42 @@ may s Begin = is_ended s.life && may_begin s
 may s Over = not (is_over s.life)
 
 -- what the call changes by itself
-abbrev pub turned : RevivalState → Call → RevivalState
-turned s (Order line) = ordering s line
-turned s (Heard line) = hearing s (said_in line)
-turned s Ended = ending s
-turned s Begin = beginning s
-turned s Over = closing s
+abbrev pub state_after_call : RevivalState → RevivalCall → RevivalState
+state_after_call s (Order line) = state_after_line s line
+state_after_call s (Heard line) = state_once_heard s (said_in line)
+state_after_call s Ended = state_once_ended s
+state_after_call s Begin = state_at_new_life s
+state_after_call s Over = state_once_over s
 
 -- what it writes to the life by itself
-abbrev pub first_orders : RevivalState → Call → List AnyOrder
+abbrev pub first_orders : RevivalState → RevivalCall → List AnyOrder
 first_orders s (Order line) = at_once s line
 first_orders s Begin = first_order s.upper
 first_orders s call = []
 
 -- what it passes up by itself
-abbrev pub first_up : RevivalState → Call → List ℕ
-first_up s (Heard line) = given s line
+abbrev pub first_up : RevivalState → RevivalCall → List ℕ
+first_up s (Heard line) = line_passed_up s line
 first_up s call = []
 
 -- WITH WHAT FOLLOWS OF IT
 
-abbrev pub after : RevivalState → Call → RevivalState
-after s call = settled (turned s call)
+abbrev pub after : RevivalState → RevivalCall → RevivalState
+after s call = state_once_settled (state_after_call s call)
 
 -- the orders to the life
-abbrev pub orders_of : RevivalState → Call → List AnyOrder
-orders_of s call = first_orders s call ++ settled_orders (turned s call)
+abbrev pub orders_of : RevivalState → RevivalCall → List AnyOrder
+orders_of s call = first_orders s call ++ settled_orders (state_after_call s call)
 
 -- the lines up, and the lines to the life
-abbrev pub up_of : RevivalState → Call → List ℕ
-up_of s call = first_up s call ++ answer_text (answer_of (turned s call))
+abbrev pub up_of : RevivalState → RevivalCall → List ℕ
+up_of s call = first_up s call ++ answer_text (answer_of (state_after_call s call))
 
-abbrev pub child_of : RevivalState → Call → List ℕ
+abbrev pub child_of : RevivalState → RevivalCall → List ℕ
 child_of s call = batch_text (orders_of s call)
 
 -- what the call leaves, and the texts that it gave
-pub record Gives (s : RevivalState) (call : Call) (last : RevivalState) (up child : List ℕ) : Type 0 where
+pub record Gives (s : RevivalState) (call : RevivalCall) (last : RevivalState) (up child : List ℕ) : Type 0 where
   pub state_is : last ≡ after s call
   pub up_is : up ≡ up_of s call
   pub child_is : child ≡ child_of s call

@@ -38,18 +38,18 @@ order_text (Go kind line) = line
 -- THE NAMES OF OPTIONS
 
 -- with ASCII letters in lower case
-abbrev pub folded : List ℕ → List ℕ
-folded word = map to_ascii_lowercase word
+abbrev pub in_lowercase : List ℕ → List ℕ
+in_lowercase word = map to_ascii_lowercase word
 
 -- the words before the first `value`
 abbrev pub words_before_value : List (List ℕ) → List (List ℕ)
 words_before_value [] = []
-words_before_value (t ∷ ts) = if is_word (codes "value") t then [] else folded t ∷ words_before_value ts
+words_before_value (t ∷ ts) = if is_word (codes "value") t then [] else in_lowercase t ∷ words_before_value ts
 
 -- the words of a name, which has one at least
 abbrev pub name_in : List (List ℕ) → List (List ℕ)
 name_in [] = []
-name_in (t ∷ ts) = folded t ∷ words_before_value ts
+name_in (t ∷ ts) = in_lowercase t ∷ words_before_value ts
 
 -- Names are the same if their words are, case ignored.
 abbrev pub are_same_names : List (List ℕ) → List (List ℕ) → Bool

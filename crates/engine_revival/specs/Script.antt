@@ -3,8 +3,8 @@ use Rattle.std.specs.Prelude.{◌≡◌, ℕ, List, [], ◌∷◌, ◌++◌, cod
 use Rattle.line_io.specs.Event.{Event, Iface, IfaceEnd, Engine, EngineLong, EngineEnd}
 use Rattle.script_lines.specs.StepText.{step_marks}
 use Rattle.engine_revival.specs.declared.state.RevivalState.{RevivalState}
-use Rattle.engine_revival.specs.Steps.{opening, ending, may_begin, is_alive, is_ended}
-use Rattle.engine_revival.specs.Calls.{Call, Order, Heard, Begin, Over, after, up_of, child_of}
+use Rattle.engine_revival.specs.Steps.{opening, state_once_ended, may_begin, is_alive, is_ended}
+use Rattle.engine_revival.specs.Calls.{RevivalCall, Order, Heard, Begin, Over, after, up_of, child_of}
 
 -- The events that may come. No line of the engine comes after it was over.
 abbrev pub may_happen : RevivalState → Event → Bool
@@ -17,7 +17,7 @@ may_happen s event = false
 
 -- The last call of an event: a line of the interface is an order, and its end is `quit`; after the end of a life, which is the
 -- mark of a long line of the engine, another begins or none follows; and none follows after the engine's end.
-abbrev pub call_of : RevivalState → Event → Call
+abbrev pub call_of : RevivalState → Event → RevivalCall
 call_of s (Iface line) = Order line
 call_of s IfaceEnd = Order (codes "quit")
 call_of s (Engine line) = Heard line
@@ -26,7 +26,7 @@ call_of s event = Over
 
 -- the state in which it comes
 abbrev pub state_before : RevivalState → Event → RevivalState
-state_before s EngineLong = ending s
+state_before s EngineLong = state_once_ended s
 state_before s event = s
 
 abbrev pub state_after : RevivalState → Event → RevivalState

@@ -4,7 +4,7 @@ use Rattle.peer_words.specs.declared.kinds.GoKind.TheVariants as kinds
 use Rattle.cecp_lines.specs.Quit.{is_quit}
 use Rattle.engine_revival.specs.Orders.{RevivalOrder}
 use Rattle.engine_revival.specs.Orders as orders
-use Rattle.engine_revival.specs.Asked.{asked}
+use Rattle.engine_revival.specs.Asked.{order_of_line}
 use Rattle.engine_revival.specs.declared.words.DialogueState.{DialogueState}
 use Rattle.engine_revival.specs.declared.words.DialogueState.TheVariants as upper
 use Rattle.engine_revival.specs.declared.words.LifeState.{LifeState}
@@ -52,16 +52,16 @@ with_button false s order = record s { full = true }
 
 -- The lists after an accepted order. Kept is of each option the last value that it was set to. Unsent is that too, and each button
 -- and `ucinewgame` once, all in the order in which they came last. Of a search all orders are kept, from its `position` on.
-abbrev pub keeping : RevivalState → RevivalOrder → RevivalState
-keeping s (orders.Value name line) =
+abbrev pub state_with_kept : RevivalState → RevivalOrder → RevivalState
+state_with_kept s (orders.Value name line) =
     with_value (can_join s.kept (orders.Value name line) && can_join s.unsent (orders.Value name line)) s (orders.Value name line)
-keeping s (orders.Button name line) = with_button (can_join s.unsent (orders.Button name line)) s (orders.Button name line)
-keeping s orders.NewGame = record s { unsent = with_order s.unsent orders.NewGame }
-keeping s (orders.Position line) = record s { search = orders.Position line ∷ [] }
-keeping s (orders.Go kind line) = record s { search = s.search ++ orders.Go kind line ∷ [] }
-keeping s orders.PonderHit = record s { search = s.search ++ orders.PonderHit ∷ [] }
-keeping s orders.Stop = record s { search = s.search ++ orders.Stop ∷ [] }
-keeping s order = s
+state_with_kept s (orders.Button name line) = with_button (can_join s.unsent (orders.Button name line)) s (orders.Button name line)
+state_with_kept s orders.NewGame = record s { unsent = with_order s.unsent orders.NewGame }
+state_with_kept s (orders.Position line) = record s { search = orders.Position line ∷ [] }
+state_with_kept s (orders.Go kind line) = record s { search = s.search ++ orders.Go kind line ∷ [] }
+state_with_kept s orders.PonderHit = record s { search = s.search ++ orders.PonderHit ∷ [] }
+state_with_kept s orders.Stop = record s { search = s.search ++ orders.Stop ∷ [] }
+state_with_kept s order = s
 
 -- THE LIFE
 
@@ -155,29 +155,30 @@ abbrev pub gives : RevivalState → LifeSaid → Bool
 gives s word = is_given word s.life s.upper (is_nil s.unsent)
 
 -- the line, if it is passed up
-abbrev pub given : RevivalState → List ℕ → List ℕ
-given s line = if gives s (said_in line) then line ++ line_feed ∷ [] else []
+abbrev pub line_passed_up : RevivalState → List ℕ → List ℕ
+line_passed_up s line = if gives s (said_in line) then line ++ line_feed ∷ [] else []
 
 -- EACH CALL, BEFORE WHAT FOLLOWS OF IT
 
-abbrev pub accepting : Option DialogueState → RevivalState → RevivalOrder → RevivalState
-accepting None s order = s
-accepting (Some up) s order = record (keeping s order) { upper = up; life = after_at_once s.life order }
+abbrev pub state_if_accepted : Option DialogueState → RevivalState → RevivalOrder → RevivalState
+state_if_accepted None s order = s
+state_if_accepted (Some up) s order = record (state_with_kept s order) { upper = up; life = after_at_once s.life order }
 
 -- No order is accepted after `quit`.
-abbrev pub accepted : RevivalState → RevivalOrder → Option DialogueState
-accepted s order = if s.quit then None else after_order order s.upper
+abbrev pub upper_if_accepted : RevivalState → RevivalOrder → Option DialogueState
+upper_if_accepted s order = if s.quit then None else after_order order s.upper
 
-abbrev pub reading : RevivalState → Option RevivalOrder → RevivalState
-reading s None = s
-reading s (Some order) = accepting (accepted s order) s order
+abbrev pub state_after_reading : RevivalState → Option RevivalOrder → RevivalState
+state_after_reading s None = s
+state_after_reading s (Some order) = state_if_accepted (upper_if_accepted s order) s order
 
 abbrev pub with_quit : RevivalState → RevivalState
 with_quit s = record s { quit = true }
 
 -- An order came. `quit` is accepted once, in every state.
-abbrev pub ordering : RevivalState → List ℕ → RevivalState
-ordering s line = if is_quit line then with_quit s else reading s (asked line)
+abbrev pub state_after_line : RevivalState → List ℕ → RevivalState
+state_after_line s line =
+    if is_quit line then with_quit s else state_after_reading s (order_of_line line)
 
 abbrev pub accepted_at_once : Option DialogueState → LifeState → RevivalOrder → List RevivalOrder
 accepted_at_once None state order = []
@@ -185,7 +186,7 @@ accepted_at_once (Some up) state order = if takes_at_once state order then order
 
 abbrev pub read_at_once : RevivalState → Option RevivalOrder → List RevivalOrder
 read_at_once s None = []
-read_at_once s (Some order) = accepted_at_once (accepted s order) s.life order
+read_at_once s (Some order) = accepted_at_once (upper_if_accepted s order) s.life order
 
 -- `quit` is written at once to a life that got `uci` and has not ended.
 abbrev pub quit_to : Bool → LifeState → List RevivalOrder
@@ -194,26 +195,26 @@ quit_to quit state = if not quit && is_served state then orders.Quit ∷ [] else
 -- what is written to the life as it comes
 abbrev pub at_once : RevivalState → List ℕ → List RevivalOrder
 at_once s line =
-    if is_quit line then quit_to s.quit s.life else read_at_once s (asked line)
+    if is_quit line then quit_to s.quit s.life else read_at_once s (order_of_line line)
 
 -- The life was heard.
-abbrev pub hearing : RevivalState → LifeSaid → RevivalState
-hearing s word = record s {
+abbrev pub state_once_heard : RevivalState → LifeSaid → RevivalState
+state_once_heard s word = record s {
   upper = (if gives s word then after_said s.upper word else s.upper);
   life = life_after_said s.life word;
 }
 
 -- The life has ended.
-abbrev pub ending : RevivalState → RevivalState
-ending s = record s { life = life.Ended }
+abbrev pub state_once_ended : RevivalState → RevivalState
+state_once_ended s = record s { life = life.Ended }
 
 -- whether another life may begin
 abbrev pub may_begin : RevivalState → Bool
 may_begin s = nat_lt s.begun s.lives && not s.quit && not s.full
 
 -- Another life begins. It got none of the settings, and `uci` if that came.
-abbrev pub beginning : RevivalState → RevivalState
-beginning s = record s {
+abbrev pub state_at_new_life : RevivalState → RevivalState
+state_at_new_life s = record s {
   begun = s.begun + 1;
   life = (if is_before s.upper then life.Fresh else life.Boot);
   unsent = s.kept;
@@ -223,8 +224,8 @@ abbrev pub first_order : DialogueState → List RevivalOrder
 first_order up = if is_before up then [] else orders.Uci ∷ []
 
 -- The life has ended, and no other follows.
-abbrev pub closing : RevivalState → RevivalState
-closing s = record s { life = life.Over }
+abbrev pub state_once_over : RevivalState → RevivalState
+state_once_over s = record s { life = life.Over }
 
 -- AFTER EACH CALL
 
@@ -234,8 +235,8 @@ due_of s = due_to s.life s.quit s.upper
 abbrev pub answer_of : RevivalState → StandInAnswer
 answer_of s = answer_to s.life s.upper
 
-abbrev pub settled : RevivalState → RevivalState
-settled s = after_answer (answer_of s) (after_due (due_of s) s)
+abbrev pub state_once_settled : RevivalState → RevivalState
+state_once_settled s = after_answer (answer_of s) (after_due (due_of s) s)
 
 abbrev pub settled_orders : RevivalState → List RevivalOrder
 settled_orders s = due_orders (due_of s) s.unsent s.search

@@ -15,8 +15,8 @@ abbrev pub opening : ℕ → View
 opening lives = record { state = steps.opening lives; up = empty UP_ROOM; child = empty CHILD_ROOM }
 
 -- with no lines
-abbrev pub cleared : View → View
-cleared v = record { state = v.state; up = empty v.up.room; child = empty v.child.room }
+abbrev pub view_without_lines : View → View
+view_without_lines v = record { state = v.state; up = empty v.up.room; child = empty v.child.room }
 
 pub record Keeps (v : View) : Type 0 where
   pub roomy : IsRoomy v.state

@@ -1,7 +1,7 @@
 // The names of options.
 ghost use Rattle.std.specs.Prelude.{◌≡◌, ◌∷◌, ◌<◌, [], length, MatchOption, IfSome};
 ghost use Rattle.peer_words.specs.Tokens.{tokens};
-ghost use Rattle.engine_revival.specs.Orders.{are_same_names, folded, name_in, words_before_value};
+ghost use Rattle.engine_revival.specs.Orders.{are_same_names, in_lowercase, name_in, words_before_value};
 
 use peer_words::next_token;
 
@@ -9,7 +9,7 @@ use peer_words::next_token;
 fn next_word(text: &[u8]) -> Option<(&[u8], &[u8])>
     ensures word { MatchOption result (words_before_value (tokens text.now) ≡ [])
         (λ p. words_before_value (tokens text.now)
-        ≡ folded p.0.now ∷ words_before_value (tokens p.1.now)) }
+        ≡ in_lowercase p.0.now ∷ words_before_value (tokens p.1.now)) }
     ensures shorter { IfSome result (λ p. length p.1.now < length text.now) }
 {
     let (word, behind) = next_token(text)?;

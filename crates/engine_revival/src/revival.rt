@@ -5,7 +5,7 @@ ghost use Rattle.engine_revival.specs.Calls as calls;
 ghost use Rattle.engine_revival.specs.Calls.{Gives, may, after};
 ghost use Rattle.line_io.specs.Event.{has_feed};
 ghost use Rattle.engine_revival.specs.Marks.{HaveRoom};
-ghost use Rattle.engine_revival.specs.View.{opening, cleared, Keeps};
+ghost use Rattle.engine_revival.specs.View.{opening, view_without_lines, Keeps};
 ghost use Rattle.engine_revival.specs.declared.state.TheConstants.{MOST_LINE};
 
 use crate::state::RevivalState;
@@ -32,7 +32,7 @@ pub(crate) struct RevivalParts {
 
 impl RevivalParts {
     fn clear(&mut self)
-        ensures { self.new ≡ cleared self.old }
+        ensures { self.new ≡ view_without_lines self.old }
     {
         self.up.clear();
         self.child.clear();

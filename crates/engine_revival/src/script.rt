@@ -9,7 +9,7 @@ ghost use Rattle.engine_revival.specs.Script.{may_happen, state_after, event_tex
 ghost use Rattle.engine_revival.specs.Script.{state_before, call_of};
 ghost use Rattle.engine_revival.specs.Calls.{Gives};
 ghost use Rattle.engine_revival.specs.Marks.{HaveRoom};
-ghost use Rattle.engine_revival.specs.Steps.{ending};
+ghost use Rattle.engine_revival.specs.Steps.{state_once_ended};
 ghost use Rattle.line_io.specs.declared.limits.TheConstants.{PEER_LINE};
 
 use crate::{Revival, RevivalStep};
@@ -72,7 +72,7 @@ impl Revival {
 
     fn turn(&mut self)
         requires { is_alive self.old.state.life ≡ true }
-        ensures { Gives (ending self.old.state) (call_of self.old.state EngineLong)
+        ensures { Gives (state_once_ended self.old.state) (call_of self.old.state EngineLong)
             self.new.state self.new.up.text self.new.child.text }
     {
         if self.ended() {

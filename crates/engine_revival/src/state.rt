@@ -9,11 +9,11 @@ ghost use Rattle.engine_revival.specs.Lists.{batch_text};
 ghost use Rattle.engine_revival.specs.Rooms.{IsRoomy};
 ghost use Rattle.engine_revival.specs.Marks.{AreLines};
 ghost use Rattle.line_io.specs.Event.{has_feed};
-ghost use Rattle.engine_revival.specs.Steps.{opening, keeping, with_value, with_button, answer_text};
+ghost use Rattle.engine_revival.specs.Steps.{opening, state_with_kept, with_value, with_button, answer_text};
 ghost use Rattle.engine_revival.specs.Steps.{is_alive, is_ended};
-ghost use Rattle.engine_revival.specs.Steps.{ordering, reading, at_once, read_at_once, with_quit};
-ghost use Rattle.engine_revival.specs.Steps.{hearing, beginning, first_order, closing, ending};
-ghost use Rattle.engine_revival.specs.Steps.{settled, settled_orders, answer_of, may_begin};
+ghost use Rattle.engine_revival.specs.Steps.{state_after_line, state_after_reading, at_once, read_at_once, with_quit};
+ghost use Rattle.engine_revival.specs.Steps.{state_once_heard, state_at_new_life, first_order, state_once_over, state_once_ended};
+ghost use Rattle.engine_revival.specs.Steps.{state_once_settled, settled_orders, answer_of, may_begin};
 ghost use Rattle.engine_revival.specs.Steps.{due_orders, after_due, after_answer};
 
 use crate::life::{answer_to, due_to, is_given};
@@ -68,7 +68,7 @@ impl RevivalState {
 
     ghost use Rattle.std.specs.Prelude.{◌&&◌, Some};
     ghost use Rattle.engine_revival.specs.Lists.{can_join};
-    ghost use Rattle.engine_revival.specs.Steps.{quit_to, given};
+    ghost use Rattle.engine_revival.specs.Steps.{quit_to, line_passed_up};
     ghost use Rattle.engine_revival.specs.declared.order_list.TheConstants.{LIST_ORDERS, LIST_BYTES};
     ghost use Rattle.engine_revival.specs.declared.state.RevivalState.{RevivalState};
 
@@ -113,7 +113,7 @@ impl RevivalState {
         requires order { order_of order.now ≡ spelled line.now }
         requires short { length line.now ≤ MOST_LINE }
         requires roomy { IsRoomy self.old }
-        ensures { self.new ≡ keeping self.old (spelled line.now) }
+        ensures { self.new ≡ state_with_kept self.old (spelled line.now) }
     {
         match order {
             RevivalOrder::Value { name: _, line: _ } => self.keep_value(line),
@@ -137,7 +137,7 @@ impl RevivalState {
         requires short { length line.now ≤ MOST_LINE }
         requires roomy { IsRoomy self.old }
         requires room { length child.old.text + MOST_LINE < child.old.room }
-        ensures state { self.new ≡ reading self.old (Some (spelled line.now)) }
+        ensures state { self.new ≡ state_after_reading self.old (Some (spelled line.now)) }
         ensures child { child.new
             ≡ with child.old (batch_text (read_at_once self.old (Some (spelled line.now)))) }
         ensures short { length child.new.text ≤ length child.old.text + (MOST_LINE + 1) }
@@ -160,7 +160,7 @@ impl RevivalState {
         requires short { length line.now ≤ MOST_LINE }
         requires roomy { IsRoomy self.old }
         requires room { length child.old.text + MOST_LINE < child.old.room }
-        ensures state { self.new ≡ reading self.old (order_in line.now) }
+        ensures state { self.new ≡ state_after_reading self.old (order_in line.now) }
         ensures child { child.new
             ≡ with child.old (batch_text (read_at_once self.old (order_in line.now))) }
         ensures short { length child.new.text ≤ length child.old.text + (MOST_LINE + 1) }
@@ -189,7 +189,7 @@ impl RevivalState {
         requires short { length line.now ≤ MOST_LINE }
         requires roomy { IsRoomy self.old }
         requires room { length child.old.text + MOST_LINE < child.old.room }
-        ensures state { self.new ≡ ordering self.old line.now }
+        ensures state { self.new ≡ state_after_line self.old line.now }
         ensures child { child.new ≡ with child.old (batch_text (at_once self.old line.now)) }
         ensures short { length child.new.text ≤ length child.old.text + (MOST_LINE + 1) }
     {
@@ -203,8 +203,8 @@ impl RevivalState {
     /// The life was heard.
     pub(crate) fn hear(&mut self, line: &[u8], up: &mut Out)
         requires { length up.old.text + length line.now < up.old.room }
-        ensures state { self.new ≡ hearing self.old (said_in line.now) }
-        ensures up { up.new ≡ with up.old (given self.old line.now) }
+        ensures state { self.new ≡ state_once_heard self.old (said_in line.now) }
+        ensures up { up.new ≡ with up.old (line_passed_up self.old line.now) }
     {
         let said = said_in(line);
         if is_given(said, self.life, self.upper, self.unsent.is_empty()) {
@@ -216,7 +216,7 @@ impl RevivalState {
 
     /// The life has ended: whether another may begin.
     pub(crate) fn end(&mut self) -> bool
-        ensures state { self.new ≡ ending self.old }
+        ensures state { self.new ≡ state_once_ended self.old }
         ensures may { result ≡ may_begin self.old }
     {
         self.life = LifeState::Ended;
@@ -227,7 +227,7 @@ impl RevivalState {
     pub(crate) fn begin(&mut self, child: &mut Out)
         requires few { self.old.begun < self.old.lives }
         requires room { length child.old.text + MOST_LINE < child.old.room }
-        ensures state { self.new ≡ beginning self.old }
+        ensures state { self.new ≡ state_at_new_life self.old }
         ensures child { child.new ≡ with child.old (batch_text (first_order self.old.upper)) }
         ensures short { length child.new.text ≤ length child.old.text + (MOST_LINE + 1) }
     {
@@ -243,7 +243,7 @@ impl RevivalState {
 
     /// The life has ended, and no other follows.
     pub(crate) fn close(&mut self)
-        ensures { self.new ≡ closing self.old }
+        ensures { self.new ≡ state_once_over self.old }
     {
         self.life = LifeState::Over;
     }
@@ -288,7 +288,7 @@ impl RevivalState {
         requires roomy { IsRoomy self.old }
         requires up { length up.old.text + 16 ≤ up.old.room }
         requires child { length child.old.text + (LIST_BYTES + SEARCH_BYTES) ≤ child.old.room }
-        ensures state { self.new ≡ settled self.old }
+        ensures state { self.new ≡ state_once_settled self.old }
         ensures up { up.new ≡ with up.old (answer_text (answer_of self.old)) }
         ensures child { child.new ≡ with child.old (batch_text (settled_orders self.old)) }
         ensures lines { AreLines (settled_orders self.old) DUE_ORDERS }

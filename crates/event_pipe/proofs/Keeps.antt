@@ -15,7 +15,7 @@ use Rattle.event_pipe.specs.declared.message.Peer.TheVariants as peers
 use Rattle.event_pipe.specs.declared.message.MessageBody.{MessageBody}
 use Rattle.event_pipe.specs.declared.message.MessageBody.TheVariants as says
 use Rattle.event_pipe.specs.Message.{role_of, sent_event, role_of_event, is_end, is_good}
-use Rattle.event_pipe.specs.Rule.{is_of, of, ended, Orderly, idle, sender, Adds, Gets, Fits, Delivers, AllGood, joined_first, joined_second}
+use Rattle.event_pipe.specs.Rule.{is_of, of, has_last_event, Orderly, idle, sender, Adds, Gets, Fits, Delivers, AllGood, joined_first, joined_second}
 
 pub of-append : (role : ℕ) (xs ys : List Event) → of role (xs ++ ys) ≡ of role xs ++ of role ys
 of-append role [] ys = refl
@@ -39,9 +39,9 @@ other x role n = grind (arith, nat_tests)
 pub is_own : (x : Event) (role : ℕ) → is_of role x ≡ true → role_of_event x ≡ role
 is_own x role h = grind (arith, nat_tests)
 
-orderly_snoc : (xs : List Event) (x : Event) → Orderly xs → ended xs ≡ false → Orderly (xs ++ x ∷ [])
+orderly_snoc : (xs : List Event) (x : Event) → Orderly xs → has_last_event xs ≡ false → Orderly (xs ++ x ∷ [])
 orderly_snoc [] x o e = ((λ _. refl), tt)
-orderly_snoc (y ∷ ys) x o e = ((λ t. cc), orderly_snoc ys x o.1 (or_parts (is_end y) (ended ys) e).1)
+orderly_snoc (y ∷ ys) x o e = ((λ t. cc), orderly_snoc ys x o.1 (or_parts (is_end y) (has_last_event ys) e).1)
 
 filled : (zs ys : List Event) (x : Event) → zs ++ x ∷ ys ≡ [] → ⊥
 filled [] ys x h = cc
@@ -51,9 +51,9 @@ at_y : (a b : Bool) → (a ≡ true → ⊥) → b ≡ false → (a || b) ≡ fa
 at_y true b n h = absurd (n refl)
 at_y false b n h = h
 
-orderly_before : (xs ys : List Event) (x : Event) → Orderly (xs ++ x ∷ ys) → ended xs ≡ false
+orderly_before : (xs ys : List Event) (x : Event) → Orderly (xs ++ x ∷ ys) → has_last_event xs ≡ false
 orderly_before [] ys x o = refl
-orderly_before (y ∷ zs) ys x o = at_y (is_end y) (ended zs) (λ t. filled zs ys x (o.0 t)) (orderly_before zs ys x o.1)
+orderly_before (y ∷ zs) ys x o = at_y (is_end y) (has_last_event zs) (λ t. filled zs ys x (o.0 t)) (orderly_before zs ys x o.1)
 
 tail : (xs ys : List Event) → xs ++ ys ≡ [] → ys ≡ []
 tail [] ys h = h
@@ -63,9 +63,9 @@ at_x : (a b : Bool) (ys : List Event) → (a ≡ true → ys ≡ []) → (b ≡ 
 at_x true b ys f g h = f refl
 at_x false b ys f g h = g h
 
-pub orderly_after : (xs ys : List Event) → Orderly (xs ++ ys) → ended xs ≡ true → ys ≡ []
+pub orderly_after : (xs ys : List Event) → Orderly (xs ++ ys) → has_last_event xs ≡ true → ys ≡ []
 orderly_after [] ys o e = cc
-orderly_after (x ∷ xs) ys o e = at_x (is_end x) (ended xs) ys (λ t. tail xs ys (o.0 t)) (λ t. orderly_after xs ys o.1 t) e
+orderly_after (x ∷ xs) ys o e = at_x (is_end x) (has_last_event xs) ys (λ t. tail xs ys (o.0 t)) (λ t. orderly_after xs ys o.1 t) e
 
 all_snoc : (xs : List Event) (x : Event) → AllGood xs → (is_good x ≡ true) × (role_of_event x ≢ 3) → AllGood (xs ++ x ∷ [])
 all_snoc [] x a p = (p, tt)
@@ -153,14 +153,14 @@ other_fits seat sent taken pass k v u x role n3 apart f g =
       second = λ z j. let s = g.second z j in (s.0, s.1 ∙ sym (kept_sent sent x 2 (not_none 2 s.0)));
     }
 
-orderly_more : (b : Bool) (xs : List Event) (x : Event) → Orderly xs → (b ≡ true → ended xs ≡ false) → Orderly (cond b (xs ++ x ∷ []) xs)
+orderly_more : (b : Bool) (xs : List Event) (x : Event) → Orderly xs → (b ≡ true → has_last_event xs ≡ false) → Orderly (cond b (xs ++ x ∷ []) xs)
 orderly_more true xs x o e = orderly_snoc xs x o (e refl)
 orderly_more false xs x o e = o
 
 one_more : (items : List Event) (x : Event) (cap : ℕ) → cap ≡ CHANNEL_ROOM → length items < cap → length (items ++ x ∷ []) ≤ CHANNEL_ROOM
 one_more items x cap e short = let l = length-append items (x ∷ []) in omega arith
 
-pub puts : (cap pass : ℕ) (v : KnownOfPass) (x : Event) → cap ≡ CHANNEL_ROOM → v.role ≡ role_of_event x → v.role ≢ 3 → v.role ≢ 0 → ended v.sent ≡ false → is_good x ≡ true → Pushes Delivers cap pass v x (Adds v x)
+pub puts : (cap pass : ℕ) (v : KnownOfPass) (x : Event) → cap ≡ CHANNEL_ROOM → v.role ≡ role_of_event x → v.role ≢ 3 → v.role ≢ 0 → has_last_event v.sent ≡ false → is_good x ≡ true → Pushes Delivers cap pass v x (Adds v x)
 puts cap pass v x full role n3 n0 on good items views short d at =
     let w : KnownOfPass = record v { sent = v.sent ++ x ∷ [] } in
     let mine = d.fits pass v at in (
@@ -171,7 +171,7 @@ puts cap pass v x full role n3 n0 on good items views short d at =
         taken = d.taken;
         each = λ r. ap (of r) (sym (append_assoc d.taken items (x ∷ []))) ∙ of_more d.sent x r (d.taken ++ items) (d.each r);
         room = one_more items x cap full short;
-        orderly = λ r. orderly_more (is_of r x) (d.sent r) x (d.orderly r) (λ is. ap ended (ap d.sent (sym (is_own x r is) ∙ sym role) ∙ sym (mine.sends n3 n0)) ∙ on);
+        orderly = λ r. orderly_more (is_of r x) (d.sent r) x (d.orderly r) (λ is. ap has_last_event (ap d.sent (sym (is_own x r is) ∙ sym role) ∙ sym (mine.sends n3 n0)) ∙ on);
         good = subst AllGood (append_assoc d.taken items (x ∷ [])) (all_snoc (d.taken ++ items) x d.good (good, λ e. n3 (role ∙ e)));
         fits = λ k u there. elim (at_set views pass k w u there) [
           | inl same ↦ subst (λ (h : KnownOfPass). Fits d.seat (more d.sent x) d.taken k h) same.1
@@ -229,7 +229,7 @@ takes pass v zero' x items views d at =
               }
         ];
       },
-      (refl, (ap (λ l. ended (of r l)) (mine.takes zero') ∙ orderly_before (of r d.taken) (of r items) x order, good.0, good.1)),
+      (refl, (ap (λ l. has_last_event (of r l)) (mine.takes zero') ∙ orderly_before (of r d.taken) (of r items) x order, good.0, good.1)),
     )
 
 abbrev seat_at : (ℕ → Option ℕ) → ℕ → Option ℕ → ℕ → Option ℕ

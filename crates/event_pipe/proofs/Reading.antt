@@ -10,7 +10,7 @@ use Rattle.line_io.specs.Event.{Event, has_feed, is_line}
 use Rattle.line_io.specs.Event as events
 use Rattle.line_io.specs.Source.{Supplied}
 use Rattle.line_io.specs.Causes.{HasCause}
-use Rattle.line_io.specs.Lines.{Piece, Whole, TooLong, Held, Given, Gave, Advances, EndsAt, Reads, rest, items, unread}
+use Rattle.line_io.specs.Lines.{Piece, Whole, TooLong, Held, Given, Gave, Advances, EndsAt, Reads, rest, items, empty_reader}
 use Rattle.line_io.specs.Lending.{outcome, AnswersWhen}
 use Rattle.line_io.specs.Runs.{Runs, Call, goes_on, pieces_of, whole, LinesSoFar, LinesAtEnd, LinesAtFault}
 use Rattle.line_io.specs.Runs as runs
@@ -25,8 +25,8 @@ use Rattle.event_pipe.specs.declared.reader.ReaderTurn.TheVariants as turns
 use Rattle.event_pipe.specs.declared.reader.ReadEnd.TheVariants as read_ends
 use Rattle.event_pipe.specs.Counts.{Tells}
 use Rattle.event_pipe.specs.Message.{sent_event, is_end, is_good}
-use Rattle.event_pipe.specs.Rule.{ended}
-use Rattle.event_pipe.specs.Arrivals.{piece_event, piece_events, last_event, arrivals, is_close, closed, Goes, Heard, Arrived}
+use Rattle.event_pipe.specs.Rule.{has_last_event}
+use Rattle.event_pipe.specs.Arrivals.{piece_event, piece_events, last_event, arrivals, is_close, has_close_event, Goes, Heard, Arrived}
 
 or_assoc : (a b c : Bool) → (a || (b || c)) ≡ ((a || b) || c)
 or_assoc true b c = refl
@@ -43,21 +43,21 @@ last_ends peers.Iface = refl
 last_ends peers.Engine = refl
 
 -- where none of these is an end, what comes after them arrives after them
-arrivals_behind : (p : Peer) (xs ys : List Piece) → ended (piece_events p xs) ≡ false → arrivals p (xs ++ ys) ≡ piece_events p xs ++ arrivals p ys
+arrivals_behind : (p : Peer) (xs ys : List Piece) → has_last_event (piece_events p xs) ≡ false → arrivals p (xs ++ ys) ≡ piece_events p xs ++ arrivals p ys
 arrivals_behind p [] ys h = refl
 arrivals_behind p (x ∷ xs) ys h =
-    let s = or_parts (is_end (piece_event p x)) (ended (piece_events p xs)) h in
+    let s = or_parts (is_end (piece_event p x)) (has_last_event (piece_events p xs)) h in
     ap (λ b. piece_event p x ∷ cond b [] (arrivals p (xs ++ ys))) s.0 ∙ ap (λ es. piece_event p x ∷ es) (arrivals_behind p xs ys s.1)
 
-arrivals_all : (p : Peer) (xs : List Piece) → ended (piece_events p xs) ≡ false → arrivals p xs ≡ piece_events p xs ++ last_event p ∷ []
+arrivals_all : (p : Peer) (xs : List Piece) → has_last_event (piece_events p xs) ≡ false → arrivals p xs ≡ piece_events p xs ++ last_event p ∷ []
 arrivals_all p xs h = ap (arrivals p) (sym (append-nil xs)) ∙ arrivals_behind p xs [] h
 
-arrivals_last : (p : Peer) (xs ys : List Piece) (x : Piece) → ended (piece_events p xs) ≡ false → is_end (piece_event p x) ≡ true → arrivals p (xs ++ x ∷ ys) ≡ piece_events p xs ++ piece_event p x ∷ []
+arrivals_last : (p : Peer) (xs ys : List Piece) (x : Piece) → has_last_event (piece_events p xs) ≡ false → is_end (piece_event p x) ≡ true → arrivals p (xs ++ x ∷ ys) ≡ piece_events p xs ++ piece_event p x ∷ []
 arrivals_last p xs ys x h e = arrivals_behind p xs (x ∷ ys) h ∙ ap (λ b. piece_events p xs ++ piece_event p x ∷ cond b [] (arrivals p ys)) e
 
 -- NO END BEHIND A LINE
 
-no_close : (p : Peer) (piece : Piece) → closed (piece_event p piece ∷ []) ≡ false
+no_close : (p : Peer) (piece : Piece) → has_close_event (piece_event p piece ∷ []) ≡ false
 no_close peers.Iface (Whole line) = refl
 no_close peers.Iface TooLong = refl
 no_close peers.Engine (Whole line) = refl
@@ -74,11 +74,11 @@ close_ends events.EngineLong h = refl
 close_ends events.EngineEnd h = cc
 close_ends events.EngineLost h = refl
 
-closed_none : (es : List Event) → ended es ≡ false → closed es ≡ false
+closed_none : (es : List Event) → has_last_event es ≡ false → has_close_event es ≡ false
 closed_none [] h = refl
 closed_none (e ∷ es) h =
-    let s = or_parts (is_end e) (ended es) h in
-    ap (λ b. b || closed es) (close_ends e s.0) ∙ closed_none es s.1
+    let s = or_parts (is_end e) (has_last_event es) h in
+    ap (λ b. b || has_close_event es) (close_ends e s.0) ∙ closed_none es s.1
 
 -- A LINE THAT MAY BE SENT
 
@@ -108,7 +108,7 @@ at_end_after false old new l0 lo ln xs got b r s f g h e = over_now l0 ln (h (b,
 
 -- TURNS
 
-pub heard_open : (p : Peer) (held : Held) (s : Supplied) (sent : List Event) → held ≡ unread 65536 → sent ≡ [] → Heard p held s s sent
+pub heard_open : (p : Peer) (held : Held) (s : Supplied) (sent : List Event) → held ≡ empty_reader 65536 → sent ≡ [] → Heard p held s s sent
 heard_open p held s sent h e = record {
   got = [];
   reads = record { given = Appends-nil s.given; left = Consumes-nil s.left };
@@ -118,7 +118,7 @@ heard_open p held s sent h e = record {
   runs = subst (λ (x : Held). Runs 65536 x [] [] 0) (sym h) runs.begins;
   at_end = λ x. let n : false ≡ true = sym (ap (λ (x : Held). x.ended) h) ∙ x in cc;
   sent_is = e;
-  going = ap ended e;
+  going = ap has_last_event e;
   same = refl;
 }
 
@@ -137,11 +137,11 @@ module _ (p : Peer) (old new : Held) (s0 so sn : Supplied) (before now : List Ev
   end_after t g e = at_end_after old.ended old new s0.left so.left sn.left h.got g.got refl h.reads.left g.reads.left h.at_end (λ o. g.call.advances.idle (inr o)) g.ends_at e
 
   -- its side has ended where its last event is an end
-  over_by : (e : Event) → is_end e ≡ true → now ≡ before ++ e ∷ [] → ended now ≡ true
-  over_by e x s = ap ended s ∙ any_append is_end before (e ∷ []) ∙ ap (λ b. b || ended (e ∷ [])) h.going ∙ ap (λ b. b || false) x
+  over_by : (e : Event) → is_end e ≡ true → now ≡ before ++ e ∷ [] → has_last_event now ≡ true
+  over_by e x s = ap has_last_event s ∙ any_append is_end before (e ∷ []) ∙ ap (λ b. b || has_last_event (e ∷ [])) h.going ∙ ap (λ b. b || false) x
 
-  events_going : ended (piece_events p h.given) ≡ false
-  events_going = sym (ap ended h.sent_is) ∙ h.going
+  events_going : has_last_event (piece_events p h.given) ≡ false
+  events_going = sym (ap has_last_event h.sent_is) ∙ h.going
 
   sent_last : (e : Event) → now ≡ before ++ e ∷ [] → now ≡ piece_events p h.given ++ e ∷ []
   sent_last e s = s ∙ ap (λ (es : List Event). es ++ e ∷ []) h.sent_is
@@ -159,7 +159,7 @@ module _ (p : Peer) (old new : Held) (s0 so sn : Supplied) (before now : List Ev
         runs = runs.goes h.runs g.call s.0;
         at_end = end_after turns.More g;
         sent_is = s.1 ∙ ap (λ (es : List Event). es ++ piece_events p more) h.sent_is ∙ sym (map-append (piece_event p) h.given more);
-        going = ap ended s.1 ∙ any_append is_end before (piece_events p more) ∙ ap (λ b. b || ended (piece_events p more)) h.going ∙ s.2;
+        going = ap has_last_event s.1 ∙ any_append is_end before (piece_events p more) ∙ ap (λ b. b || has_last_event (piece_events p more)) h.going ∙ s.2;
         same = g.count.same refl ∙ h.same;
       }
 
@@ -191,7 +191,7 @@ module _ (p : Peer) (old new : Held) (s0 so sn : Supplied) (before now : List Ev
         over = over_by (piece_event p piece) s.2 s.4;
         all = λ _. sent_last (piece_event p piece) s.4 ∙ sym (arrivals_last p h.given (rest new []) piece events_going s.2) ∙ ap (arrivals p) (sym given);
         at_end = λ _ c.
-            let n : closed now ≡ false = ap closed s.4 ∙ any_append is_close before (piece_event p piece ∷ []) ∙ ap (λ b. b || closed (piece_event p piece ∷ [])) (closed_none before h.going) ∙ no_close p piece in
+            let n : has_close_event now ≡ false = ap has_close_event s.4 ∙ any_append is_close before (piece_event p piece ∷ []) ∙ ap (λ b. b || has_close_event (piece_event p piece ∷ [])) (closed_none before h.going) ∙ no_close p piece in
             let z : false ≡ true = sym n ∙ c in cc;
         at_fault = λ f x. cc;
         cut = λ x. cc;
@@ -239,7 +239,7 @@ pub arrived_none : (p : Peer) (s : Supplied) (now : List Event) → now ≡ last
 arrived_none p s now e = record {
   got = [];
   reads = record { given = Appends-nil s.given; left = Consumes-nil s.left };
-  over = ap ended e ∙ ap (λ b. b || false) (last_ends p);
+  over = ap has_last_event e ∙ ap (λ b. b || false) (last_ends p);
   all = λ x. cc;
   at_end = λ x. cc;
   at_fault = λ f x. cc;
@@ -272,6 +272,6 @@ module _ (p : Peer) (old new : Held) (so sn : Supplied) (before now : List Event
     result = r;
     call = record { advances = k.2; answers = k.4 };
     ends_at = k.3;
-    sends = (on_as, adds ∙ ap (λ (x : Given). before ++ piece_events p (pieces_of x)) (sym gave_as), ap (λ (x : Given). ended (piece_events p (pieces_of x))) gave_as ∙ ap (λ b. b || false) last);
+    sends = (on_as, adds ∙ ap (λ (x : Given). before ++ piece_events p (pieces_of x)) (sym gave_as), ap (λ (x : Given). has_last_event (piece_events p (pieces_of x))) gave_as ∙ ap (λ b. b || false) last);
     count = same;
   }

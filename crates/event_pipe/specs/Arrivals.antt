@@ -17,7 +17,7 @@ use Rattle.event_pipe.specs.declared.reader.ReadEnd.{ReadEnd}
 use Rattle.event_pipe.specs.declared.reader.ReadEnd.TheVariants as read_ends
 use Rattle.event_pipe.specs.Counts.{Tells}
 use Rattle.event_pipe.specs.Message.{sent_event, is_end}
-use Rattle.event_pipe.specs.Rule.{ended}
+use Rattle.event_pipe.specs.Rule.{has_last_event}
 use Rattle.line_io.specs.declared.limits.TheConstants.{PEER_LINE}
 
 -- the longest line of a peer that is no long one
@@ -45,8 +45,8 @@ is_close IfaceEnd = true
 is_close EngineEnd = true
 is_close e = false
 
-abbrev pub closed : List Event → Bool
-closed events = list_any is_close events
+abbrev pub has_close_event : List Event → Bool
+has_close_event events = list_any is_close events
 
 -- a front of the lines, with no `quit` among them, and then the end
 pub record CutShort (p : Peer) (lines : List Piece) (sent : List Event) : Type 0 where
@@ -54,32 +54,32 @@ pub record CutShort (p : Peer) (lines : List Piece) (sent : List Event) : Type 0
   pub rest : List Piece
   pub is : lines ≡ front ++ rest
   pub sent_is : sent ≡ piece_events p front ++ last_event p ∷ []
-  pub going : ended (piece_events p front) ≡ false
+  pub going : has_last_event (piece_events p front) ≡ false
 
-abbrev pub failed : ReadEnd → Bool
-failed (read_ends.Fault f) = true
-failed r = false
+abbrev pub is_read_fault : ReadEnd → Bool
+is_read_fault (read_ends.Fault f) = true
+is_read_fault r = false
 
 -- What a reader has sent, of the bytes that its source gave.
 pub record Arrived (p : Peer) (before after : Supplied) (sent : List Event) (r : ReadEnd) : Type 0 where
   pub got : List ℕ
   pub reads : Reads before after got
   -- its side has ended
-  pub over : ended sent ≡ true
+  pub over : has_last_event sent ≡ true
   -- all that arrives
   pub all : r ≡ read_ends.Done → sent ≡ arrivals p (items line_limit got)
   -- no byte is left, but after `quit`
-  pub at_end : r ≡ read_ends.Done → closed sent ≡ true → IfSome before.left (λ _. IsAtEnd after.left)
+  pub at_end : r ≡ read_ends.Done → has_close_event sent ≡ true → IfSome before.left (λ _. IsAtEnd after.left)
   -- if reading failed: of the lines that a line feed ended
   pub at_fault : (f : ReadFault) → r ≡ read_ends.Fault f → sent ≡ arrivals p (whole line_limit got)
   -- if there was no memory
   pub cut : r ≡ read_ends.NoMemory → CutShort p (items line_limit got) sent
   -- the source's count of faults rose if reading failed, and otherwise is as before
-  pub count : Tells before.faults after.faults (failed r)
+  pub count : Tells before.faults after.faults (is_read_fault r)
 
 -- what a turn has sent, if the call of the reader of lines answered this
 abbrev pub Sends : Peer → Result Item ReadFault → List Event → List Event → ReaderTurn → Type 0
-Sends p r before now turns.More = IsTrue (goes_on r) × (now ≡ before ++ piece_events p (pieces_of (outcome r))) × (ended (piece_events p (pieces_of (outcome r))) ≡ false)
+Sends p r before now turns.More = IsTrue (goes_on r) × (now ≡ before ++ piece_events p (pieces_of (outcome r))) × (has_last_event (piece_events p (pieces_of (outcome r))) ≡ false)
 Sends p r before now turns.Done = IsTrue (is_end_answer r) × (now ≡ before ++ last_event p ∷ [])
 Sends p r before now turns.Quit = (piece : Piece) × (outcome r ≡ Gave piece) × (is_end (piece_event p piece) ≡ true) × IsTrue (goes_on r) × (now ≡ before ++ piece_event p piece ∷ [])
 Sends p r before now turns.Fault = IsErr r × (now ≡ before ++ last_event p ∷ [])
@@ -109,5 +109,5 @@ pub record Heard (p : Peer) (held : Held) (before after : Supplied) (sent : List
   pub runs : Runs line_limit held got given calls
   pub at_end : held.ended ≡ true → IfSome before.left (λ _. IsAtEnd after.left)
   pub sent_is : sent ≡ piece_events p given
-  pub going : ended sent ≡ false
+  pub going : has_last_event sent ≡ false
   pub same : after.faults ≡ before.faults

@@ -8,7 +8,7 @@ use Rattle.event_pipe.specs.declared.pipe.PipeSend.{PipeSend}
 use Rattle.event_pipe.specs.declared.pipe.PipeTake.{PipeTake}
 use Rattle.event_pipe.specs.declared.pipe.TheConstants.{CHANNEL_ROOM}
 use Rattle.event_pipe.specs.Message.{role_of}
-use Rattle.event_pipe.specs.Rule.{sent_by, ended}
+use Rattle.event_pipe.specs.Rule.{sent_by, has_last_event}
 
 -- a sender of a channel, with the pass of its peer
 pub record IsSender (s : PipeSend) : Type 0 where
@@ -25,18 +25,18 @@ pub record IsTaker (t : PipeTake) : Type 0 where
   pub joined : (view t.pass).joined ≡ 0
 
 -- the events sent so far, the oldest first
-abbrev pub sent : PipeSend → List Event
-sent s = (view s.pass).sent
+abbrev pub events_sent : PipeSend → List Event
+events_sent s = (view s.pass).sent
 
 -- the events taken so far, the oldest first
-abbrev pub taken : PipeTake → List Event
-taken t = (view t.pass).taken
+abbrev pub events_taken : PipeTake → List Event
+events_taken t = (view t.pass).taken
 
 abbrev pub IsFreshSender : PipeSend → Peer → Type 0
-IsFreshSender s peer = IsSender s × (s.peer ≡ peer) × (sent s ≡ [])
+IsFreshSender s peer = IsSender s × (s.peer ≡ peer) × (events_sent s ≡ [])
 
 abbrev pub IsFreshTaker : PipeTake → Type 0
-IsFreshTaker t = IsTaker t × (taken t ≡ [])
+IsFreshTaker t = IsTaker t × (events_taken t ≡ [])
 
 -- it is the sender of the same peer on the same channel
 abbrev pub KeepsSender : PipeSend → PipeSend → Type 0
@@ -52,10 +52,11 @@ AreOne a b t = (sends_on a.sender ≡ receives_on t.receiver) × (sends_on b.sen
 
 -- both senders together are at most the channel's room ahead of the taker
 abbrev pub AreWithinRoom : PipeSend → PipeSend → PipeTake → Type 0
-AreWithinRoom a b t = length (sent a) + length (sent b) ≤ length (taken t) + CHANNEL_ROOM
+AreWithinRoom a b t =
+    length (events_sent a) + length (events_sent b) ≤ length (events_taken t) + CHANNEL_ROOM
 
 -- Of what a peer's sender sent a front was taken, and all of it if that has the peer's end.
 pub record Came (peer : Peer) (taken sent : List Event) : Type 0 where
   pub left : List Event
   pub front : sent ≡ sent_by peer taken ++ left
-  pub whole : ended (sent_by peer taken) ≡ true → left ≡ []
+  pub whole : has_last_event (sent_by peer taken) ≡ true → left ≡ []

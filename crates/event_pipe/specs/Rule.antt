@@ -21,8 +21,8 @@ abbrev pub sent_by : Peer → List Event → List Event
 sent_by peer events = of (role_of peer) events
 
 -- the last event of a side is among them
-abbrev pub ended : List Event → Bool
-ended events = list_any is_end events
+abbrev pub has_last_event : List Event → Bool
+has_last_event events = list_any is_end events
 
 -- nothing follows an end
 abbrev pub Orderly : List Event → Type 0
@@ -34,12 +34,13 @@ abbrev pub AllGood : List Event → Type 0
 AllGood [] = Unit {0}
 AllGood (e ∷ es) = ((is_good e ≡ true) × (role_of_event e ≢ 3)) × AllGood es
 
-abbrev pub known : ℕ → ℕ → ℕ → List Event → List Event → List Event → List Event → KnownOfPass
-known role made joined sent taken first second = record { role = role; made = made; joined = joined; sent = sent; taken = taken; first = first; second = second }
+abbrev pub knowledge_of_pass : ℕ → ℕ → ℕ → List Event → List Event → List Event → List Event
+    → KnownOfPass
+knowledge_of_pass role made joined sent taken first second = record { role = role; made = made; joined = joined; sent = sent; taken = taken; first = first; second = second }
 
 -- a pass that knows nothing yet, of the taker
 abbrev pub idle : KnownOfPass
-idle = known 0 0 0 [] [] [] []
+idle = knowledge_of_pass 0 0 0 [] [] [] []
 
 -- a send adds the event to what its sender has sent, and changes nothing else
 abbrev pub Adds : KnownOfPass → Event → KnownOfPass → Type 0
@@ -47,7 +48,7 @@ Adds v x w = w ≡ record v { sent = v.sent ++ x ∷ [] }
 
 -- after what was taken it may come: its side has not ended, and its line is within the limit
 abbrev pub Follows : List Event → Event → Type 0
-Follows taken x = (ended (of (role_of_event x) taken) ≡ false) × (is_good x ≡ true) × (role_of_event x ≢ 3)
+Follows taken x = (has_last_event (of (role_of_event x) taken) ≡ false) × (is_good x ≡ true) × (role_of_event x ≢ 3)
 
 -- a receive adds the event to what was taken, and changes nothing else
 abbrev pub Gets : KnownOfPass → Event → KnownOfPass → Type 0
@@ -94,7 +95,7 @@ abbrev pub made_second : KnownOfPass → KnownOfPass
 made_second v = record v { made = 2 }
 
 abbrev pub sender : ℕ → KnownOfPass
-sender role = known role 0 0 [] [] [] []
+sender role = knowledge_of_pass role 0 0 [] [] [] []
 
 abbrev pub joined_first : KnownOfPass → KnownOfPass → KnownOfPass
 joined_first v w = record v { joined = 1; first = w.sent }

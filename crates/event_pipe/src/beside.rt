@@ -5,7 +5,7 @@ use std::thread::{Threads, join_mut};
 
 /// Calls all three, the first two in threads of their own and the last in this one. If no thread can
 /// be made for one of the first two, it is called in the thread that would have made it, once the
-/// others that stand behind it are done.
+/// others that stand after it are done.
 pub fn join_three<
     F: FnMut() -> A + Send,
     G: FnMut() -> B + Send,

@@ -3,8 +3,8 @@ ghost use Rattle.std.specs.Prelude.{◌≡◌, ℕ, [], ◌++◌, ◌∷◌, tru
 ghost use Rattle.crossbeam_channel.specs.Claims.{view};
 ghost use Rattle.crossbeam_channel.specs.Ends.{sends_on, receives_on};
 ghost use Rattle.event_pipe.specs.Message.{role_of, sent_event, is_good};
-ghost use Rattle.event_pipe.specs.Rule.{Adds, Gets, ended, Follows};
-ghost use Rattle.event_pipe.specs.Ends.{IsSender, IsTaker, IsFreshSender, IsFreshTaker, KeepsSender, KeepsTaker, AreOne, AreWithinRoom, Came, sent, taken};
+ghost use Rattle.event_pipe.specs.Rule.{Adds, Gets, has_last_event, Follows};
+ghost use Rattle.event_pipe.specs.Ends.{IsSender, IsTaker, IsFreshSender, IsFreshTaker, KeepsSender, KeepsTaker, AreOne, AreWithinRoom, Came, events_sent, events_taken};
 ghost use Rattle.event_pipe.specs.declared.message.Peer.TheVariants as peers;
 
 use crate::{MessageBody, Peer, Sent};
@@ -150,10 +150,11 @@ impl PipeSend {
     /// Sending it at the back, under the sender's peer.
     pub fn send<R: Wait>(&mut self, rt: &R, what: MessageBody)
         requires sender { IsSender self.old }
-        requires ended { ended (sent self.old) ≡ false }
+        requires ended { has_last_event (events_sent self.old) ≡ false }
         requires good { is_good (sent_event self.old.peer what) ≡ true }
         ensures keeps { KeepsSender self.old self.new }
-        ensures adds { sent self.new ≡ sent self.old ++ sent_event self.old.peer what ∷ [] }
+        ensures adds { events_sent self.new
+            ≡ events_sent self.old ++ sent_event self.old.peer what ∷ [] }
     {
         let mut message = Sent::new(self.peer, what);
         for _ in rt.forever() {
@@ -174,8 +175,8 @@ impl PipeTake {
     pub fn take<R: Wait>(&mut self, rt: &R) -> Sent
         requires taker { IsTaker self.old }
         ensures keeps { KeepsTaker self.old self.new }
-        ensures gets { taken self.new ≡ taken self.old ++ result ∷ [] }
-        ensures follows { Follows (taken self.old) result }
+        ensures gets { events_taken self.new ≡ events_taken self.old ++ result ∷ [] }
+        ensures follows { Follows (events_taken self.old) result }
     {
         for _ in rt.forever() {
             match self.receiver.recv_as::<Taking, R>(rt, &mut self.pass) {
@@ -224,8 +225,8 @@ impl Pipe {
         requires engine { IsSender engine × (engine.peer ≡ peers.Engine) }
         requires taker { IsTaker taker }
         requires one { AreOne iface engine taker }
-        ensures iface { Came peers.Iface (taken taker) (sent iface) }
-        ensures engine { Came peers.Engine (taken taker) (sent engine) }
+        ensures iface { Came peers.Iface (events_taken taker) (events_sent iface) }
+        ensures engine { Came peers.Engine (events_taken taker) (events_sent engine) }
         ensures room { AreWithinRoom iface engine taker }
     {
         let PipeSend {

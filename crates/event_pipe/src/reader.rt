@@ -1,9 +1,9 @@
 // A reader: it sends the lines of its source.
 ghost use Rattle.std.specs.Prelude.{◌≡◌, ℕ, List, [], true, false, IfOk};
-ghost use Rattle.line_io.specs.Lines.{unread};
+ghost use Rattle.line_io.specs.Lines.{empty_reader};
 ghost use Rattle.event_pipe.specs.Message.{sent_event, is_end};
-ghost use Rattle.event_pipe.specs.Rule.{ended};
-ghost use Rattle.event_pipe.specs.Ends.{IsSender, KeepsSender, sent};
+ghost use Rattle.event_pipe.specs.Rule.{has_last_event};
+ghost use Rattle.event_pipe.specs.Ends.{IsSender, KeepsSender, events_sent};
 ghost use Rattle.event_pipe.specs.Arrivals.{line_limit, Goes, Arrived};
 ghost use Rattle.event_pipe.specs.declared.message.MessageBody.TheVariants as says;
 
@@ -53,11 +53,11 @@ fn read_turn<S: Source, R: Wait>(
     to: &mut PipeSend,
 ) -> ReaderTurn
     requires sender { IsSender to.old }
-    requires going { ended (sent to.old) ≡ false }
+    requires going { has_last_event (events_sent to.old) ≡ false }
     requires limit { lines.old.limit ≡ line_limit }
     ensures keeps { KeepsSender to.old to.new }
     ensures goes { Goes to.old.peer lines.old lines.new (S.state source.old) (S.state source.new)
-        (sent to.old) (sent to.new) result }
+        (events_sent to.old) (events_sent to.new) result }
 {
     match lines.next(source) {
         Err(_) => {
@@ -97,10 +97,10 @@ pub fn read_pipe<S: Source, R: Wait>(
     to: &mut PipeSend,
 ) -> ReadEnd
     requires sender { IsSender to.old }
-    requires fresh { sent to.old ≡ [] }
+    requires fresh { events_sent to.old ≡ [] }
     ensures keeps { KeepsSender to.old to.new }
     ensures arrived { Arrived to.old.peer (S.state source.old) (S.state source.new)
-        (sent to.new) result }
+        (events_sent to.new) result }
 {
     lines_of_all_calls();
     let Ok(mut lines) = Lines::make(alloc, PEER_LINE) else {

@@ -9,7 +9,7 @@ use Rattle.option_map.specs.Names.{holds}
 use Rattle.option_map.specs.Settings.{OptionSetting, features, feature_line}
 use Rattle.option_map.specs.Shown.{takes_memory, takes_cores, takes_tables}
 use Rattle.option_map.proofs.Short.{features_length}
-use Rattle.feature_talk.specs.Features.{shown_name, in_quotes, bit, fixed, by_options, option_feature, shown_options, feature_list, reply_line, reply_lines, IsShort, is_unfit, tables}
+use Rattle.feature_talk.specs.Features.{shown_name, in_quotes, bit, fixed_features, by_options, option_feature, shown_options, feature_list, reply_line, reply_lines, IsShort, is_unfit, tables}
 
 shown_step : (w : Bool) (o : OptionSetting) (rest : List OptionSetting) (text : List ℕ) → text ≡ reply_lines (map option_feature rest) → (if w then [] else feature_line o ++ 10 ∷ []) ++ text ≡ reply_lines (map option_feature (cond (not w) (o ∷ rest) rest))
 shown_step true o rest text h = h
@@ -27,14 +27,14 @@ abbrev pub done_line : List ℕ
 done_line = codes "feature done=1\n"
 
 -- the whole text, part by part
-pub list_text : (os : List OptionSetting) (said : List ℕ) → reply_lines (feature_list os said) ≡ name_line said ++ reply_lines fixed ++ reply_lines (by_options os) ++ features os ++ done_line
+pub list_text : (os : List OptionSetting) (said : List ℕ) → reply_lines (feature_list os said) ≡ name_line said ++ reply_lines fixed_features ++ reply_lines (by_options os) ++ features os ++ done_line
 list_text os said =
     let name = Feature (codes "myname") (in_quotes (shown_name said)) in
     let shown = map option_feature (shown_options os) in
-    flat_map-append reply_line (name ∷ fixed ++ by_options os ++ shown) (Feature (codes "done") (codes "1") ∷ [])
-    ∙ ap (λ (t : List ℕ). t ++ done_line) (flat_map-append reply_line (name ∷ fixed ++ by_options os) shown
-    ∙ ap (λ (t : List ℕ). t ++ reply_lines shown) (flat_map-append reply_line (name ∷ fixed) (by_options os)))
-    ∙ ap (λ (t : List ℕ). name_line said ++ reply_lines fixed ++ reply_lines (by_options os) ++ t ++ done_line) (sym (features_told os))
+    flat_map-append reply_line (name ∷ fixed_features ++ by_options os ++ shown) (Feature (codes "done") (codes "1") ∷ [])
+    ∙ ap (λ (t : List ℕ). t ++ done_line) (flat_map-append reply_line (name ∷ fixed_features ++ by_options os) shown
+    ∙ ap (λ (t : List ℕ). t ++ reply_lines shown) (flat_map-append reply_line (name ∷ fixed_features) (by_options os)))
+    ∙ ap (λ (t : List ℕ). name_line said ++ reply_lines fixed_features ++ reply_lines (by_options os) ++ t ++ done_line) (sym (features_told os))
 
 -- the name with its line feed, put in three pieces
 pub named : (o : Text) (name : List ℕ) → with (with (with o (codes "feature myname=\"")) name) (codes "\"\n") ≡ with o (reply_line (Feature (codes "myname") (in_quotes name)))
@@ -101,7 +101,7 @@ options_length false false false = omega arith
 pub short_list : IsShort
 short_list os said =
     let a = name_line said in
-    let b = reply_lines fixed in
+    let b = reply_lines fixed_features in
     let d = reply_lines (by_options os) in
     let e = features os in
     omega (

@@ -25,8 +25,8 @@ bit true = codes "1"
 bit false = codes "0"
 
 -- the features that are the same for all engines
-abbrev pub fixed : List Reply
-fixed =
+abbrev pub fixed_features : List Reply
+fixed_features =
     Feature (codes "ping") (codes "1") ∷ Feature (codes "setboard") (codes "1") ∷ Feature (codes "playother") (codes "1") ∷ Feature (codes "san") (codes "0")
     ∷ Feature (codes "usermove") (codes "1") ∷ Feature (codes "time") (codes "1") ∷ Feature (codes "draw") (codes "1") ∷ Feature (codes "sigint") (codes "0")
     ∷ Feature (codes "sigterm") (codes "0") ∷ Feature (codes "reuse") (codes "1") ∷ Feature (codes "analyze") (codes "1")
@@ -53,7 +53,7 @@ shown_options os = filter (λ o. not o.hidden) os
 -- The whole list. The name is the one that the engine said, or nothing.
 abbrev pub feature_list : List OptionSetting → List ℕ → List Reply
 feature_list os said =
-    Feature (codes "myname") (in_quotes (shown_name said)) ∷ fixed ++ by_options os ++ map option_feature (shown_options os) ++ Feature (codes "done") (codes "1") ∷ []
+    Feature (codes "myname") (in_quotes (shown_name said)) ∷ fixed_features ++ by_options os ++ map option_feature (shown_options os) ++ Feature (codes "done") (codes "1") ∷ []
 
 -- a reply as it is written, with its line feed
 abbrev pub reply_line : Reply → List ℕ

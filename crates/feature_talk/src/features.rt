@@ -2,7 +2,7 @@
 ghost use Rattle.std.specs.Prelude.{◌≡◌, ◌≤◌, ◌+◌, ◌∷◌, [], length, codes};
 ghost use Rattle.line_io.specs.Out.{with};
 ghost use Rattle.cecp_lines.specs.Replies.{Feature};
-ghost use Rattle.feature_talk.specs.Features.{shown_name, in_quotes, bit, fixed, tables, by_options, feature_list, reply_line, reply_lines};
+ghost use Rattle.feature_talk.specs.Features.{shown_name, in_quotes, bit, fixed_features, tables, by_options, feature_list, reply_line, reply_lines};
 ghost use Rattle.feature_talk.specs.declared.features.TheConstants.{MOST_NAME};
 
 use line_io::Out;
@@ -38,8 +38,8 @@ fn put_name(name: &[u8], out: &mut Out)
 }
 
 fn put_fixed(out: &mut Out)
-    requires { length out.old.text + length (reply_lines fixed) ≤ out.old.room }
-    ensures { out.new ≡ with out.old (reply_lines fixed) }
+    requires { length out.old.text + length (reply_lines fixed_features) ≤ out.old.room }
+    ensures { out.new ≡ with out.old (reply_lines fixed_features) }
 {
     out.put(
         b"feature ping=1\nfeature setboard=1\nfeature playother=1\nfeature san=0\nfeature usermove=1\nfeature time=1\nfeature draw=1\nfeature sigint=0\nfeature sigterm=0\nfeature reuse=1\nfeature analyze=1\nfeature variants=\"normal\"\nfeature colors=0\n",

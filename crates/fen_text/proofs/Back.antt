@@ -2,13 +2,13 @@
 use Rattle.std.proofs.Common.{◌^◌, ◌<◌, [], ◌∷◌, ap, ◌∙◌, arith, decimal}
 use Rattle.chess_board.proofs.Facts.{board_fits, built-same, passant_rank}
 use Rattle.fen_text.specs.Fen.{position_of, position_of_fields, or_fault}
-use Rattle.fen_text.specs.Written.{written, board_text, side_text, rights_text, passant_text, ReadsBack}
+use Rattle.fen_text.specs.Written.{position_fen, board_text, side_text, rights_text, passant_text, ReadsBack}
 use Rattle.fen_text.proofs.Cut.{fields_of_words}
 use Rattle.fen_text.proofs.Boards.{board_of-text, word-board}
 use Rattle.fen_text.proofs.Others.{side_of-text, word-side, rights_of-text, word-rights, passant_of-text, word-passant, count_of-text, word-count}
 
 pub reads_back : ReadsBack
-unfolding position_of written
+unfolding position_of position_fen
 reads_back p q =
     let half : p.half < 2 ^ 64 = let h = q.half in omega arith in
     let full : p.full < 2 ^ 64 = let f = q.full in omega arith in

@@ -9,7 +9,7 @@ use Rattle.chess_board.specs.declared.board.Kind.{Kind}
 use Rattle.chess_board.specs.declared.board.Kind.TheVariants.{Pawn}
 use Rattle.chess_board.specs.Board.{Man, Men}
 use Rattle.chess_board.specs.Play.{fits_board}
-use Rattle.fen_text.specs.Squares.{joined, squares_of, squares_in, rank_of, men_of, ranks_in, placed, is_slash, board_of}
+use Rattle.fen_text.specs.Squares.{men_if_both, squares_of, squares_in, rank_of, men_of, ranks_in, men_in_field, is_slash, board_of}
 use Rattle.fen_text.specs.Written.{run, rank_text, row, lower_ranks, letter_of, board_text, top_rank}
 use Rattle.fen_text.proofs.Joined.{joined-assoc, joined-nothing}
 use Rattle.fen_text.proofs.Rows.{length-row}
@@ -34,13 +34,13 @@ squares_in-run (suc n) h =
     let e : ltb 0 (suc n) ≡ true = grind (arith, nat_tests) in
     rw e (joined-nothing _ ∙ squares_of_digit (suc n) l h)
 
-nothing-joined : (a : Option Men) → joined (Some []) a ≡ a
+nothing-joined : (a : Option Men) → men_if_both (Some []) a ≡ a
 nothing-joined None = refl
 nothing-joined (Some x) = refl
 
-squares_in-append : (xs ys : List ℕ) → squares_in (xs ++ ys) ≡ joined (squares_in xs) (squares_in ys)
+squares_in-append : (xs ys : List ℕ) → squares_in (xs ++ ys) ≡ men_if_both (squares_in xs) (squares_in ys)
 squares_in-append [] ys = sym (nothing-joined (squares_in ys))
-squares_in-append (x ∷ xs) ys = ap (joined (squares_of x)) (squares_in-append xs ys) ∙ sym (joined-assoc (squares_of x) (squares_in xs) (squares_in ys))
+squares_in-append (x ∷ xs) ys = ap (men_if_both (squares_of x)) (squares_in-append xs ys) ∙ sym (joined-assoc (squares_of x) (squares_in xs) (squares_in ys))
 
 replicate_more : (n : ℕ) (x : Man) (xs : Men) → replicate (suc n) x ++ xs ≡ replicate n x ++ x ∷ xs
 replicate_more zero x xs = refl
@@ -110,7 +110,7 @@ ranks_in-board : (men : Men) → ranks_in (board_text men) ≡ texts men 8
 unfolding board_text top_rank texts
 ranks_in-board men = ranks_in-texts men 7 (rank_text 0 (row men 7)) (above-rank_text (row men 7) 0)
 
-placed-board : (men : Men) → length men ≡ 64 → placed (board_text men) ≡ Some men
+placed-board : (men : Men) → length men ≡ 64 → men_in_field (board_text men) ≡ Some men
 placed-board men whole =
     let ranks = ranks_in-board men in
     let eight : length (texts men 8) ≡ 8 = length-texts men 8 in

@@ -9,23 +9,23 @@ use Rattle.std.specs.Prelude.{◌↔◌, IsOk, IfOk}
 use Rattle.std.specs.Result.{result_ok}
 use Rattle.std.specs.List.{slice_get}
 use Rattle.chess_board.specs.Board.{Men}
-use Rattle.fen_text.specs.Squares.{joined, exactly, HasMoreThan, squares_of, squares_in, rank_of, men_of}
+use Rattle.fen_text.specs.Squares.{men_if_both, exactly, HasMoreThan, squares_of, squares_in, rank_of, men_of}
 
-pub joined-assoc : (a b c : Option Men) → joined (joined a b) c ≡ joined a (joined b c)
+pub joined-assoc : (a b c : Option Men) → men_if_both (men_if_both a b) c ≡ men_if_both a (men_if_both b c)
 joined-assoc None b c = refl
 joined-assoc (Some x) None c = refl
 joined-assoc (Some x) (Some y) None = refl
 joined-assoc (Some x) (Some y) (Some z) = ap Some (append_assoc x y z)
 
-pub joined-none : (a : Option Men) → joined a None ≡ None
+pub joined-none : (a : Option Men) → men_if_both a None ≡ None
 joined-none None = refl
 joined-none (Some x) = refl
 
-pub joined-first : (a : Option Men) → joined (Some []) a ≡ a
+pub joined-first : (a : Option Men) → men_if_both (Some []) a ≡ a
 joined-first None = refl
 joined-first (Some x) = refl
 
-pub joined-nothing : (a : Option Men) → joined a (Some []) ≡ a
+pub joined-nothing : (a : Option Men) → men_if_both a (Some []) ≡ a
 joined-nothing None = refl
 joined-nothing (Some x) = ap Some (append-nil x)
 
@@ -33,36 +33,36 @@ more_than : (m n k : ℕ) → n < m → eqb (m + k) n ≡ false
 more_than m n k h = grind (arith, nat_tests)
 
 -- what follows makes it no fewer
-pub too_many : (n : ℕ) (a b : Option Men) → HasMoreThan n a → exactly n (joined a b) ≡ None
+pub too_many : (n : ℕ) (a b : Option Men) → HasMoreThan n a → exactly n (men_if_both a b) ≡ None
 too_many n None b h = refl
 too_many n (Some x) None h = refl
 too_many n (Some x) (Some y) h =
     let e : eqb (length (x ++ y)) n ≡ false = rw length-append (more_than (length x) n (length y) h) in
     rw e refl
 
-pub squares_first : (bytes : List ℕ) (i : ℕ) → i < length bytes → squares_in (drop i bytes) ≡ joined (squares_of (get_or bytes i 0)) (squares_in (drop (i + 1) bytes))
+pub squares_first : (bytes : List ℕ) (i : ℕ) → i < length bytes → squares_in (drop i bytes) ≡ men_if_both (squares_of (get_or bytes i 0)) (squares_in (drop (i + 1) bytes))
 squares_first bytes i h =
     let n : i + 1 ≡ suc i = omega arith in
     rw (n, drop-cons bytes i 0) refl
 
 -- the squares of one more byte
-pub row_more : (bytes : List ℕ) (i : ℕ) (old new : Men) → i < length bytes → joined (Some old) (squares_of (get_or bytes i 0)) ≡ Some new → joined (Some old) (squares_in (drop i bytes)) ≡ squares_in bytes → joined (Some new) (squares_in (drop (i + 1) bytes)) ≡ squares_in bytes
+pub row_more : (bytes : List ℕ) (i : ℕ) (old new : Men) → i < length bytes → men_if_both (Some old) (squares_of (get_or bytes i 0)) ≡ Some new → men_if_both (Some old) (squares_in (drop i bytes)) ≡ squares_in bytes → men_if_both (Some new) (squares_in (drop (i + 1) bytes)) ≡ squares_in bytes
 row_more bytes i old new h put e =
-    ap (λ (row : Option Men). joined row (squares_in (drop (i + 1) bytes))) (sym put)
+    ap (λ (row : Option Men). men_if_both row (squares_in (drop (i + 1) bytes))) (sym put)
     ∙ joined-assoc (Some old) (squares_of (get_or bytes i 0)) (squares_in (drop (i + 1) bytes))
-    ∙ ap (joined (Some old)) (sym (squares_first bytes i h))
+    ∙ ap (men_if_both (Some old)) (sym (squares_first bytes i h))
     ∙ e
 
 -- a byte whose squares are too many, or that stands for none
-pub row_lost : (bytes : List ℕ) (i : ℕ) (old : Men) → i < length bytes → HasMoreThan 8 (joined (Some old) (squares_of (get_or bytes i 0))) → joined (Some old) (squares_in (drop i bytes)) ≡ squares_in bytes → rank_of bytes ≡ None
+pub row_lost : (bytes : List ℕ) (i : ℕ) (old : Men) → i < length bytes → HasMoreThan 8 (men_if_both (Some old) (squares_of (get_or bytes i 0))) → men_if_both (Some old) (squares_in (drop i bytes)) ≡ squares_in bytes → rank_of bytes ≡ None
 row_lost bytes i old h more e =
-    ap (exactly 8) (sym e ∙ ap (joined (Some old)) (squares_first bytes i h) ∙ sym (joined-assoc (Some old) (squares_of (get_or bytes i 0)) (squares_in (drop (i + 1) bytes))))
-    ∙ too_many 8 (joined (Some old) (squares_of (get_or bytes i 0))) (squares_in (drop (i + 1) bytes)) more
+    ap (exactly 8) (sym e ∙ ap (men_if_both (Some old)) (squares_first bytes i h) ∙ sym (joined-assoc (Some old) (squares_of (get_or bytes i 0)) (squares_in (drop (i + 1) bytes))))
+    ∙ too_many 8 (men_if_both (Some old) (squares_of (get_or bytes i 0))) (squares_in (drop (i + 1) bytes)) more
 
 -- once every byte is read
-pub row_done : (bytes : List ℕ) (i : ℕ) (row : Men) → length bytes ≤ i → joined (Some row) (squares_in (drop i bytes)) ≡ squares_in bytes → exactly 8 (Some row) ≡ rank_of bytes
+pub row_done : (bytes : List ℕ) (i : ℕ) (row : Men) → length bytes ≤ i → men_if_both (Some row) (squares_in (drop i bytes)) ≡ squares_in bytes → exactly 8 (Some row) ≡ rank_of bytes
 row_done bytes i row h e =
-    ap (exactly 8) (sym (joined-nothing (Some row)) ∙ ap (λ (rest : List ℕ). joined (Some row) (squares_in rest)) (sym (drop_all i bytes h)) ∙ e)
+    ap (exactly 8) (sym (joined-nothing (Some row)) ∙ ap (λ (rest : List ℕ). men_if_both (Some row) (squares_in rest)) (sym (drop_all i bytes h)) ∙ e)
 
 -- a row is taken whole if it is full
 pub full_row : {E : Type 0} (row : Men) (taken : Result Men E) → (IsOk taken ↔ (length row ≡ 8)) → IfOk taken (λ whole. whole ≡ row) → result_ok taken ≡ exactly 8 (Some row)
@@ -80,7 +80,7 @@ men_lost [] (suc i) e = e
 men_lost (upper ∷ lower) (suc i) e = rw (men_lost lower i e) refl
 
 -- one more rank, of eight
-pub lower_more : (ranks : List (List ℕ)) (k : ℕ) (upper : List ℕ) → length ranks ≡ 8 → k < 8 → slice_get ranks (7 - k) ≡ Some upper → men_of (drop (8 - (k + 1)) ranks) ≡ joined (men_of (drop (8 - k) ranks)) (rank_of upper)
+pub lower_more : (ranks : List (List ℕ)) (k : ℕ) (upper : List ℕ) → length ranks ≡ 8 → k < 8 → slice_get ranks (7 - k) ≡ Some upper → men_of (drop (8 - (k + 1)) ranks) ≡ men_if_both (men_of (drop (8 - k) ranks)) (rank_of upper)
 lower_more ranks k upper eight h at =
     let i : 8 - (k + 1) ≡ 7 - k = omega arith in
     let n : suc (7 - k) ≡ 8 - k = omega arith in

@@ -6,7 +6,7 @@ use Rattle.chess_board.specs.declared.board.Side.{Side}
 use Rattle.chess_board.specs.declared.board.Side.TheVariants.{White, Black}
 use Rattle.chess_board.specs.declared.board.Rights.{Rights}
 use Rattle.chess_board.specs.Board.{Men}
-use Rattle.fen_text.specs.Written.{rank_text, row, lower_ranks, board_text, top_rank, side_text, letter_if, rights_text, passant_text, written, IsShort}
+use Rattle.fen_text.specs.Written.{rank_text, row, lower_ranks, board_text, top_rank, side_text, letter_if, rights_text, passant_text, position_fen, IsShort}
 use Rattle.fen_text.proofs.Rows.{length-rank_text}
 
 length-rank : (men : Men) (rank : ℕ) → length (rank_text 0 (row men rank)) ≤ 8
@@ -65,7 +65,7 @@ length-count : (n : ℕ) → n ≤ 99999 → length (decimal n) ≤ 5
 length-count n h = length-decimal-le 5 n (lit< tt) (omega arith) (omega arith)
 
 pub length-written : IsShort
-unfolding written
+unfolding position_fen
 length-written p q =
     let b = length-board p.men in
     let s = length-side p.side in

@@ -8,7 +8,7 @@ use Rattle.chess_board.specs.declared.board.BuildFault.{BuildFault}
 use Rattle.chess_board.specs.declared.board.BuildFault.TheVariants as build
 use Rattle.chess_board.specs.Board.{Men}
 use Rattle.chess_board.specs.Position.{Position}
-use Rattle.chess_board.specs.Play.{built}
+use Rattle.chess_board.specs.Play.{position_if_built}
 use Rattle.peer_words.specs.Tokens.{tokens}
 use Rattle.fen_text.specs.declared.fault.FenFault.{FenFault}
 use Rattle.fen_text.specs.declared.fault.FenFault.TheVariants.{Board, Side as SideFault, Castling, EnPassant, Half, Full, Kings}
@@ -24,19 +24,19 @@ or_fault (Ok p) = Ok p
 or_fault (Err fault) = Err (fault_of fault)
 
 -- the position of what the fields spell, or the fault of the first that spells nothing
-abbrev pub spelled : Option Men → Option Side → Option Rights → Option (Option ℕ) → Option ℕ → Option ℕ → Result Position FenFault
-spelled None side rights passant half full = Err Board
-spelled (Some men) None rights passant half full = Err SideFault
-spelled (Some men) (Some side) None passant half full = Err Castling
-spelled (Some men) (Some side) (Some rights) None half full = Err EnPassant
-spelled (Some men) (Some side) (Some rights) (Some passant) None full = Err Half
-spelled (Some men) (Some side) (Some rights) (Some passant) (Some half) None = Err Full
-spelled (Some men) (Some side) (Some rights) (Some passant) (Some half) (Some full) =
-    or_fault (built (record { men = men; side = side; rights = rights; passant = passant; half = half; full = full }))
+abbrev pub position_from_fields : Option Men → Option Side → Option Rights → Option (Option ℕ) → Option ℕ → Option ℕ → Result Position FenFault
+position_from_fields None side rights passant half full = Err Board
+position_from_fields (Some men) None rights passant half full = Err SideFault
+position_from_fields (Some men) (Some side) None passant half full = Err Castling
+position_from_fields (Some men) (Some side) (Some rights) None half full = Err EnPassant
+position_from_fields (Some men) (Some side) (Some rights) (Some passant) None full = Err Half
+position_from_fields (Some men) (Some side) (Some rights) (Some passant) (Some half) None = Err Full
+position_from_fields (Some men) (Some side) (Some rights) (Some passant) (Some half) (Some full) =
+    or_fault (position_if_built (record { men = men; side = side; rights = rights; passant = passant; half = half; full = full }))
 
 -- The first four fields are needed. A half-move count that is missing is 0, and a full one 1.
 abbrev pub position_of_fields : List (List ℕ) → Result Position FenFault
-position_of_fields fields = spelled
+position_of_fields fields = position_from_fields
     (option_and_then board_of (slice_get fields 0))
     (option_and_then side_of (slice_get fields 1))
     (option_and_then rights_of (slice_get fields 2))

@@ -38,15 +38,15 @@ squares_of byte =
     else option_map (λ man. Some man ∷ []) (man_of byte)
 
 -- one after the other, if both are there
-abbrev pub joined : Option Men → Option Men → Option Men
-joined None after = None
-joined (Some squares) None = None
-joined (Some squares) (Some after) = Some (squares ++ after)
+abbrev pub men_if_both : Option Men → Option Men → Option Men
+men_if_both None after = None
+men_if_both (Some squares) None = None
+men_if_both (Some squares) (Some after) = Some (squares ++ after)
 
 -- what the bytes of a rank stand for, from the file a on
 abbrev pub squares_in : List ℕ → Option Men
 squares_in [] = Some []
-squares_in (byte ∷ bytes) = joined (squares_of byte) (squares_in bytes)
+squares_in (byte ∷ bytes) = men_if_both (squares_of byte) (squares_in bytes)
 
 -- only if there are as many
 abbrev pub exactly : ℕ → Option Men → Option Men
@@ -65,7 +65,7 @@ rank_of bytes = exactly 8 (squares_in bytes)
 -- the men on these ranks, of which the text has the upper one first, and the board the lower one
 abbrev pub men_of : List (List ℕ) → Option Men
 men_of [] = Some []
-men_of (upper ∷ lower) = joined (men_of lower) (rank_of upper)
+men_of (upper ∷ lower) = men_if_both (men_of lower) (rank_of upper)
 
 abbrev pub is_slash : ℕ → Bool
 is_slash byte = byte == slash
@@ -74,13 +74,13 @@ abbrev pub ranks_in : List ℕ → List (List ℕ)
 ranks_in field = slice_split is_slash field
 
 -- what is where, by eight ranks
-abbrev pub placed : List ℕ → Option Men
-placed field = if length (ranks_in field) == 8 then men_of (ranks_in field) else None
+abbrev pub men_in_field : List ℕ → Option Men
+men_in_field field = if length (ranks_in field) == 8 then men_of (ranks_in field) else None
 
 -- only if at most 16 men a side stand there, and no pawn on the first or last rank
-abbrev pub fitting : Option Men → Option Men
-fitting None = None
-fitting (Some men) = if fits_board men then Some men else None
+abbrev pub men_if_fitting : Option Men → Option Men
+men_if_fitting None = None
+men_if_fitting (Some men) = if fits_board men then Some men else None
 
 abbrev pub board_of : List ℕ → Option Men
-board_of field = fitting (placed field)
+board_of field = men_if_fitting (men_in_field field)

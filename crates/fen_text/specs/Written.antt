@@ -75,13 +75,13 @@ fields_text p =
     board_text p.men ∷ side_text p.side ∷ rights_text p.rights ∷ passant_text p.passant ∷ decimal p.half ∷ decimal p.full ∷ []
 
 -- the text of a position
-unfoldable pub written : Position → List ℕ
-written p = join_with_byte blank (fields_text p)
+unfoldable pub position_fen : Position → List ℕ
+position_fen p = join_with_byte blank (fields_text p)
 
 -- the text of a position is short
 abbrev pub IsShort : Type 0
-IsShort = (p : Position) → IsPosition p → length (written p) ≤ 93
+IsShort = (p : Position) → IsPosition p → length (position_fen p) ≤ 93
 
 -- What is written of a position spells it.
 abbrev pub ReadsBack : Type 0
-ReadsBack = (p : Position) → IsPosition p → position_of (written p) ≡ Ok p
+ReadsBack = (p : Position) → IsPosition p → position_of (position_fen p) ≡ Ok p

@@ -4,7 +4,7 @@ ghost use Rattle.std.specs.List.{slice_get};
 ghost use Rattle.std.specs.Option.{option_and_then};
 ghost use Rattle.fen_text.specs.Seen.{bytes_of};
 ghost use Rattle.chess_board.specs.Play.{fits_board};
-ghost use Rattle.fen_text.specs.Squares.{kind_of, man_of, squares_of, squares_in, joined, HasMoreThan, rank_of, ranks_in, is_slash, placed, board_of};
+ghost use Rattle.fen_text.specs.Squares.{kind_of, man_of, squares_of, squares_in, men_if_both, HasMoreThan, rank_of, ranks_in, is_slash, men_in_field, board_of};
 
 use arrayvec::{ArrayVec, CapacityError};
 use chess_board::{BuildFault, Kind, Position, Rights, Side};
@@ -51,8 +51,9 @@ fn put_empty(count: usize, row: &mut ArrayVec<Man, 8>) -> Result<(), CapacityErr
 /// Puts the squares that a byte of a rank stands for after those before it, if there is room.
 fn put_squares(byte: u8, row: &mut ArrayVec<Man, 8>) -> Option<()>
     ensures some { OnSome result
-        (joined (Some row.old.items) (squares_of byte) ≡ Some row.new.items) }
-    ensures none { IfNone result (HasMoreThan 8 (joined (Some row.old.items) (squares_of byte))) }
+        (men_if_both (Some row.old.items) (squares_of byte) ≡ Some row.new.items) }
+    ensures none { IfNone result (HasMoreThan 8
+        (men_if_both (Some row.old.items) (squares_of byte))) }
 {
     match byte {
         b'1'..=b'8' => put_empty(usize::from(byte - b'0'), row).ok(),
@@ -86,7 +87,7 @@ fn nth_rank(field: &[u8], n: usize) -> Option<&[u8]>
 
 /// What is where, by eight ranks, of which the text has the eighth first.
 fn read_squares(field: &[u8]) -> Option<[Man; 64]>
-    ensures { result ≡ placed field.now }
+    ensures { result ≡ men_in_field field.now }
 {
     if count_ranks(field) != 8 {
         return None;

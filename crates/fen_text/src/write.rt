@@ -4,7 +4,7 @@ ghost use Rattle.std.specs.Option.{option_map};
 ghost use Rattle.chess_board.specs.Board.{Men};
 ghost use Rattle.chess_board.specs.Play.{IsPosition, top_count};
 ghost use Rattle.fen_text.specs.Fen.{position_of};
-ghost use Rattle.fen_text.specs.Written.{letter_of, run, rank_text, row, board_text, side_text, letter_if, rights_text, passant_text, written, IsShort, ReadsBack};
+ghost use Rattle.fen_text.specs.Written.{letter_of, run, rank_text, row, board_text, side_text, letter_if, rights_text, passant_text, position_fen, IsShort, ReadsBack};
 
 use crate::squares::Man;
 use arrayvec::ArrayVec;
@@ -154,7 +154,7 @@ fn write_count(count: u32, text: &mut Text)
 
 /// The text of a position: six fields with one blank between (PGN standard, section 16.1).
 pub fn write_fen(p: &Position) -> ArrayVec<u8, 96>
-    ensures text { result.items ≡ written p.now }
+    ensures text { result.items ≡ position_fen p.now }
     ensures read_back { position_of result.items ≡ Ok p.now }
 {
     p.facts();

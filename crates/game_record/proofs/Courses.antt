@@ -4,7 +4,7 @@ use Rattle.std.proofs.lemmas.List.{map-append, take-map, length-map}
 use Rattle.chess_board.specs.declared.board.Move.{Move}
 use Rattle.chess_board.specs.Position.{Position}
 use Rattle.game_record.specs.declared.ending.GameEnd.{GameEnd}
-use Rattle.game_record.specs.Game.{Ply, Game, ply_of, plies_of, IsPlayable, played, now_after, later, AreLegal}
+use Rattle.game_record.specs.Game.{Ply, Game, ply_of, plies_of, IsPlayable, position_after_ply, now_after, later, AreLegal}
 use Rattle.game_record.specs.Ending.{stood_in, state_of, ended_by, ended_of}
 use Rattle.game_record.specs.Keeps.{Keeps, most_plies, times_of}
 use Rattle.game_record.proofs.Replays.{later-append, legal-append, take-later, legal-take}
@@ -17,14 +17,14 @@ plies_of-take n moves = sym (take-map ply_of n moves)
 -- a game keeps what it keeps when a move is played
 pub keeps_push : (p : Position) (moves longer : List Move) (positions more : List Position) (times often : List ℕ) (m : Move) (after : Position) (stood : ℕ) (ended ended' : Option GameEnd) (room room' places places' rows rows' : ℕ) →
     Keeps p (plies_of moves) positions times ended room places rows → longer ≡ moves ++ m ∷ [] → more ≡ positions ++ after ∷ [] → often ≡ times ++ stood ∷ [] → room' ≡ room → places' ≡ places → rows' ≡ rows →
-    after ≡ played (now_after p (plies_of moves)) (ply_of m) → stood ≡ stood_in after (p ∷ later p (plies_of moves)) + 1 →
+    after ≡ position_after_ply (now_after p (plies_of moves)) (ply_of m) → stood ≡ stood_in after (p ∷ later p (plies_of moves)) + 1 →
     ended' ≡ ended_by (state_of after) stood after.half →
     IsPlayable (now_after p (plies_of moves)) (ply_of m) → length (plies_of moves) < most_plies → Keeps p (plies_of longer) more often ended' room' places' rows'
 keeps_push p moves longer positions more times often m after stood ended ended' room room' places places' rows rows' k l q t r s u a o e legal few =
     let course : List Ply → Game = λ plies. record { start = p; moves = plies } in
     let plies : plies_of longer ≡ plies_of moves ++ ply_of m ∷ [] = ap plies_of l ∙ map-append ply_of moves (m ∷ []) in
     let count : length (plies_of longer) ≡ length (plies_of moves) + 1 = ap length plies ∙ length-append (plies_of moves) (ply_of m ∷ []) in
-    let next = played (now_after p (plies_of moves)) (ply_of m) in
+    let next = position_after_ply (now_after p (plies_of moves)) (ply_of m) in
     let once : stood ≡ stood_in next (p ∷ (later p (plies_of moves) ++ next ∷ [])) =
     o ∙ ap (λ (x : Position). stood_in x (p ∷ later p (plies_of moves)) + 1) a ∙ sym (stood_once next (p ∷ later p (plies_of moves))) in
     let wide = k.move_room_is in

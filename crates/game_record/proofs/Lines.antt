@@ -9,7 +9,7 @@ use Rattle.chess_board.specs.declared.board.Rights.{Rights}
 use Rattle.chess_board.specs.Board.{Men}
 use Rattle.chess_board.specs.Position.{Position}
 use Rattle.chess_board.specs.Play.{start_position, IsPosition}
-use Rattle.fen_text.specs.Written.{written}
+use Rattle.fen_text.specs.Written.{position_fen}
 use Rattle.fen_text.proofs.Lengths.{length-written}
 use Rattle.line_io.specs.Out.{Text, with}
 use Rattle.std.specs.List.{AllByRecursion}
@@ -17,9 +17,9 @@ use Rattle.chess_board.specs.declared.board.Move.{Move}
 use Rattle.chess_board.specs.Text.{text_of, IsOfficer}
 use Rattle.chess_board.proofs.Texts.{legal-written}
 use Rattle.chess_board.proofs.TextLengths.{promotion_length}
-use Rattle.game_record.specs.Game.{Ply, Game, ply_of, plies_of, played, AreLegal}
+use Rattle.game_record.specs.Game.{Ply, Game, ply_of, plies_of, position_after_ply, AreLegal}
 use Rattle.game_record.specs.Ending.{is_same}
-use Rattle.game_record.specs.Line.{ply_text, spaced, told, moves_text, is_standard, start_text, position_text, StandardLaw, IsShort}
+use Rattle.game_record.specs.Line.{ply_text, spaced_plies, plies_and_hint, moves_text, is_standard, start_text, position_text, StandardLaw, IsShort}
 use Rattle.game_record.proofs.Sames.{same-law}
 
 abbrev six : Men → Side → Rights → Option ℕ → ℕ → ℕ → Position
@@ -59,78 +59,78 @@ pub standard_test : (b : Bool) (p : Position) → Decides b (p ≡ start_positio
 standard_test b p d = one_test (is_standard p) b (standard-law p) d
 
 -- the text of the start, by such a test
-pub start_by : (b c : Bool) (p : Position) → Decides b (p ≡ start_position) → b ≡ c → start_text p ≡ cond c (codes "startpos") (codes "fen " ++ written p)
-start_by b c p d e = ap (λ (v : Bool). cond v (codes "startpos") (codes "fen " ++ written p)) (standard_test b p d ∙ e)
+pub start_by : (b c : Bool) (p : Position) → Decides b (p ≡ start_position) → b ≡ c → start_text p ≡ cond c (codes "startpos") (codes "fen " ++ position_fen p)
+start_by b c p d e = ap (λ (v : Bool). cond v (codes "startpos") (codes "fen " ++ position_fen p)) (standard_test b p d ∙ e)
 
-length-spaced : (moves : List Ply) → length (spaced moves) ≤ 6 * length moves
+length-spaced : (moves : List Ply) → length (spaced_plies moves) ≤ 6 * length moves
 length-spaced [] = omega arith
 length-spaced (m ∷ moves) =
     let text : length (ply_text m) ≤ 5 = let promotion = promotion_length m.promotion in omega arith in
     let rest = length-spaced moves in
-    let both = length-append (ply_text m) (spaced moves) in
+    let both = length-append (ply_text m) (spaced_plies moves) in
     omega arith
 
 length-moves : (moves : List Ply) → length (moves_text moves) ≤ 6 + 6 * length moves
 length-moves moves =
     let rest = length-spaced moves in
-    let both = length-append (codes " moves") (spaced moves) in
-    elim (ltb 0 (length moves)) as (λ v. length (cond v (codes " moves" ++ spaced moves) []) ≤ 6 + 6 * length moves) [ true ↦ omega arith | false ↦ omega arith ]
+    let both = length-append (codes " moves") (spaced_plies moves) in
+    elim (ltb 0 (length moves)) as (λ v. length (cond v (codes " moves" ++ spaced_plies moves) []) ≤ 6 + 6 * length moves) [ true ↦ omega arith | false ↦ omega arith ]
 
 length-start : (p : Position) → IsPosition p → length (start_text p) ≤ 97
 length-start p q =
     let text = length-written p q in
-    let both = length-append (codes "fen ") (written p) in
-    elim (is_standard p) as (λ v. length (cond v (codes "startpos") (codes "fen " ++ written p)) ≤ 97) [ true ↦ omega arith | false ↦ omega arith ]
+    let both = length-append (codes "fen ") (position_fen p) in
+    elim (is_standard p) as (λ v. length (cond v (codes "startpos") (codes "fen " ++ position_fen p)) ≤ 97) [ true ↦ omega arith | false ↦ omega arith ]
 
 pub short-law : IsShort
 unfolding position_text
 short-law g hint q =
     let start = length-start g.start q in
-    let moves = length-moves (told g.moves hint) in
-    let tail = length-append (start_text g.start) (moves_text (told g.moves hint)) in
-    let all = length-append (codes "position ") (start_text g.start ++ moves_text (told g.moves hint)) in
+    let moves = length-moves (plies_and_hint g.moves hint) in
+    let tail = length-append (start_text g.start) (moves_text (plies_and_hint g.moves hint)) in
+    let all = length-append (codes "position ") (start_text g.start ++ moves_text (plies_and_hint g.moves hint)) in
     omega arith
 
 -- a buffer after one piece, and after another
 pub after_put : (old new : Text) (piece : List ℕ) → new ≡ with old piece → (length new.text ≡ length old.text + length piece) × (new.room ≡ old.room)
 after_put old new piece e = (ap (λ (t : Text). length t.text) e ∙ length-append old.text piece, ap (λ (t : Text). t.room) e)
 
-pub spaced-append : (a b : List Ply) → spaced (a ++ b) ≡ spaced a ++ spaced b
+pub spaced-append : (a b : List Ply) → spaced_plies (a ++ b) ≡ spaced_plies a ++ spaced_plies b
 spaced-append [] b = refl
-spaced-append (m ∷ a) b = ap (λ (t : List ℕ). 32 ∷ (ply_text m ++ t)) (spaced-append a b) ∙ ap (λ (t : List ℕ). 32 ∷ t) (sym (append_assoc (ply_text m) (spaced a) (spaced b)))
+spaced-append (m ∷ a) b = ap (λ (t : List ℕ). 32 ∷ (ply_text m ++ t)) (spaced-append a b) ∙ ap (λ (t : List ℕ). 32 ∷ t) (sym (append_assoc (ply_text m) (spaced_plies a) (spaced_plies b)))
 
 -- the text of moves of which there are some
-pub moves_text-some : (moves : List Ply) (hint : Option Ply) → 0 < length (told moves hint) → moves_text (told moves hint) ≡ codes " moves" ++ (spaced moves ++ spaced (option_to_list hint))
+pub moves_text-some : (moves : List Ply) (hint : Option Ply) → 0 < length (plies_and_hint moves hint) → moves_text (plies_and_hint moves hint) ≡ codes " moves" ++ (spaced_plies moves ++ spaced_plies (option_to_list hint))
 moves_text-some moves hint h =
-    let some : ltb 0 (length (told moves hint)) ≡ true = grind (arith, nat_tests) in
+    let some : ltb 0 (length (plies_and_hint moves hint)) ≡ true = grind (arith, nat_tests) in
     rw some (ap (λ (t : List ℕ). codes " moves" ++ t) (spaced-append moves (option_to_list hint)))
 
 pub moves_text-none : (moves : List Ply) → (0 < length moves → ⊥) → moves_text moves ≡ []
 moves_text-none [] h = refl
 moves_text-none (m ∷ moves) h = absurd (h (omega arith))
 
-pub told_some : (moves : List Ply) (m : Move) → 0 < length (told moves (Some (ply_of m))) → moves_text (told moves (Some (ply_of m))) ≡ codes " moves" ++ (spaced moves ++ (32 ∷ text_of m))
+pub told_some : (moves : List Ply) (m : Move) → 0 < length (plies_and_hint moves (Some (ply_of m))) → moves_text (plies_and_hint moves (Some (ply_of m))) ≡ codes " moves" ++ (spaced_plies moves ++ (32 ∷ text_of m))
 told_some moves m h =
-    moves_text-some moves (Some (ply_of m)) h ∙ ap (λ (t : List ℕ). codes " moves" ++ (spaced moves ++ (32 ∷ t))) (append-nil (text_of m))
+    moves_text-some moves (Some (ply_of m)) h ∙ ap (λ (t : List ℕ). codes " moves" ++ (spaced_plies moves ++ (32 ∷ t))) (append-nil (text_of m))
 
-pub told_none : (moves : List Ply) → 0 < length (told moves None) → moves_text (told moves None) ≡ codes " moves" ++ spaced moves
-told_none moves h = moves_text-some moves None h ∙ ap (λ (t : List ℕ). codes " moves" ++ t) (append-nil (spaced moves))
+pub told_none : (moves : List Ply) → 0 < length (plies_and_hint moves None) → moves_text (plies_and_hint moves None) ≡ codes " moves" ++ spaced_plies moves
+told_none moves h = moves_text-some moves None h ∙ ap (λ (t : List ℕ). codes " moves" ++ t) (append-nil (spaced_plies moves))
 
 -- the room for the parts
-pub parts_fit : (moves : List Ply) (hint : Option Ply) (before room : ℕ) → 0 < length (told moves hint) → before + length (moves_text (told moves hint)) ≤ room → before + 6 + length (spaced moves) + length (spaced (option_to_list hint)) ≤ room
+pub parts_fit : (moves : List Ply) (hint : Option Ply) (before room : ℕ) → 0 < length (plies_and_hint moves hint) → before + length (moves_text (plies_and_hint moves hint)) ≤ room → before + 6 + length (spaced_plies moves) + length (spaced_plies (option_to_list hint)) ≤ room
 parts_fit moves hint before room h fits =
     let all = ap length (moves_text-some moves hint h) in
-    let front = length-append (codes " moves") (spaced moves ++ spaced (option_to_list hint)) in
-    let both = length-append (spaced moves) (spaced (option_to_list hint)) in
+    let front = length-append (codes " moves") (spaced_plies moves ++ spaced_plies (option_to_list hint)) in
+    let both = length-append (spaced_plies moves) (spaced_plies (option_to_list hint)) in
     omega arith
 
 -- the room for the next of the moves
-pub next_fits : (out before : List ℕ) (moves rest : List Move) (m : Move) (room : ℕ) → out ++ spaced (plies_of (m ∷ rest)) ≡ before ++ spaced (plies_of moves) → length before + length (spaced (plies_of moves)) ≤ room → length out + length (32 ∷ text_of m) ≤ room
+pub next_fits : (out before : List ℕ) (moves rest : List Move) (m : Move) (room : ℕ) → out ++ spaced_plies (plies_of (m ∷ rest)) ≡ before ++ spaced_plies (plies_of moves) → length before + length (spaced_plies (plies_of moves)) ≤ room → length out + length (32 ∷ text_of m) ≤ room
 next_fits out before moves rest m room e fits =
     let all = ap length e in
-    let left = length-append out (spaced (plies_of (m ∷ rest))) in
-    let right = length-append before (spaced (plies_of moves)) in
-    let next = length-append (text_of m) (spaced (plies_of rest)) in
+    let left = length-append out (spaced_plies (plies_of (m ∷ rest))) in
+    let right = length-append before (spaced_plies (plies_of moves)) in
+    let next = length-append (text_of m) (spaced_plies (plies_of rest)) in
     omega arith
 
 pub officer_at : (moves : List Move) (i : ℕ) (m : Move) → i < length moves → m ≡ get_or moves i m → AllByRecursion (λ (m : Ply). IsOfficer m.promotion) (plies_of moves) → IsOfficer m.promotion
@@ -141,13 +141,13 @@ officer_at (x ∷ moves) (suc i) m h e a = officer_at moves i m (omega arith) e 
 -- legal moves have texts
 pub officers : (p : Position) (moves : List Move) → AreLegal p (plies_of moves) → AllByRecursion (λ (m : Ply). IsOfficer m.promotion) (plies_of moves)
 officers p [] h = tt
-officers p (m ∷ moves) h = (legal-written p m h.0, officers (played p (ply_of m)) moves h.1)
+officers p (m ∷ moves) h = (legal-written p m h.0, officers (position_after_ply p (ply_of m)) moves h.1)
 
-pub line_fits : (g : Game) (hint : Option Ply) (before room : ℕ) → before + length (position_text g hint) ≤ room → before + 9 + length (start_text g.start) + length (moves_text (told g.moves hint)) ≤ room
+pub line_fits : (g : Game) (hint : Option Ply) (before room : ℕ) → before + length (position_text g hint) ≤ room → before + 9 + length (start_text g.start) + length (moves_text (plies_and_hint g.moves hint)) ≤ room
 unfolding position_text
 line_fits g hint before room fits =
-    let tail = length-append (start_text g.start) (moves_text (told g.moves hint)) in
-    let all = length-append (codes "position ") (start_text g.start ++ moves_text (told g.moves hint)) in
+    let tail = length-append (start_text g.start) (moves_text (plies_and_hint g.moves hint)) in
+    let all = length-append (codes "position ") (start_text g.start ++ moves_text (plies_and_hint g.moves hint)) in
     omega arith
 
 at_most_one : (hint : Option Ply) → length (option_to_list hint) ≤ 1

@@ -9,14 +9,14 @@ use Rattle.chess_board.specs.Play.{IsPosition, kind_on, top_count}
 use Rattle.chess_board.proofs.Legal.{legal-law}
 use Rattle.chess_board.proofs.Plays.{position_kept, passed_low}
 use Rattle.chess_board.proofs.Worth.{total, Wears, wears}
-use Rattle.game_record.specs.Game.{Ply, ply_of, plies_of, IsPlayable, played, now_after, later, AreLegal}
+use Rattle.game_record.specs.Game.{Ply, ply_of, plies_of, IsPlayable, position_after_ply, now_after, later, AreLegal}
 use Rattle.game_record.specs.Ending.{is_same, stood_in}
 use Rattle.game_record.specs.Keeps.{left_behind}
 use Rattle.game_record.proofs.Replays.{later-append, now_after-append, legal-append, length-later}
 use Rattle.game_record.proofs.Times.{stood_in-append, stood_in-cons}
 use Rattle.game_record.proofs.Sames.{same-law}
 
-still_position : (p : Position) (m : Move) → IsPosition p → IsPlayable p (ply_of m) → IsPosition (played p (ply_of m))
+still_position : (p : Position) (m : Move) → IsPosition p → IsPlayable p (ply_of m) → IsPosition (position_after_ply p (ply_of m))
 still_position p m is legal =
     position_kept p m.from.index m.to.index m.promotion is m.from.on_board m.to.on_board
     (passed_low p.side (kind_on (man_at p.men m.from.index)) m.from.index m.to.index m.from.on_board m.to.on_board) ((legal-law p m.from.index m.to.index m.promotion).1 legal)
@@ -40,7 +40,7 @@ fades : (p : Position) (moves : List Move) → IsPosition p → AreLegal p (plie
 fades p [] is legal = inr (omega arith, omega arith)
 fades p (m ∷ moves) is legal =
     let wear = wears p m.from.index m.to.index m.promotion is m.from.on_board m.to.on_board legal.0 in
-    fades_more p (played p (ply_of m)) (now_after (played p (ply_of m)) (plies_of moves)) (length moves) wear (fades (played p (ply_of m)) moves (still_position p m is legal.0) legal.1)
+    fades_more p (position_after_ply p (ply_of m)) (now_after (position_after_ply p (ply_of m)) (plies_of moves)) (length moves) wear (fades (position_after_ply p (ply_of m)) moves (still_position p m is legal.0) legal.1)
 
 -- what is worth less is another position
 other_worth : (q p : Position) → total q.men < total p.men → is_same q p ≡ false
@@ -54,7 +54,7 @@ none_behind : (p : Position) (moves : List Move) (q : Position) → IsPosition p
     stood_in q (take (length moves - q.half) (p ∷ later p (plies_of moves))) ≡ 0
 none_behind p [] q is legal few now = let z : 0 - q.half ≡ 0 = omega arith in rw z refl
 none_behind p (m ∷ moves) q is legal few now =
-    let r = played p (ply_of m) in
+    let r = position_after_ply p (ply_of m) in
     let rest = later p (plies_of (m ∷ moves)) in
     ⊎_elim (λ (h : q.half < length (m ∷ moves)).
     let k : length (m ∷ moves) - q.half ≡ suc (length moves - q.half) = omega arith in
@@ -69,7 +69,7 @@ none_behind p (m ∷ moves) q is legal few now =
 
 -- the position after a move stood nowhere before the last pawn's move or capture
 pub new_behind : (p : Position) (moves : List Move) (m : Move) (q : Position) → IsPosition p → AreLegal p (plies_of moves) → length moves < top_count → IsPlayable (now_after p (plies_of moves)) (ply_of m) →
-    q ≡ played (now_after p (plies_of moves)) (ply_of m) → stood_in q (left_behind q (p ∷ later p (plies_of moves))) ≡ 0
+    q ≡ position_after_ply (now_after p (plies_of moves)) (ply_of m) → stood_in q (left_behind q (p ∷ later p (plies_of moves))) ≡ 0
 new_behind p moves m q is legal few playable now =
     let longer : plies_of (moves ++ m ∷ []) ≡ plies_of moves ++ ply_of m ∷ [] = map-append ply_of moves (m ∷ []) in
     let legal' : AreLegal p (plies_of (moves ++ m ∷ [])) = subst (AreLegal p) (sym longer) (legal-append p (plies_of moves) (ply_of m) legal playable) in
@@ -77,12 +77,12 @@ new_behind p moves m q is legal few playable now =
     let count : length (moves ++ m ∷ []) ≡ length moves + 1 = length-append moves (m ∷ []) in
     let all : length (later p (plies_of moves)) ≡ length moves = length-later p (plies_of moves) ∙ length-map moves ply_of in
     let none = none_behind p (moves ++ m ∷ []) q is legal' (omega arith) now' in
-    let positions : p ∷ later p (plies_of (moves ++ m ∷ [])) ≡ (p ∷ later p (plies_of moves)) ++ played (now_after p (plies_of moves)) (ply_of m) ∷ [] =
+    let positions : p ∷ later p (plies_of (moves ++ m ∷ [])) ≡ (p ∷ later p (plies_of moves)) ++ position_after_ply (now_after p (plies_of moves)) (ply_of m) ∷ [] =
     ap (λ (ms : List Ply). p ∷ later p ms) longer ∙ ap (λ (xs : List Position). p ∷ xs) (later-append p (plies_of moves) (ply_of m)) in
     let places : length (moves ++ m ∷ []) - q.half ≡ length (p ∷ later p (plies_of moves)) - q.half = omega arith in
     let part : take (length (p ∷ later p (plies_of moves)) - q.half) (p ∷ later p (plies_of (moves ++ m ∷ []))) ≡ left_behind q (p ∷ later p (plies_of moves)) =
     ap (take (length (p ∷ later p (plies_of moves)) - q.half)) positions
-    ∙ take-append-le (length (p ∷ later p (plies_of moves)) - q.half) (p ∷ later p (plies_of moves)) (played (now_after p (plies_of moves)) (ply_of m) ∷ []) (omega arith) in
+    ∙ take-append-le (length (p ∷ later p (plies_of moves)) - q.half) (p ∷ later p (plies_of moves)) (position_after_ply (now_after p (plies_of moves)) (ply_of m) ∷ []) (omega arith) in
     ap (stood_in q) (sym (ap (λ (n : ℕ). take n (p ∷ later p (plies_of (moves ++ m ∷ [])))) places ∙ part)) ∙ none
 
 -- what is neither among the positions that were left nor among the others is nowhere

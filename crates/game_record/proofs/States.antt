@@ -14,7 +14,7 @@ use Rattle.chess_board.specs.Play.{is_man, is_minor, HasLegal, IsDead, StateFits
 use Rattle.chess_board.proofs.Legal.{checked-law}
 use Rattle.chess_board.proofs.Ways.{way-law}
 use Rattle.game_record.specs.declared.ending.GameEnd.TheVariants as ends
-use Rattle.game_record.specs.Game.{played, Ply, Game, now_of, positions_of, with_ply, later}
+use Rattle.game_record.specs.Game.{position_after_ply, Ply, Game, now_of, positions_of, with_ply, later}
 use Rattle.game_record.specs.Ending.{has_legal, is_dead, state_by, state_of, ended_by, ended_of, stood_in, repeats_of, Ends, StateLaw, EndingLaw}
 use Rattle.game_record.proofs.Replays.{later-append, now_after-append}
 use Rattle.game_record.proofs.Times.{stood_once}
@@ -76,7 +76,7 @@ repeats_more g m =
     ap (stood_in now) all ∙ stood_once now (positions_of g)
 
 -- the end after a move, by its position and how often that stood
-pub ended_more : (g : Game) (m : Ply) (after : Position) (times : ℕ) → after ≡ played (now_of g) m → times ≡ stood_in after (positions_of g) + 1 →
+pub ended_more : (g : Game) (m : Ply) (after : Position) (times : ℕ) → after ≡ position_after_ply (now_of g) m → times ≡ stood_in after (positions_of g) + 1 →
     ended_by (state_of after) times after.half ≡ ended_of (with_ply g m)
 unfolding ended_of
 ended_more g m after times a t =

@@ -10,7 +10,7 @@ use Rattle.chess_board.specs.Board.{Men, same_side}
 use Rattle.chess_board.specs.declared.board.Side.{Side}
 use Rattle.chess_board.specs.declared.board.Rights.{Rights}
 use Rattle.chess_board.specs.Position.{Position}
-use Rattle.game_record.specs.Game.{Ply, played, now_after, later}
+use Rattle.game_record.specs.Game.{Ply, position_after_ply, now_after, later}
 use Rattle.game_record.specs.Ending.{is_same, same_men, same_rights, same_square, stood_in}
 use Rattle.game_record.specs.Keeps.{times_of, AreTimes}
 use Rattle.game_record.proofs.Replays.{length-later, last_is}
@@ -29,29 +29,29 @@ stood_once p xs =
     stood_in-append p xs (p ∷ []) ∙ ap (λ (n : ℕ). stood_in p xs + n) own
 
 pub times-append : (before : List Position) (p : Position) (moves : List Ply) (m : Ply) →
-    times_of before p (moves ++ m ∷ []) ≡ times_of before p moves ++ stood_in (played (now_after p moves) m) (before ++ (later p moves ++ played (now_after p moves) m ∷ [])) ∷ []
+    times_of before p (moves ++ m ∷ []) ≡ times_of before p moves ++ stood_in (position_after_ply (now_after p moves) m) (before ++ (later p moves ++ position_after_ply (now_after p moves) m ∷ [])) ∷ []
 times-append before p [] m = refl
 times-append before p (n ∷ moves) m =
-    let q = played p n in
-    let last = played (now_after q moves) m in
+    let q = position_after_ply p n in
+    let last = position_after_ply (now_after q moves) m in
     ap (λ (xs : List ℕ). stood_in q (before ++ q ∷ []) ∷ xs) (times-append (before ++ q ∷ []) q moves m
     ∙ ap (λ (xs : List Position). times_of (before ++ q ∷ []) q moves ++ stood_in last xs ∷ []) (append_assoc before (q ∷ []) (later q moves ++ last ∷ [])))
 
 pub take-times : (k : ℕ) (before : List Position) (p : Position) (moves : List Ply) → take k (times_of before p moves) ≡ times_of before p (take k moves)
 take-times zero before p moves = refl
 take-times (suc k) before p [] = refl
-take-times (suc k) before p (m ∷ moves) = ap (λ (xs : List ℕ). stood_in (played p m) (before ++ played p m ∷ []) ∷ xs) (take-times k (before ++ played p m ∷ []) (played p m) moves)
+take-times (suc k) before p (m ∷ moves) = ap (λ (xs : List ℕ). stood_in (position_after_ply p m) (before ++ position_after_ply p m ∷ []) ∷ xs) (take-times k (before ++ position_after_ply p m ∷ []) (position_after_ply p m) moves)
 
 pub length-times : (before : List Position) (p : Position) (moves : List Ply) → length (times_of before p moves) ≡ length moves
 length-times before p [] = refl
-length-times before p (m ∷ moves) = ap suc (length-times (before ++ played p m ∷ []) (played p m) moves)
+length-times before p (m ∷ moves) = ap suc (length-times (before ++ position_after_ply p m ∷ []) (position_after_ply p m) moves)
 
 times_at : (before : List Position) (p : Position) (moves : List Ply) (i : ℕ) (d : Position) → i < length moves →
     get_or (times_of before p moves) i 0 ≡ stood_in (get_or (later p moves) i d) (before ++ take (i + 1) (later p moves))
 times_at before p [] i d h = absurd (omega arith)
 times_at before p (m ∷ moves) zero d h = refl
 times_at before p (m ∷ moves) (suc i) d h =
-    let q = played p m in
+    let q = position_after_ply p m in
     let n : suc i + 1 ≡ suc (i + 1) = omega arith in
     times_at (before ++ q ∷ []) q moves i d (omega arith)
     ∙ ap (stood_in (get_or (later q moves) i d)) (append_assoc before (q ∷ []) (take (i + 1) (later q moves)))

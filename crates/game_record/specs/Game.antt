@@ -27,23 +27,23 @@ abbrev pub IsPlayable : Position → Ply → Type 0
 IsPlayable p m = IsLegal p m.from m.to m.promotion
 
 -- the position after a move
-abbrev pub played : Position → Ply → Position
-played p m = position_after p m.from m.to m.promotion
+abbrev pub position_after_ply : Position → Ply → Position
+position_after_ply p m = position_after p m.from m.to m.promotion
 
 -- the position after all these moves, replayed from the first
 abbrev pub now_after : Position → List Ply → Position
 now_after p [] = p
-now_after p (m ∷ moves) = now_after (played p m) moves
+now_after p (m ∷ moves) = now_after (position_after_ply p m) moves
 
 -- the position after each of these moves
 abbrev pub later : Position → List Ply → List Position
 later p [] = []
-later p (m ∷ moves) = played p m ∷ later (played p m) moves
+later p (m ∷ moves) = position_after_ply p m ∷ later (position_after_ply p m) moves
 
 -- each move is legal in its turn
 abbrev pub AreLegal : Position → List Ply → Type 0
 AreLegal p [] = Unit {0}
-AreLegal p (m ∷ moves) = IsPlayable p m × AreLegal (played p m) moves
+AreLegal p (m ∷ moves) = IsPlayable p m × AreLegal (position_after_ply p m) moves
 
 abbrev pub now_of : Game → Position
 now_of g = now_after g.start g.moves
@@ -53,8 +53,8 @@ abbrev pub positions_of : Game → List Position
 positions_of g = g.start ∷ later g.start g.moves
 
 -- no move yet
-abbrev pub begun : Position → Game
-begun p = record { start = p; moves = [] }
+abbrev pub game_from : Position → Game
+game_from p = record { start = p; moves = [] }
 
 -- one move more
 abbrev pub with_ply : Game → Ply → Game

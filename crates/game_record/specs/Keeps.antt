@@ -1,7 +1,7 @@
 -- What a game keeps.
 use Rattle.std.specs.Prelude.{ℕ, ◌≡◌, ◌+◌, ◌-◌, ◌<◌, ◌≤◌, Option, List, [], ◌∷◌, ◌++◌, length, take, slice_index, slice_index_or}
 use Rattle.chess_board.specs.Position.{Position}
-use Rattle.game_record.specs.Game.{Ply, played, later, AreLegal}
+use Rattle.game_record.specs.Game.{Ply, position_after_ply, later, AreLegal}
 use Rattle.game_record.specs.Ending.{stood_in, ended_of}
 use Rattle.game_record.specs.declared.ending.GameEnd.{GameEnd}
 use Rattle.game_record.specs.declared.game.TheConstants.{MOST_PLIES}
@@ -13,7 +13,7 @@ most_plies = MOST_PLIES
 -- how often the position after each move then stood, if these stood before the first
 abbrev pub times_of : List Position → Position → List Ply → List ℕ
 times_of before p [] = []
-times_of before p (m ∷ moves) = stood_in (played p m) (before ++ played p m ∷ []) ∷ times_of (before ++ played p m ∷ []) (played p m) moves
+times_of before p (m ∷ moves) = stood_in (position_after_ply p m) (before ++ position_after_ply p m ∷ []) ∷ times_of (before ++ position_after_ply p m ∷ []) (position_after_ply p m) moves
 
 -- the positions from before the last pawn's move or capture, by the half-move count of the one that follows them
 abbrev pub left_behind : Position → List Position → List Position

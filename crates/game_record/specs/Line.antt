@@ -5,7 +5,7 @@ use Rattle.chess_board.specs.Board.{file_of, rank_of}
 use Rattle.chess_board.specs.Position.{Position}
 use Rattle.chess_board.specs.Play.{start_position, IsPosition}
 use Rattle.chess_board.specs.Text.{promotion_text, letter_a, digit_one}
-use Rattle.fen_text.specs.Written.{written}
+use Rattle.fen_text.specs.Written.{position_fen}
 use Rattle.game_record.specs.Game.{Ply, Game}
 use Rattle.game_record.specs.Ending.{is_same}
 use Rattle.peer_words.specs.Bytes.{blank}
@@ -16,17 +16,17 @@ ply_text m =
     ∷ (letter_a + file_of m.to) ∷ (digit_one + rank_of m.to) ∷ promotion_text m.promotion
 
 -- each move after a blank
-abbrev pub spaced : List Ply → List ℕ
-spaced [] = []
-spaced (m ∷ moves) = blank ∷ (ply_text m ++ spaced moves)
+abbrev pub spaced_plies : List Ply → List ℕ
+spaced_plies [] = []
+spaced_plies (m ∷ moves) = blank ∷ (ply_text m ++ spaced_plies moves)
 
 -- the moves, and one that may follow
-abbrev pub told : List Ply → Option Ply → List Ply
-told moves hint = moves ++ option_to_list hint
+abbrev pub plies_and_hint : List Ply → Option Ply → List Ply
+plies_and_hint moves hint = moves ++ option_to_list hint
 
 -- `moves` and each of them, if there are some
 abbrev pub moves_text : List Ply → List ℕ
-moves_text moves = if nat_lt 0 (length moves) then codes " moves" ++ spaced moves else []
+moves_text moves = if nat_lt 0 (length moves) then codes " moves" ++ spaced_plies moves else []
 
 -- whether it is the standard start, with its counts 0 and 1
 unfoldable pub is_standard : Position → Bool
@@ -37,12 +37,13 @@ StandardLaw = (p : Position) → IsTrue (is_standard p) ↔ (p ≡ start_positio
 
 -- `startpos`, or `fen` and the text of the start
 abbrev pub start_text : Position → List ℕ
-start_text p = if is_standard p then codes "startpos" else codes "fen " ++ written p
+start_text p = if is_standard p then codes "startpos" else codes "fen " ++ position_fen p
 
 -- the line of a game, with a move that may follow, without a line feed
 unfoldable pub position_text : Game → Option Ply → List ℕ
-position_text g hint = codes "position " ++ (start_text g.start ++ moves_text (told g.moves hint))
+position_text g hint =
+    codes "position " ++ (start_text g.start ++ moves_text (plies_and_hint g.moves hint))
 
 -- at most 6 bytes for each move, and 120 for the rest
 abbrev pub IsShort : Type 0
-IsShort = (g : Game) (hint : Option Ply) → IsPosition g.start → length (position_text g hint) ≤ 120 + 6 * length (told g.moves hint)
+IsShort = (g : Game) (hint : Option Ply) → IsPosition g.start → length (position_text g hint) ≤ 120 + 6 * length (plies_and_hint g.moves hint)

@@ -2,7 +2,7 @@
 ghost use Rattle.std.specs.Prelude.{◌≡◌, ◌+◌, ◌<◌, ◌≤◌, ◌↔◌, ◌∷◌, [], List, length, Option, IsErr, IfOk, OnOk, OnErr};
 ghost use Rattle.chess_board.specs.Laws.{IsLegal};
 ghost use Rattle.chess_board.specs.Play.{start_position, IsPosition};
-ghost use Rattle.game_record.specs.Game.{Game as AnyGame, Ply, ply_of, plies_of, IsPlayable, played, AreLegal, now_of, now_after, later, positions_of, begun, with_ply, without_last};
+ghost use Rattle.game_record.specs.Game.{Game as AnyGame, Ply, ply_of, plies_of, IsPlayable, position_after_ply, AreLegal, now_of, now_after, later, positions_of, game_from, with_ply, without_last};
 ghost use Rattle.game_record.specs.Line.{position_text};
 ghost use Rattle.game_record.specs.Ending.{stood_in, repeats_of, ended_of};
 ghost use Rattle.game_record.specs.Keeps.{AreTimes, times_of, left_behind};
@@ -62,7 +62,7 @@ impl Model for Game {
 impl Game {
     /// A game from the standard start, without moves.
     pub fn make(alloc: Global) -> Result<Game, NoMemory>
-        ensures { IfOk result (λ game. game ≡ begun start_position) }
+        ensures { IfOk result (λ game. game ≡ game_from start_position) }
     {
         let moves = Vec::with_capacity(alloc, MOST_PLIES)?;
         let later = Vec::with_capacity(alloc, MOST_PLIES)?;
@@ -80,7 +80,7 @@ impl Game {
 
     /// Begins another game.
     pub fn reset(&mut self, start: Position)
-        ensures { self.new ≡ begun start }
+        ensures { self.new ≡ game_from start }
     {
         self.start = start;
         self.moves.clear();
@@ -122,7 +122,7 @@ impl Game {
     fn add(&mut self, m: Move, after: Position)
         requires legal { IsPlayable (now_of self.old) (ply_of m) }
         requires room { length self.old.moves < MOST_PLIES }
-        requires after { after ≡ played (now_of self.old) (ply_of m) }
+        requires after { after ≡ position_after_ply (now_of self.old) (ply_of m) }
         ensures { self.new ≡ with_ply self.old (ply_of m) }
     {
         let times = self.stood(m, &after) + 1;
@@ -196,7 +196,7 @@ impl Game {
     /// How often the position after a move stood in the game so far.
     fn stood(&self, m: Move, after: &Position) -> u32
         requires legal { IsPlayable (now_of self.now) (ply_of m) }
-        requires after { after.now ≡ played (now_of self.now) (ply_of m) }
+        requires after { after.now ≡ position_after_ply (now_of self.now) (ply_of m) }
         ensures value { result ≡ stood_in after.now (positions_of self.now) }
         ensures few { result ≤ MOST_PLIES + 1 }
     {

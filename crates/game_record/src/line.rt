@@ -5,7 +5,7 @@ ghost use Rattle.std.specs.List.{AllByRecursion};
 ghost use Rattle.chess_board.specs.Text.{IsOfficer, text_of};
 ghost use Rattle.line_io.specs.Out.{with};
 ghost use Rattle.game_record.specs.Game.{ply_of, plies_of, IsPlayable, now_of};
-ghost use Rattle.game_record.specs.Line.{start_text, spaced, told, moves_text, position_text};
+ghost use Rattle.game_record.specs.Line.{start_text, spaced_plies, plies_and_hint, moves_text, position_text};
 ghost use Rattle.peer_words.specs.Bytes.{blank};
 
 use crate::game::Game;
@@ -38,8 +38,9 @@ fn write_spaced(m: Move, out: &mut Out)
 /// Writes each move after a blank.
 fn write_moves(moves: &[Move], out: &mut Out)
     requires officers { AllByRecursion (λ m. IsOfficer m.promotion) (plies_of moves.now) }
-    requires room { length out.old.text + length (spaced (plies_of moves.now)) ≤ out.old.room }
-    ensures { out.new ≡ with out.old (spaced (plies_of moves.now)) }
+    requires room { length out.old.text + length (spaced_plies (plies_of moves.now))
+        ≤ out.old.room }
+    ensures { out.new ≡ with out.old (spaced_plies (plies_of moves.now)) }
 {
     for m in moves {
         write_spaced(*m, out);
@@ -48,7 +49,8 @@ fn write_moves(moves: &[Move], out: &mut Out)
 
 /// Whether there is a move.
 fn has_moves(moves: &[Move], hint: Option<Move>) -> bool
-    ensures { IsTrue result ↔ (0 < length (told (plies_of moves.now) (option_map ply_of hint))) }
+    ensures { IsTrue result
+        ↔ (0 < length (plies_and_hint (plies_of moves.now) (option_map ply_of hint))) }
 {
     !moves.is_empty() || hint.is_some()
 }
@@ -58,9 +60,10 @@ fn write_told(moves: &[Move], hint: Option<Move>, out: &mut Out)
     requires officers { AllByRecursion (λ m. IsOfficer m.promotion) (plies_of moves.now) }
     requires officer { IfSome hint (λ m. IsOfficer m.promotion) }
     requires room { length out.old.text
-        + length (moves_text (told (plies_of moves.now) (option_map ply_of hint))) ≤ out.old.room }
+        + length (moves_text (plies_and_hint (plies_of moves.now) (option_map ply_of hint)))
+        ≤ out.old.room }
     ensures { out.new
-        ≡ with out.old (moves_text (told (plies_of moves.now) (option_map ply_of hint))) }
+        ≡ with out.old (moves_text (plies_and_hint (plies_of moves.now) (option_map ply_of hint))) }
 {
     if !has_moves(moves, hint) {
         return;

@@ -5,10 +5,10 @@ use Rattle.std.specs.List.{join_with_byte}
 use Rattle.chess_board.specs.declared.board.Side.{Side}
 use Rattle.chess_board.specs.declared.board.Side.TheVariants.{White, Black}
 use Rattle.chess_board.specs.Position.{Position}
-use Rattle.fen_text.specs.Written.{written}
+use Rattle.fen_text.specs.Written.{position_fen}
 use Rattle.game_record.specs.declared.ending.GameEnd.{GameEnd}
 use Rattle.game_record.specs.declared.ending.GameEnd.TheVariants.{Mate}
-use Rattle.game_record.specs.Game.{Ply, Game, played, now_of}
+use Rattle.game_record.specs.Game.{Ply, Game, position_after_ply, now_of}
 use Rattle.game_record.specs.Ending.{ended_of}
 use Rattle.game_record.specs.Line.{is_standard}
 use Rattle.game_text.specs.San.{san}
@@ -25,10 +25,11 @@ abbrev pub beginning_by : Side → ℕ → List (List ℕ)
 beginning_by White n = []
 beginning_by Black n = (decimal n ++ codes "...") ∷ []
 
--- each move behind its number
+-- each move after its number
 abbrev pub move_parts : Position → List Ply → List (List ℕ)
 move_parts p [] = []
-move_parts p (m ∷ moves) = number_by p.side p.full ++ san p m ∷ move_parts (played p m) moves
+move_parts p (m ∷ moves) =
+    number_by p.side p.full ++ san p m ∷ move_parts (position_after_ply p m) moves
 
 -- who won: not the side on move, if it is mated; nobody, if the game has ended otherwise
 abbrev pub result_by : Side → Option GameEnd → List ℕ
@@ -48,13 +49,13 @@ parts_of g =
 
 -- the tag of the start: none, if it is the standard start with its counts 0 and 1
 abbrev pub tag_of : Position → List ℕ
-tag_of p = if is_standard p then [] else codes "[FEN \"" ++ (written p ++ codes "\"]\n")
+tag_of p = if is_standard p then [] else codes "[FEN \"" ++ (position_fen p ++ codes "\"]\n")
 
 -- One blank stands between the parts of the line.
 unfoldable pub game_text : Game → List ℕ
 game_text g = tag_of g.start ++ (join_with_byte blank (parts_of g) ++ line_feed ∷ [])
 
--- each part with a blank behind it
-abbrev pub spaced : List (List ℕ) → List ℕ
-spaced [] = []
-spaced (part ∷ parts) = part ++ blank ∷ spaced parts
+-- each part with a blank after it
+abbrev pub spaced_parts : List (List ℕ) → List ℕ
+spaced_parts [] = []
+spaced_parts (part ∷ parts) = part ++ blank ∷ spaced_parts parts

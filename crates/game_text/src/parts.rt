@@ -1,10 +1,10 @@
-// The parts of the line of a game, each with a blank behind it.
+// The parts of the line of a game, each with a blank after it.
 ghost use Rattle.std.specs.Prelude.{◌≡◌, ◌+◌, ◌*◌, ◌≤◌, ◌++◌, ◌∷◌, [], length, decimal};
 ghost use Rattle.line_io.specs.Out.{with};
 ghost use Rattle.chess_board.specs.Laws.{IsLegal};
 ghost use Rattle.game_record.specs.Game.{ply_of, plies_of, AreLegal};
 ghost use Rattle.game_text.specs.San.{san};
-ghost use Rattle.game_text.specs.Text.{number_by, beginning_by, move_parts, result_by, spaced};
+ghost use Rattle.game_text.specs.Text.{number_by, beginning_by, move_parts, result_by, spaced_parts};
 ghost use Rattle.chess_board.specs.Play.{top_count};
 
 use chess_board::{Move, Position, Side};
@@ -13,12 +13,12 @@ use itoa::Buffer;
 use line_io::Out;
 use san_text::write_san;
 
-// A number, what stands behind it, and a blank.
+// A number, what stands after it, and a blank.
 fn put_number(number: u32, behind: &[u8], out: &mut Out)
     requires small { number ≤ top_count }
     requires behind { length behind.now ≤ 3 }
     requires room { length out.old.text + 9 ≤ out.old.room }
-    ensures text { out.new ≡ with out.old (spaced ((decimal number ++ behind.now) ∷ [])) }
+    ensures text { out.new ≡ with out.old (spaced_parts ((decimal number ++ behind.now) ∷ [])) }
     ensures few { length out.new.text ≤ length out.old.text + 6 + length behind.now }
 {
     let mut digits = Buffer::new();
@@ -30,7 +30,7 @@ fn put_number(number: u32, behind: &[u8], out: &mut Out)
 /// Puts what stands before a move by its side: its number, if White plays it.
 fn put_place(at: &Position, out: &mut Out)
     requires room { length out.old.text + 9 ≤ out.old.room }
-    ensures text { out.new ≡ with out.old (spaced (number_by at.now.side at.now.full)) }
+    ensures text { out.new ≡ with out.old (spaced_parts (number_by at.now.side at.now.full)) }
     ensures few { length out.new.text ≤ length out.old.text + 7 }
 {
     at.facts();
@@ -43,7 +43,8 @@ fn put_place(at: &Position, out: &mut Out)
 /// Puts what stands before the first move of a game, if Black plays it.
 pub fn put_beginning(start: &Position, out: &mut Out)
     requires room { length out.old.text + 9 ≤ out.old.room }
-    ensures text { out.new ≡ with out.old (spaced (beginning_by start.now.side start.now.full)) }
+    ensures text { out.new
+        ≡ with out.old (spaced_parts (beginning_by start.now.side start.now.full)) }
     ensures few { length out.new.text ≤ length out.old.text + 9 }
 {
     start.facts();
@@ -53,12 +54,12 @@ pub fn put_beginning(start: &Position, out: &mut Out)
     }
 }
 
-// A move behind its number.
+// A move after its number.
 fn put_move(at: &Position, m: Move, out: &mut Out)
     requires legal { IsLegal at.now m.from.index m.to.index m.promotion }
     requires room { length out.old.text + 17 ≤ out.old.room }
     ensures text { out.new ≡ with out.old
-        (spaced (number_by at.now.side at.now.full ++ san at.now (ply_of m) ∷ [])) }
+        (spaced_parts (number_by at.now.side at.now.full ++ san at.now (ply_of m) ∷ [])) }
     ensures few { length out.new.text ≤ length out.old.text + 15 }
 {
     put_place(at, out);
@@ -70,7 +71,8 @@ fn put_move(at: &Position, m: Move, out: &mut Out)
 pub fn put_moves(start: &Position, moves: &[Move], out: &mut Out)
     requires legal { AreLegal start.now (plies_of moves.now) }
     requires room { length out.old.text + 15 * length moves.now + 2 ≤ out.old.room }
-    ensures text { out.new ≡ with out.old (spaced (move_parts start.now (plies_of moves.now))) }
+    ensures text { out.new
+        ≡ with out.old (spaced_parts (move_parts start.now (plies_of moves.now))) }
     ensures few { length out.new.text ≤ length out.old.text + 15 * length moves.now }
 {
     let mut at = *start;

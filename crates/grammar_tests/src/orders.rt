@@ -132,14 +132,14 @@ const ORDERS: [(&str, Result<Order, BadOrder>); 35] = [
     ),
 ];
 
-/// Expects the first value of a text, and returns what is behind it.
+/// Expects the first value of a text, and returns what is after it.
 fn expect_value<'a>(rt: &impl Abort, text: &'a [u8], want: &str) -> &'a [u8] {
     let (value, others) = next_value(text).expect(rt, "a value");
     expect_text(rt, value, want);
     others
 }
 
-/// Expects the first move of a text, and returns what is behind it.
+/// Expects the first move of a text, and returns what is after it.
 fn expect_move<'a>(rt: &impl Abort, text: &'a [u8], want: &str) -> &'a [u8] {
     let (m, others) = next_move(text).expect(rt, "a move");
     assert!(rt; Some(m) == read_move(want.as_bytes()), "{want}");

@@ -60,7 +60,7 @@ const WHITE: [(u8, bool); 5] = [
     (b'a', false),
 ];
 
-// A text, and its first token with what is behind it.
+// A text, and its first token with what is after it.
 const TOKENS: [(&str, Option<(&[u8], &[u8])>); 3] = [
     (" \tlevel  40 5\r", Some((b"level", b"40 5"))),
     ("5", Some((b"5", b""))),

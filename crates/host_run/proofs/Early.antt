@@ -2,7 +2,7 @@
 use Rattle.std.proofs.Common.{◌≡◌, ◌∙◌, ◌⊎◌, ℕ, Bool, true, false, List, Option, refl, sym, ap, subst, arith, inl, inr}
 use Rattle.line_io.specs.Source.{Supplied, Received}
 use Rattle.event_pipe.specs.Counts.{Tells}
-use Rattle.child_engine.specs.Hosts.{Books, unused}
+use Rattle.child_engine.specs.Hosts.{Books, unused_books}
 use Rattle.child_engine.specs.declared.host.Faults.{Faults}
 use Rattle.host_run.specs.declared.failures.Failures.{Failures}
 use Rattle.host_run.specs.Early.{only_memory, only_start}
@@ -48,7 +48,7 @@ early_told i o f f' b b' e failures t (inr w) =
       engine_wait = same_told f.waits f'.waits (ap (λ (x : Faults). x.waits) e);
     })
 
-pub none_closed : (says : Option (List ℕ)) (tells : Bool) (failures : Failures) → (failures ≡ only_memory) ⊎ (failures ≡ only_start) → IsClosed (unused says tells) failures
+pub none_closed : (says : Option (List ℕ)) (tells : Bool) (failures : Failures) → (failures ≡ only_memory) ⊎ (failures ≡ only_start) → IsClosed (unused_books says tells) failures
 none_closed says tells failures (inl w) =
     record {
       runs = refl;

@@ -8,7 +8,7 @@ use Rattle.event_pipe.specs.declared.message.Peer.TheVariants as peers
 use Rattle.event_pipe.specs.declared.reader.ReadEnd.{ReadEnd}
 use Rattle.event_pipe.specs.declared.reader.ReadEnd.TheVariants as read_ends
 use Rattle.event_pipe.specs.Rule.{sent_by}
-use Rattle.event_pipe.specs.Arrivals.{arrivals, closed, line_limit, failed, Arrived}
+use Rattle.event_pipe.specs.Arrivals.{arrivals, has_close_event, line_limit, is_read_fault, Arrived}
 use Rattle.sink_offers.specs.Streams.{TookFront}
 use Rattle.sink_offers.specs.Took.{LogTook}
 use Rattle.child_engine.specs.Hosts.{Told, fresh_source, fresh_sink}
@@ -37,7 +37,7 @@ front_of text true old new t = t.front refl
 front_of text false old new t = record { front = text; rest = []; is = sym (append-nil text); took = t.whole refl }
 
 -- an engine's lines end with its end
-closes : (lines : List Piece) → closed (arrivals peers.Engine lines) ≡ true
+closes : (lines : List Piece) → has_close_event (arrivals peers.Engine lines) ≡ true
 closes [] = refl
 closes (Whole line ∷ lines) = closes lines
 closes (TooLong ∷ lines) = closes lines
@@ -51,18 +51,18 @@ pub none_left : (left : Option (List ℕ)) (rest : List ℕ) → left ≡ Some r
 none_left None rest e end = cc
 none_left (Some xs) rest e end = let same : rest ≡ xs = cc in same ∙ end
 
-pub is_done : (end : ReadEnd) → failed end ≡ false → lacked_memory end ≡ false → end ≡ read_ends.Done
+pub is_done : (end : ReadEnd) → is_read_fault end ≡ false → lacked_memory end ≡ false → end ≡ read_ends.Done
 is_done read_ends.Done f m = refl
 is_done (read_ends.Fault f) e m = cc
 is_done read_ends.NoMemory f m = cc
 
-fault_of : {P : Type 0} (end : ReadEnd) → failed end ≡ true → ((f : _) → end ≡ read_ends.Fault f → P) → P
+fault_of : {P : Type 0} (end : ReadEnd) → is_read_fault end ≡ true → ((f : _) → end ≡ read_ends.Fault f → P) → P
 fault_of read_ends.Done e p = cc
 fault_of (read_ends.Fault f) e p = p f refl
 fault_of read_ends.NoMemory e p = cc
 
 pub gave_by : (bytes : List ℕ) (last : Supplied) (taken : Option (List ℕ)) (sent : List Event) (end : ReadEnd) (failures : Failures) → Arrived peers.Engine (fresh_source (Some bytes)) last sent end
-    → failures.engine_read ≡ failed end → (failures.memory ≡ false → lacked_memory end ≡ false) → Gave bytes (record { given = last.given; left = last.left; taken = taken }) sent failures
+    → failures.engine_read ≡ is_read_fault end → (failures.memory ≡ false → lacked_memory end ≡ false) → Gave bytes (record { given = last.given; left = last.left; taken = taken }) sent failures
 gave_by bytes last taken sent end failures a r m =
     let l = left_is bytes a.got last.left a.reads.left in
     record {
@@ -74,7 +74,7 @@ gave_by bytes last taken sent end failures a r m =
       all = λ no_fault some_memory.
           let done = is_done end (sym r ∙ no_fault) (m some_memory) in
           let arrived = a.all done in
-          (none_left last.left l.0 l.2 (a.at_end done (ap closed arrived ∙ closes (items line_limit a.got))), arrived);
+          (none_left last.left l.0 l.2 (a.at_end done (ap has_close_event arrived ∙ closes (items line_limit a.got))), arrived);
       at_fault = λ fault. fault_of end (sym r ∙ fault) (λ f e. a.at_fault f e);
     }
 

@@ -36,7 +36,7 @@ code_of endings.EngineStartFailed = 8
 code_of endings.LogFailed = 9
 code_of endings.EngineWaitFailed = 10
 
--- behind the name of the program
+-- after the name of the program
 abbrev pub behind_name : List ℕ → List ℕ
 behind_name text = codes ": " ++ text ++ line_feed ∷ []
 

@@ -67,7 +67,7 @@ impl ProgramEnding {
         }
     }
 
-    // What a diagnostic has behind the program's name, with its line feed.
+    // What a diagnostic has after the program's name, with its line feed.
     fn words(self) -> &'static [u8]
         ensures { result.now ≡ words_of self }
     {

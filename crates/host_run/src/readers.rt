@@ -1,13 +1,13 @@
 // How a reader ended.
 ghost use Rattle.std.specs.Prelude.{◌≡◌};
-ghost use Rattle.event_pipe.specs.Arrivals.{failed};
+ghost use Rattle.event_pipe.specs.Arrivals.{is_read_fault};
 ghost use Rattle.host_run.specs.Readers.{lacked_memory};
 
 use event_pipe::ReadEnd;
 
 /// Whether reading failed.
 pub fn has_failed(end: ReadEnd) -> bool
-    ensures { result ≡ failed end }
+    ensures { result ≡ is_read_fault end }
 {
     matches!(end, ReadEnd::Fault(_))
 }

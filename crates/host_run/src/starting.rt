@@ -16,7 +16,7 @@ pub fn start_engine<H: Host, R: Threads>(
     alloc: Global,
     words: &[String],
     host: &mut H,
-) -> Result<Started<H::EngineSource, H::EngineSink, H::ChildProcess>, Failures>
+) -> Result<Started<H::EngineSource, H::EngineSink, H::EngineProcess>, Failures>
     requires words { 0 < length words.now }
     requires unused { IsUnused (H.books host.old) }
     ensures source { IfOk result (λ run.

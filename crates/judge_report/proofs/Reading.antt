@@ -12,7 +12,7 @@ use Rattle.session_judge.specs.Clean.{verdict}
 use Rattle.session_judge.specs.Talks.{after, opening}
 use Rattle.std.specs.Prelude.{Ok, Err, IfSome}
 use Rattle.judge_report.specs.Texts.{unlawful_line}
-use Rattle.judge_report.specs.Reports.{Course, Outcome, brought_out, kind_of, of_deed, of_kind, summed, with_outcome, read_on, over, report, last_lines}
+use Rattle.judge_report.specs.Reports.{Course, LineOutcome, brought_out, kind_of, of_deed, of_kind, report_before_end, with_outcome, read_on, over, report, last_lines}
 use Rattle.line_scribe.specs.Putting.{IsOfLine, Puts, Then}
 use Rattle.line_scribe.specs.Putting as scribe
 use Rattle.judge_report.specs.Judging.{judges}
@@ -29,9 +29,9 @@ put_ok t n d None held held' e h = h
 put_ok t n d (Some r) held held' e h = absurd (cc)
 
 -- and for one that breaks this one first
-pub put_err : (t : JudgedTalk) (n : ℕ) (d : Deed) (o : Option Rule) (rule : Rule) (held held' : Text) → Err rule ≡ verdict o → held' ≡ with held (summed t ++ unlawful_line n rule) → held' ≡ with held (of_deed t n d o).more
+pub put_err : (t : JudgedTalk) (n : ℕ) (d : Deed) (o : Option Rule) (rule : Rule) (held held' : Text) → Err rule ≡ verdict o → held' ≡ with held (report_before_end t ++ unlawful_line n rule) → held' ≡ with held (of_deed t n d o).more
 put_err t n d None rule held held' e h = absurd (cc)
-put_err t n d (Some r) rule held held' e h = let same : rule ≡ r = cc in h ∙ ap (λ x. with held (summed t ++ unlawful_line n x)) same
+put_err t n d (Some r) rule held held' e h = let same : rule ≡ r = cc in h ∙ ap (λ x. with held (report_before_end t ++ unlawful_line n x)) same
 
 -- the reason to end, and the talk then
 pub ending_ok : (t : JudgedTalk) (n : ℕ) (d : Deed) (o : Option Rule) → Ok tt ≡ verdict o → None ≡ (of_deed t n d o).ending

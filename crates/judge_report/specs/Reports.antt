@@ -16,47 +16,47 @@ use Rattle.session_judge.specs.declared.talk.JudgedTalk.{JudgedTalk}
 use Rattle.session_judge.specs.Deeds.{deed_of}
 use Rattle.session_judge.specs.Rules.{broken}
 use Rattle.session_judge.specs.Talks.{after, opening}
-use Rattle.judge_report.specs.Texts.{searched, crossings_line, lawful_line, unlawful_line}
+use Rattle.judge_report.specs.Texts.{search_report, crossings_line, lawful_line, unlawful_line}
 
 -- what a line of a log is: a mark, a line that is ignored, or neither
-pub data Kind : Type 0 where
-  Marks : (mark : Mark) → Kind
-  Passes : Kind
-  HasNone : Kind
+pub data LogLineKind : Type 0 where
+  Marks : (mark : Mark) → LogLineKind
+  Passes : LogLineKind
+  HasNone : LogLineKind
 
 -- step lines are ignored, and a header in line 1
 abbrev pub is_passed : ℕ → List ℕ → Bool
 is_passed number line = is_some (step_of line) || (number == 1 && is_some (header_of line))
 
-abbrev pub kind_by : Option Mark → Bool → Kind
+abbrev pub kind_by : Option Mark → Bool → LogLineKind
 kind_by (Some mark) passed = Marks mark
 kind_by None passed = if passed then Passes else HasNone
 
-abbrev pub kind_of : ℕ → Piece → Kind
+abbrev pub kind_of : ℕ → Piece → LogLineKind
 kind_of number (Whole line) = kind_by (mark_of line) (is_passed number line)
 kind_of number TooLong = HasNone
 
 -- what comes of a line: the talk then, what is written for it, and whether it is the last
-pub record Outcome : Type 0 where
+pub record LineOutcome : Type 0 where
   pub talk : JudgedTalk
   pub more : List ℕ
   pub ending : Option Ending
 
 -- A `go` brings out the line of the search before it.
 abbrev pub brought_out : Option Search → Deed → List ℕ
-brought_out search (deeds.Writes (orders.Go kind)) = searched search
+brought_out search (deeds.Writes (orders.Go kind)) = search_report search
 brought_out search deed = []
 
 -- what comes before the last line: the line of the last search, and how many orders crossed
-abbrev pub summed : JudgedTalk → List ℕ
-summed t = searched t.search ++ crossings_line t.crossings
+abbrev pub report_before_end : JudgedTalk → List ℕ
+report_before_end t = search_report t.search ++ crossings_line t.crossings
 
-abbrev pub of_deed : JudgedTalk → ℕ → Deed → Option Rule → Outcome
+abbrev pub of_deed : JudgedTalk → ℕ → Deed → Option Rule → LineOutcome
 of_deed t number deed None = record { talk = after t number deed; more = brought_out t.search deed; ending = None }
 of_deed t number deed (Some rule) =
-    record { talk = t; more = summed t ++ unlawful_line number rule; ending = Some (endings.Unlawful number) }
+    record { talk = t; more = report_before_end t ++ unlawful_line number rule; ending = Some (endings.Unlawful number) }
 
-abbrev pub of_kind : JudgedTalk → ℕ → Kind → Outcome
+abbrev pub of_kind : JudgedTalk → ℕ → LogLineKind → LineOutcome
 of_kind t number (Marks mark) = of_deed t number (deed_of mark) (broken t (deed_of mark))
 of_kind t number Passes = record { talk = t; more = []; ending = None }
 of_kind t number HasNone = record { talk = t; more = []; ending = Some (endings.NoMark number) }
@@ -67,7 +67,7 @@ pub record Course : Type 0 where
   pub text : List ℕ
   pub ending : Option Ending
 
-abbrev pub with_outcome : Course → Outcome → Course
+abbrev pub with_outcome : Course → LineOutcome → Course
 with_outcome c o = record { talk = o.talk; text = c.text ++ o.more; ending = o.ending }
 
 abbrev pub read_on : Option Ending → Course → ℕ → Piece → Course
@@ -85,5 +85,5 @@ report listener lines = over (record { talk = opening listener; text = []; endin
 
 -- what is written at the end of the input; nothing is written if it was not read to its end
 abbrev pub last_lines : JudgedTalk → Ending → List ℕ
-last_lines t endings.Done = summed t ++ lawful_line
+last_lines t endings.Done = report_before_end t ++ lawful_line
 last_lines t ending = []

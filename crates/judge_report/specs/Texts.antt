@@ -39,9 +39,9 @@ abbrev pub search_line : Search → List ℕ
 search_line s = begun_text s ++ ended_text s
 
 -- the line of a search, if there is one
-abbrev pub searched : Option Search → List ℕ
-searched None = []
-searched (Some s) = search_line s
+abbrev pub search_report : Option Search → List ℕ
+search_report None = []
+search_report (Some s) = search_line s
 
 abbrev pub rule_text : Rule → List ℕ
 rule_text rules.First = codes "first"

@@ -2,8 +2,8 @@
 ghost use Rattle.std.specs.Prelude.{◌≡◌, ◌+◌, ◌≤◌, ◌++◌, decimal, length};
 ghost use Rattle.line_io.specs.Out.{with};
 ghost use Rattle.chess_board.specs.Text.{promotion_text, text_of};
-ghost use Rattle.judge_report.specs.Reports.{summed};
-ghost use Rattle.judge_report.specs.Texts.{begun_text, count_line, crossings_line, end_text, ended_text, kind_text, lawful_line, rule_text, searched, shown_text, stop_text, unlawful_line};
+ghost use Rattle.judge_report.specs.Reports.{report_before_end};
+ghost use Rattle.judge_report.specs.Texts.{begun_text, count_line, crossings_line, end_text, ended_text, kind_text, lawful_line, rule_text, search_report, shown_text, stop_text, unlawful_line};
 ghost use Rattle.judge_report.specs.declared.report.TheConstants.{LAST_LINES};
 
 use chess_board::{Kind, Move};
@@ -121,7 +121,7 @@ fn put_ended(search: &Search, out: &mut Out)
 /// Puts the line of a search, if there is one.
 pub(crate) fn put_search(search: Option<Search>, out: &mut Out)
     requires { length out.old.text + 130 ≤ out.old.room }
-    ensures text { out.new ≡ with out.old (searched search) }
+    ensures text { out.new ≡ with out.old (search_report search) }
     ensures short { length out.new.text ≤ length out.old.text + 130 }
 {
     if let Some(search) = search {
@@ -183,7 +183,7 @@ fn put_crossings(crossings: u64, out: &mut Out)
 // Puts what comes before the last line.
 fn put_sum(judge: &Judge, out: &mut Out)
     requires { length out.old.text + 170 ≤ out.old.room }
-    ensures text { out.new ≡ with out.old (summed judge.now) }
+    ensures text { out.new ≡ with out.old (report_before_end judge.now) }
     ensures short { length out.new.text ≤ length out.old.text + 170 }
 {
     put_search(judge.search(), out);
@@ -193,7 +193,7 @@ fn put_sum(judge: &Judge, out: &mut Out)
 /// Puts what the judge found so far, and the line about a mark that breaks a rule.
 pub(crate) fn put_refusal(judge: &Judge, line: u64, rule: Rule, out: &mut Out)
     requires { length out.old.text + LAST_LINES ≤ out.old.room }
-    ensures { out.new ≡ with out.old (summed judge.now ++ unlawful_line line rule) }
+    ensures { out.new ≡ with out.old (report_before_end judge.now ++ unlawful_line line rule) }
 {
     put_sum(judge, out);
     put_unlawful(line, rule, out);
@@ -210,7 +210,7 @@ fn put_none_broken(out: &mut Out)
 /// Puts what the judge found, and the line about a log in which no mark breaks a rule.
 pub(crate) fn put_lawful(judge: &Judge, out: &mut Out)
     requires { length out.old.text + LAST_LINES ≤ out.old.room }
-    ensures { out.new ≡ with out.old (summed judge.now ++ lawful_line) }
+    ensures { out.new ≡ with out.old (report_before_end judge.now ++ lawful_line) }
 {
     put_sum(judge, out);
     put_none_broken(out);

@@ -11,14 +11,14 @@ use Rattle.chess_board.specs.Play.{IsPosition, start_position}
 use Rattle.chess_board.specs.Text.{text_of}
 use Rattle.chess_board.proofs.Texts.{legal-written, reads-back}
 use Rattle.fen_text.specs.Fen.{position_of, position_of_fields}
-use Rattle.fen_text.specs.Written.{written, fields_text, board_text, side_text, rights_text, passant_text}
+use Rattle.fen_text.specs.Written.{position_fen, fields_text, board_text, side_text, rights_text, passant_text}
 use Rattle.fen_text.proofs.Cut.{Above, IsWord}
 use Rattle.fen_text.proofs.Boards.{word-board}
 use Rattle.fen_text.proofs.Others.{word-side, word-rights, word-passant, word-count}
 use Rattle.fen_text.proofs.Back.{reads_back}
 use Rattle.uci_lines.specs.Orders.{position_text}
 use Rattle.uci_lines.proofs.MoveTokens.{move_token}
-use Rattle.game_record.specs.Game.{Game, ply_of, plies_of, AreLegal, played, now_after, now_of}
+use Rattle.game_record.specs.Game.{Game, ply_of, plies_of, AreLegal, position_after_ply, now_after, now_of}
 use Rattle.game_record.specs.Line.{ply_text, is_standard}
 use Rattle.game_record.proofs.Lines.{standard-law}
 use Rattle.uci_talk.specs.Lines.{Line, line_of}
@@ -56,7 +56,7 @@ field_words p q =
     (word-board p.men, (word-side p.side, (word-rights p.rights, (word-passant p.passant, (word-count p.half half, (word-count p.full full, tt))))))
 
 fields_read : (p : Position) → IsPosition p → position_of_fields (fields_text p) ≡ Ok p
-unfolding written position_of
+unfolding position_fen position_of
 fields_read p q = ap position_of_fields (sym (tokens_joined (fields_text p) (words_tokens (fields_text p) (field_words p q)))) ∙ reads_back p q
 
 -- the texts of moves
@@ -69,7 +69,7 @@ texts_are (m ∷ ms) = ap (λ ts. text_of m ∷ ts) (texts_are ms)
 
 leads : (p : Position) (ms : List Move) → AreLegal p (plies_of ms) → Leads p (texts_of ms) (now_after p (plies_of ms))
 leads p [] l = Leads.Stays
-leads p (m ∷ ms) l = Leads.Goes m (reads-back m (legal-written p m l.0)) l.0 (leads (played p (ply_of m)) ms l.1)
+leads p (m ∷ ms) l = Leads.Goes m (reads-back m (legal-written p m l.0)) l.0 (leads (position_after_ply p (ply_of m)) ms l.1)
 
 texts_tokens : (ms : List Move) → list_all is_token (texts_of ms) ≡ true
 texts_tokens [] = refl
@@ -90,8 +90,8 @@ standard_tokens (t ∷ ts) h = some_moves (joined_moves (t ∷ ts)) refl where
   some_moves [] e = let none = ap tokens (sym e) ∙ tokens_joined (t ∷ ts) h in absurd (cc)
   some_moves (b ∷ bs) e = ap (λ us. codes "startpos" ∷ codes "moves" ∷ us) (ap tokens (sym e) ∙ tokens_joined (t ∷ ts) h)
 
-set_up_tokens : (p : Position) → IsPosition p → (ts : List (List ℕ)) → list_all is_token ts ≡ true → drop 1 (tokens (position_text (Some (written p)) (joined_moves ts))) ≡ behind (codes "fen" ∷ fields_text p) ts
-unfolding written
+set_up_tokens : (p : Position) → IsPosition p → (ts : List (List ℕ)) → list_all is_token ts ≡ true → drop 1 (tokens (position_text (Some (position_fen p)) (joined_moves ts))) ≡ behind (codes "fen" ∷ fields_text p) ts
+unfolding position_fen
 set_up_tokens p q [] h =
     ap (λ us. codes "fen" ∷ us) (ap tokens (append-nil (join_with_byte 32 (fields_text p))) ∙ tokens_joined (fields_text p) (words_tokens (fields_text p) (field_words p q)))
 set_up_tokens p q (t ∷ ts) h = some_moves (joined_moves (t ∷ ts)) refl where
@@ -120,7 +120,7 @@ says_so p ms first line s l e =
       whole = subst (λ us. (us ≡ first ++ (codes "moves" ∷ texts_of ms)) ⊎ ((us ≡ first) × (texts_of ms ≡ []))) (sym e) (whole first (texts_of ms));
     })
 
-by_start : (b : Bool) (p : Position) (ms : List Move) → is_standard p ≡ b → IsPosition p → AreLegal p (plies_of ms) → line_of (position_text (cond b None (Some (written p))) (joined_moves (texts_of ms))) ≡ Some (said p ms)
+by_start : (b : Bool) (p : Position) (ms : List Move) → is_standard p ≡ b → IsPosition p → AreLegal p (plies_of ms) → line_of (position_text (cond b None (Some (position_fen p))) (joined_moves (texts_of ms))) ≡ Some (said p ms)
 by_start true p ms e q l =
     let same : p ≡ start_position = (standard-law p).0 e in
     says_so p ms (codes "startpos" ∷ []) _ (subst (λ x. Starts (codes "startpos" ∷ []) x) (sym same) Starts.Standard) l (standard_tokens (texts_of ms) (texts_tokens ms))

@@ -30,7 +30,7 @@ use Rattle.search_epochs.specs.declared.words.Call.TheVariants as calls
 use Rattle.search_epochs.specs.declared.words.Said.{Said}
 use Rattle.search_epochs.specs.declared.words.Said.TheVariants as said
 use Rattle.search_epochs.specs.Tickets as talks
-use Rattle.search_epochs.specs.Tickets.{Engine, Word, Ticketed, Turn, What, TicketWithin, MaySendAll, heard, said_of, sent, sent_all, spent, has_go, has_hit, is_hint, is_hit, is_move, kind_of, ponders_at, same_kind, same_move}
+use Rattle.search_epochs.specs.Tickets.{Engine, Word, Ticketed, DialogueTurn, What, TicketWithin, MaySendAll, heard, said_of, engine_after_word, sent_all, is_call_spent, has_go, has_hit, is_hint, is_hit, is_move, kind_of, ponders_at, same_kind, same_move}
 use Rattle.desk_rules.specs.declared.desk.Desk.{Desk}
 use Rattle.desk_rules.specs.Desk as desks
 use Rattle.desk_rules.specs.Desk.{Situation, is_boot, is_gone, owes_move, on_move, plies}
@@ -41,7 +41,7 @@ use Rattle.desk_rules.specs.Fits.{IsSound}
 use Rattle.desk_rules.proofs.Hints.{hint_kept, call_hint}
 use Rattle.desk_rules.proofs.Sound.{step_sound}
 use Rattle.adapter_core.specs.Ends.{is_open}
-use Rattle.adapter_core.specs.Trace.{State, Step, Lawful, AreSettled, state, state_after, situation, effect, turn, mid, owing, closed_after, desk_of}
+use Rattle.adapter_core.specs.Trace.{State, Step, Lawful, AreSettled, state, state_after, situation, effect, turn, mid, owed_after, closed_after, desk_of}
 use Rattle.adapter_core.proofs.Traces.{lasts, fits}
 use Rattle.adapter_core.proofs.Square.{for_owed}
 use Rattle.session_judge.specs.declared.deed.OrderKind.TheVariants as hears
@@ -97,7 +97,7 @@ later w ws g h = record { first = refl; no_go = g; no_hit = h }
 stop_one : (k k' : GoKind) (t t' : ℕ) (s' st : Bool) → talks.Search k' t' true ≡ talks.Search k t st → talks.Search k' t' s' ≡ talks.Search k t s'
 stop_one k k' t t' s' st x = let a : k' ≡ k = cc in let b : t' ≡ t = cc in ap (λ (y : GoKind). talks.Search y t' s') a ∙ ap (λ (y : ℕ). talks.Search k y s') b
 
-sent_one : (n : ℕ) (e : Engine) (w : Word) (k : GoKind) (t : ℕ) (st : Bool) → goes_on w ≡ true → sent n e w ≡ talks.Search k t st → (st' : Bool) × (e ≡ talks.Search k t st')
+sent_one : (n : ℕ) (e : Engine) (w : Word) (k : GoKind) (t : ℕ) (st : Bool) → goes_on w ≡ true → engine_after_word n e w ≡ talks.Search k t st → (st' : Bool) × (e ≡ talks.Search k t st')
 sent_one n (talks.Search k' t' s') talks.Setup k t st g x = (st, x)
 sent_one n (talks.Search k' t' s') talks.Position k t st g x = (st, x)
 sent_one n (talks.Search k' t' s') talks.Stop k t st g x = (s', stop_one k k' t t' s' st x)
@@ -109,12 +109,12 @@ sent_search : (n : ℕ) (e : Engine) (ws : List Word) (k : GoKind) (t : ℕ) (st
 sent_search n e [] k t st g h x = (st, x)
 sent_search n e (w ∷ ws) k t st g h x =
     let l = later w ws g h in
-    let r = sent_search n (sent n e w) ws k t st l.no_go l.no_hit x in
+    let r = sent_search n (engine_after_word n e w) ws k t st l.no_go l.no_hit x in
     sent_one n e w k t r.0 l.first r.1
 
 -- THE HINT IS PLAYED
 
-record Hits (t : Ticketed) (u : Turn) : Type 0 where
+record Hits (t : Ticketed) (u : DialogueTurn) : Type 0 where
   engine : t.engine ≡ talks.Search kinds.Ponder t.epoch false
   hint : is_hint u.hint u.what ≡ true
 
@@ -134,7 +134,7 @@ ponders_so epoch (talks.Search kinds.Ponder t s) x =
     not_true true e = cc
     not_true false e = refl
 
-hits_so : (t : Ticketed) (u : Turn) → is_hit t u ≡ true → Hits t u
+hits_so : (t : Ticketed) (u : DialogueTurn) → is_hit t u ≡ true → Hits t u
 hits_so t u x =
     let first = and_parts (ponders_at t.epoch t.engine && is_hint u.hint u.what) _ x in
     let both = and_parts (ponders_at t.epoch t.engine) (is_hint u.hint u.what) first.0 in
@@ -267,12 +267,12 @@ module _ (o : Settings) (step : Step) (trace : List Step) (l : Lawful o (step �
   game_after = effect_is h s.held d (fits s step (lasts o trace l.0) l.1) i
 
   sound_after : IsSound (desk_of s ev)
-  sound_after = step_sound (closed_after s ev) (is_move (owing s ev)) (is_hit s.dialogue (turn s ev)) h s.held d (lasts o trace l.0).sound (fits s step (lasts o trace l.0) l.1)
+  sound_after = step_sound (closed_after s ev) (is_move (owed_after s ev)) (is_hit s.dialogue (turn s ev)) h s.held d (lasts o trace l.0).sound (fits s step (lasts o trace l.0) l.1)
 
-  searched_here : IsSearched (desk_of s ev) (owing s ev)
+  searched_here : IsSearched (desk_of s ev) (owed_after s ev)
   searched_here =
-      is_searched (desk_of s ev) (owing s ev) game_after sound_after
-      (λ g e. call_hint (closed_after s ev) (is_gone h.engine || is_death d) (desk_after_effect h d) g (for_owed (spent m) (turn s ev).call g e))
+      is_searched (desk_of s ev) (owed_after s ev) game_after sound_after
+      (λ g e. call_hint (closed_after s ev) (is_gone h.engine || is_death d) (desk_after_effect h d) g (for_owed (is_call_spent m) (turn s ev).call g e))
 
   -- the talk after the orders
   abbrev Follows : JudgedTalk → Type 0
@@ -283,7 +283,7 @@ module _ (o : Settings) (step : Step) (trace : List Step) (l : Lawful o (step �
 
   begins : (t : JudgedTalk) (p : Place) → AreSettled s ev step.orders → has_go ws ≡ true → Agrees t m.engine p → Runs t (map engine_mark step.orders) Follows
   begins t p a g b =
-      let c = owing s ev in
+      let c = owed_after s ev in
       let x = desk_of s ev in
       let words = (a.words.go g).0 in
       let is : step.orders ≡ search_orders x c = a.search g in

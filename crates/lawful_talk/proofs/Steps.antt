@@ -24,7 +24,7 @@ use Rattle.desk_rules.specs.Steps.{Effect, Shows, classify, searched_by}
 use Rattle.desk_rules.specs.Orders.{word_of}
 use Rattle.desk_rules.specs.Replies.{replies_of, row}
 use Rattle.adapter_core.specs.Ends.{is_open}
-use Rattle.adapter_core.specs.Trace.{State, Step, Lawful, state, state_after, situation, effect, mid, owing, closed_after, gone_after, last_orders}
+use Rattle.adapter_core.specs.Trace.{State, Step, Lawful, state, state_after, situation, effect, mid, owed_after, closed_after, gone_after, last_orders}
 use Rattle.adapter_core.specs.Shown.{Answers, moves_told}
 use Rattle.adapter_core.proofs.Closing.{open_before, closed_stays}
 use Rattle.adapter_core.proofs.Shown.{shown_by, open_shows, shown as shown_in_time}
@@ -116,10 +116,10 @@ module _ (o : Settings) (step : Step) (trace : List Step) (l : Lawful o (step �
   heard_event c = ap (λ b. heard s.dialogue.engine (said_by b ev)) (sym c) ∙ sym (hearing.event_heard s ev)
 
   pub told_moves : closed_after s ev ≡ false → moves_told step.replies ≡ shown_by d
-  told_moves c = ap moves_told l.1.replies ∙ open_moves (closed_after s ev) (is_move (owing s ev)) h d c
+  told_moves c = ap moves_told l.1.replies ∙ open_moves (closed_after s ev) (is_move (owed_after s ev)) h d c
 
   pub told_none : closed_after s ev ≡ true → moves_told step.replies ≡ []
-  told_none c = ap moves_told l.1.replies ∙ no_moves (closed_after s ev) (is_move (owing s ev)) h d c
+  told_none c = ap moves_told l.1.replies ∙ no_moves (closed_after s ev) (is_move (owed_after s ev)) h d c
 
   -- what is known once the event was heard
   record Heard (t u : JudgedTalk) (p : Place) : Type 0 where
@@ -146,7 +146,7 @@ module _ (o : Settings) (step : Step) (trace : List Step) (l : Lawful o (step �
 
   answers_in : (best : Move) (hint : Option Move) → closed_after s ev ≡ false → d ≡ Shows best hint → Answers s ev best
   answers_in best hint c e =
-      let tells = subst (λ (x : Effect). Contains (replies_of (closed_after s ev) (is_move (owing s ev)) h x) (told.Move best)) (sym e) (tells_first (closed_after s ev) (is_move (owing s ev)) h best hint c) in
+      let tells = subst (λ (x : Effect). Contains (replies_of (closed_after s ev) (is_move (owed_after s ev)) h x) (told.Move best)) (sym e) (tells_first (closed_after s ev) (is_move (owed_after s ev)) h best hint c) in
       (shown_in_time o step trace l best).0 (subst (λ (rs : List Reply). Contains rs (told.Move best)) (sym l.1.replies) tells)
 
   by_shown : (t u : JudgedTalk) (p : Place) → IsShown d → closed_after s ev ≡ false → SearchesAt s p → Agrees t s.dialogue.engine p → Heard t u p → Runs u (map iface_mark step.replies) (λ v. Agrees v m.engine p)

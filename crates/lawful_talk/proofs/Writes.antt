@@ -6,7 +6,7 @@ use Rattle.chess_board.specs.Position.{Position as Place}
 use Rattle.uci_lines.specs.Orders.{Order}
 use Rattle.uci_lines.specs.Orders as orders
 use Rattle.search_epochs.specs.Tickets as talks
-use Rattle.search_epochs.specs.Tickets.{Engine, Word, MaySend, MaySendAll, Paired, sent, sent_all, has_go, has_quit}
+use Rattle.search_epochs.specs.Tickets.{Engine, Word, MaySend, MaySendAll, Paired, engine_after_word, sent_all, has_go, has_quit}
 use Rattle.desk_rules.specs.Orders.{word_of}
 use Rattle.session_judge.specs.declared.deed.OrderKind.{OrderKind as Heard}
 use Rattle.session_judge.specs.declared.deed.OrderKind.TheVariants as hears
@@ -81,10 +81,10 @@ is_plain (orders.Go ponder control depth) = false
 is_plain orders.Quit = false
 is_plain o = true
 
-by_idle : (n : ℕ) (e : Engine) (w : Word) (t : JudgedTalk) (o : Heard) → e ≡ talks.Idle → Takes t (sent n talks.Idle w) o → Takes t (sent n e w) o
-by_idle n e w t o i k = subst (λ (x : Engine). Takes t (sent n x w) o) (sym i) k
+by_idle : (n : ℕ) (e : Engine) (w : Word) (t : JudgedTalk) (o : Heard) → e ≡ talks.Idle → Takes t (engine_after_word n talks.Idle w) o → Takes t (engine_after_word n e w) o
+by_idle n e w t o i k = subst (λ (x : Engine). Takes t (engine_after_word n x w) o) (sym i) k
 
-stops_at : (n : ℕ) (e : Engine) (t : JudgedTalk) → Shows t e → t.stage ≡ stages.Open → MaySend e talks.Stop → Takes t (sent n e talks.Stop) hears.Stop
+stops_at : (n : ℕ) (e : Engine) (t : JudgedTalk) → Shows t e → t.stage ≡ stages.Open → MaySend e talks.Stop → Takes t (engine_after_word n e talks.Stop) hears.Stop
 stops_at n talks.Boot t e s m = absurd m
 stops_at n talks.Getting t e s m = absurd m
 stops_at n talks.Idle t e s m = absurd m
@@ -93,7 +93,7 @@ stops_at n (talks.Search kinds.Move ticket x) t e s m = stop_takes t kinds.Move 
 stops_at n (talks.Search kinds.Ponder ticket x) t e s m = stop_takes t kinds.Ponder ticket (search_so t kinds.Ponder x false m e) s
 stops_at n (talks.Search kinds.Analyse ticket x) t e s m = stop_takes t kinds.Analyse ticket (search_so t kinds.Analyse x false m e) s
 
-hits_at : (n : ℕ) (e : Engine) (t : JudgedTalk) → Shows t e → t.stage ≡ stages.Open → MaySend e talks.PonderHit → Takes t (sent n e talks.PonderHit) hears.PonderHit
+hits_at : (n : ℕ) (e : Engine) (t : JudgedTalk) → Shows t e → t.stage ≡ stages.Open → MaySend e talks.PonderHit → Takes t (engine_after_word n e talks.PonderHit) hears.PonderHit
 hits_at n talks.Boot t e s m = absurd m
 hits_at n talks.Getting t e s m = absurd m
 hits_at n talks.Idle t e s m = absurd m
@@ -102,7 +102,7 @@ hits_at n (talks.Search kinds.Move ticket x) t e s m = absurd (let a = m.0 in cc
 hits_at n (talks.Search kinds.Analyse ticket x) t e s m = absurd (let a = m.0 in cc)
 hits_at n (talks.Search kinds.Ponder ticket x) t e s m = hit_takes t n (search_so t kinds.Ponder x false m.1 e) s
 
-takes : (n : ℕ) (e : Engine) (o : Order) (t : JudgedTalk) → is_plain o ≡ true → Shows t e → t.stage ≡ stages.Open → MaySend e (word_of o) → Takes t (sent n e (word_of o)) (as_order o)
+takes : (n : ℕ) (e : Engine) (o : Order) (t : JudgedTalk) → is_plain o ≡ true → Shows t e → t.stage ≡ stages.Open → MaySend e (word_of o) → Takes t (engine_after_word n e (word_of o)) (as_order o)
 takes n e orders.IsReady t p a s m = by_idle n e talks.IsReady t hears.IsReady m (ready_takes t (subst (Shows t) m a) s)
 takes n e orders.NewGame t p a s m = by_idle n e talks.Setup t hears.Setup m (setup_takes t (subst (Shows t) m a) s)
 takes n e (orders.SetOption name value) t p a s m = by_idle n e talks.Setup t hears.Setup m (setup_takes t (subst (Shows t) m a) s)
@@ -138,7 +138,7 @@ plain_runs n e (o ∷ os) t p a m r g q =
     let x = takes n e o t k.plain a.engine a.stage m.0 in
     first_runs t (engine_mark o) (map engine_mark os) (λ u. Agrees u (sent_all n e (map word_of (o ∷ os))) p) (deeds.Writes (as_order o)) (order_deed o) x.passes (λ line.
     let b = x.leads line in
-    plain_runs n (sent n e (word_of o)) os (after t line (deeds.Writes (as_order o))) p (record { engine = b.engine; stage = b.stage; placed = b.placed ∙ a.placed }) m.1 k.paired k.no_go k.no_quit
+    plain_runs n (engine_after_word n e (word_of o)) os (after t line (deeds.Writes (as_order o))) p (record { engine = b.engine; stage = b.stage; placed = b.placed ∙ a.placed }) m.1 k.paired k.no_go k.no_quit
     )
 
 -- THE ORDERS FOR A SEARCH

@@ -6,7 +6,7 @@ use Rattle.std.proofs.KnownBytes.{Appends-nil, Appends-trans, Consumes-nil, Cons
 use Rattle.line_io.specs.Event.{Event, Engine, EngineLong}
 use Rattle.line_io.specs.Source.{Supplied}
 use Rattle.line_io.specs.Causes.{HasCause}
-use Rattle.line_io.specs.Lines.{Piece, Whole, Held, Given, Gave, Advances, EndsAt, Reads, rest, items, unread}
+use Rattle.line_io.specs.Lines.{Piece, Whole, Held, Given, Gave, Advances, EndsAt, Reads, rest, items, empty_reader}
 use Rattle.line_io.specs.Lending.{outcome, AnswersWhen}
 use Rattle.line_io.specs.Runs.{Runs, Call, goes_on, pieces_of, LinesSoFar, LinesAtEnd, LinesAtFault}
 use Rattle.line_io.specs.Runs as runs
@@ -19,7 +19,7 @@ use Rattle.event_pipe.specs.declared.reader.ReadEnd.{ReadEnd}
 use Rattle.event_pipe.specs.declared.reader.ReadEnd.TheVariants as read_ends
 use Rattle.event_pipe.specs.Counts.{Tells}
 use Rattle.event_pipe.specs.Message.{sent_event, is_end}
-use Rattle.event_pipe.specs.Rule.{ended}
+use Rattle.event_pipe.specs.Rule.{has_last_event}
 use Rattle.event_pipe.proofs.Reading.{any_append, at_end_after, counted}
 use Rattle.life_runner.specs.declared.reading.ReadingTurn.{ReadingTurn}
 use Rattle.life_runner.specs.declared.reading.ReadingTurn.TheVariants as turns
@@ -27,7 +27,7 @@ use Rattle.life_runner.specs.Reading.{line_event, line_events, ReadLines, ReadLi
 
 -- TURNS
 
-pub opens : (held : Held) (s : Supplied) (sent : List Event) → held ≡ unread 65536 → ended sent ≡ false → SoFar held s s sent sent
+pub opens : (held : Held) (s : Supplied) (sent : List Event) → held ≡ empty_reader 65536 → has_last_event sent ≡ false → SoFar held s s sent sent
 opens held s sent h e = record {
   got = [];
   reads = record { given = Appends-nil s.given; left = Consumes-nil s.left };
@@ -150,7 +150,7 @@ read_none s sent = record {
 -- A LINE THAT WAS READ
 
 module _ (p : Peer) (old new : Held) (so sn : Supplied) (before now : List Event) (r : Result Item ReadFault) (item : Item) (line : List ℕ) (is : r ≡ Ok item) (gave : outcome (Ok item) ≡ Gave (Whole line)) (on : IsTrue (goes_on (Ok item)))
-    (engine : p ≡ peers.Engine) (going : ended before ≡ false) (adds : now ≡ before ++ sent_event p (says.Line line) ∷ []) (same : Tells so.faults sn.faults false)
+    (engine : p ≡ peers.Engine) (going : has_last_event before ≡ false) (adds : now ≡ before ++ sent_event p (says.Line line) ∷ []) (same : Tells so.faults sn.faults false)
     (k : (got : List ℕ) × Reads so sn got × Advances old new got (outcome r) × EndsAt old new sn.left × AnswersWhen old new got r) where
   line_is : now ≡ before ++ Engine line ∷ []
   line_is = adds ∙ ap (λ (q : Peer). before ++ sent_event q (says.Line line) ∷ []) engine
@@ -165,14 +165,14 @@ module _ (p : Peer) (old new : Held) (so sn : Supplied) (before now : List Event
     sends = (
       subst (λ (x : Result Item ReadFault). IsTrue (goes_on x)) (sym is) on,
       line_is ∙ ap (λ (x : Given). before ++ line_events (pieces_of x)) (sym (ap outcome is ∙ gave)),
-      ap ended line_is ∙ any_append is_end before (Engine line ∷ []) ∙ ap (λ b. b || false) going,
+      ap has_last_event line_is ∙ any_append is_end before (Engine line ∷ []) ∙ ap (λ b. b || false) going,
     );
     count = same;
   }
 
 -- where nothing was sent
-pub nothing_sent : (before now : List Event) → now ≡ before → ended before ≡ false → (now ≡ before ++ []) × (ended now ≡ false)
-nothing_sent before now e g = (e ∙ sym (append-nil before), ap ended e ∙ g)
+pub nothing_sent : (before now : List Event) → now ≡ before → has_last_event before ≡ false → (now ≡ before ++ []) × (has_last_event now ≡ false)
+nothing_sent before now e g = (e ∙ sym (append-nil before), ap has_last_event e ∙ g)
 
 -- A LIFE THAT WAS READ
 
@@ -183,6 +183,6 @@ life_read p s s' sent lines now r e x z = record {
   read = x.read;
 }
 
-pub long_going : (p : Peer) (lines now : List Event) → p ≡ peers.Engine → ended lines ≡ false → now ≡ lines ++ sent_event p says.Long ∷ [] → ended now ≡ false
+pub long_going : (p : Peer) (lines now : List Event) → p ≡ peers.Engine → has_last_event lines ≡ false → now ≡ lines ++ sent_event p says.Long ∷ [] → has_last_event now ≡ false
 long_going p lines now e h z =
-    ap ended (z ∙ ap (λ (q : Peer). lines ++ sent_event q says.Long ∷ []) e) ∙ any_append is_end lines (EngineLong ∷ []) ∙ ap (λ b. b || false) h
+    ap has_last_event (z ∙ ap (λ (q : Peer). lines ++ sent_event q says.Long ∷ []) e) ∙ any_append is_end lines (EngineLong ∷ []) ∙ ap (λ b. b || false) h

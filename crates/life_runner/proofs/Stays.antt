@@ -4,7 +4,7 @@ use Rattle.line_io.specs.Event.{Event, Iface, IfaceEnd, Engine}
 use Rattle.cecp_lines.specs.Quit.{is_quit}
 use Rattle.engine_revival.specs.Orders.{RevivalOrder}
 use Rattle.engine_revival.specs.Orders as orders
-use Rattle.engine_revival.specs.Asked.{asked}
+use Rattle.engine_revival.specs.Asked.{order_of_line}
 use Rattle.event_pipe.specs.Message.{is_end}
 use Rattle.engine_revival.specs.declared.words.DialogueState.{DialogueState}
 use Rattle.engine_revival.specs.declared.words.DialogueState.TheVariants as upper
@@ -16,8 +16,8 @@ use Rattle.engine_revival.specs.declared.words.LifeSaid.TheVariants as said
 use Rattle.engine_revival.specs.declared.state.RevivalState.{RevivalState}
 use Rattle.engine_revival.specs.Dialogue.{said_in}
 use Rattle.engine_revival.specs.Lists.{can_join}
-use Rattle.engine_revival.specs.Steps.{is_alive, is_ended, keeping, with_value, with_button, accepting, accepted, after_at_once, reading, ordering, with_quit, hearing, life_after_said, due_of, due_to, after_due, answer_to, after_answer, settled}
-use Rattle.engine_revival.specs.Calls.{Call, Order as Ordered, Heard, after}
+use Rattle.engine_revival.specs.Steps.{is_alive, is_ended, state_with_kept, with_value, with_button, state_if_accepted, upper_if_accepted, after_at_once, state_after_reading, state_after_line, with_quit, state_once_heard, life_after_said, due_of, due_to, after_due, answer_to, after_answer, state_once_settled}
+use Rattle.engine_revival.specs.Calls.{RevivalCall, Order as Ordered, Heard, after}
 use Rattle.engine_revival.specs.Script.{state_after, state_behind}
 use Rattle.life_runner.specs.Played.{is_heard, heard_of}
 
@@ -48,8 +48,8 @@ answer_stays life.Over (upper.Search kinds.Move stopped) s = record { lives = re
 answer_stays life.Over (upper.Search kind true) s = record { lives = refl; begun = refl; alive = λ h. h; unended = λ h. h }
 answer_stays l u s = same s
 
-pub settled_stays : (s : RevivalState) → Stays s (settled s)
-settled_stays s = stays_both s (after_due (due_of s) s) (settled s) (due_stays s.life s.quit s.upper s) (answer_stays s.life s.upper (after_due (due_of s) s))
+pub settled_stays : (s : RevivalState) → Stays s (state_once_settled s)
+settled_stays s = stays_both s (after_due (due_of s) s) (state_once_settled s) (due_stays s.life s.quit s.upper s) (answer_stays s.life s.upper (after_due (due_of s) s))
 
 -- AN ORDER
 
@@ -61,7 +61,7 @@ button_stays : (b : Bool) (s : RevivalState) (order : RevivalOrder) → Stays s 
 button_stays true s order = record { lives = refl; begun = refl; alive = λ h. h; unended = λ h. h }
 button_stays false s order = record { lives = refl; begun = refl; alive = λ h. h; unended = λ h. h }
 
-keeping_stays : (s : RevivalState) (order : RevivalOrder) → Stays s (keeping s order)
+keeping_stays : (s : RevivalState) (order : RevivalOrder) → Stays s (state_with_kept s order)
 keeping_stays s (orders.Value name line) = value_stays (can_join s.kept (orders.Value name line) && can_join s.unsent (orders.Value name line)) s (orders.Value name line)
 keeping_stays s (orders.Button name line) = button_stays (can_join s.unsent (orders.Button name line)) s (orders.Button name line)
 keeping_stays s order = record { lives = refl; begun = refl; alive = λ h. h; unended = λ h. h }
@@ -92,15 +92,15 @@ once_open life.Search order h = refl
 once_open life.Ended order h = cc
 once_open life.Over order h = refl
 
-accepting_stays : (up : Option DialogueState) (s : RevivalState) (order : RevivalOrder) → Stays s (accepting up s order)
+accepting_stays : (up : Option DialogueState) (s : RevivalState) (order : RevivalOrder) → Stays s (state_if_accepted up s order)
 accepting_stays None s order = same s
 accepting_stays (Some up) s order =
     let k = keeping_stays s order in
     record { lives = k.lives; begun = k.begun; alive = λ h. once_alive s.life order h; unended = λ h. once_open s.life order h }
 
-reading_stays : (s : RevivalState) (order : Option RevivalOrder) → Stays s (reading s order)
+reading_stays : (s : RevivalState) (order : Option RevivalOrder) → Stays s (state_after_reading s order)
 reading_stays s None = same s
-reading_stays s (Some order) = accepting_stays (accepted s order) s order
+reading_stays s (Some order) = accepting_stays (upper_if_accepted s order) s order
 
 quit_stays : (s : RevivalState) → Stays s (with_quit s)
 quit_stays s = record { lives = refl; begun = refl; alive = λ h. h; unended = λ h. h }
@@ -109,11 +109,11 @@ either_stays : (b : Bool) (s t u : RevivalState) → Stays s t → Stays s u →
 either_stays true s t u a c = a
 either_stays false s t u a c = c
 
-ordering_stays : (s : RevivalState) (line : List ℕ) → Stays s (ordering s line)
-ordering_stays s line = either_stays (is_quit line) s (with_quit s) (reading s (asked line)) (quit_stays s) (reading_stays s (asked line))
+ordering_stays : (s : RevivalState) (line : List ℕ) → Stays s (state_after_line s line)
+ordering_stays s line = either_stays (is_quit line) s (with_quit s) (state_after_reading s (order_of_line line)) (quit_stays s) (reading_stays s (order_of_line line))
 
 pub order_stays : (s : RevivalState) (line : List ℕ) → Stays s (after s (Ordered line))
-order_stays s line = stays_both s (ordering s line) (settled (ordering s line)) (ordering_stays s line) (settled_stays (ordering s line))
+order_stays s line = stays_both s (state_after_line s line) (state_once_settled (state_after_line s line)) (ordering_stays s line) (settled_stays (state_after_line s line))
 
 -- A LINE OF THE LIFE
 
@@ -128,11 +128,11 @@ said_open life.Ended word h = cc
 said_open state said.UciOk h = refl
 said_open state word h = refl
 
-hearing_stays : (s : RevivalState) (word : LifeSaid) → Stays s (hearing s word)
+hearing_stays : (s : RevivalState) (word : LifeSaid) → Stays s (state_once_heard s word)
 hearing_stays s word = record { lives = refl; begun = refl; alive = λ h. said_alive s.life word h; unended = λ h. said_open s.life word h }
 
 heard_stays : (s : RevivalState) (line : List ℕ) → Stays s (after s (Heard line))
-heard_stays s line = stays_both s (hearing s (said_in line)) (settled (hearing s (said_in line))) (hearing_stays s (said_in line)) (settled_stays (hearing s (said_in line)))
+heard_stays s line = stays_both s (state_once_heard s (said_in line)) (state_once_settled (state_once_heard s (said_in line))) (hearing_stays s (said_in line)) (settled_stays (state_once_heard s (said_in line)))
 
 pub event_stays : (s : RevivalState) (e : Event) → is_heard e ≡ true → Stays s (state_after s e)
 event_stays s (Iface line) h = order_stays s line

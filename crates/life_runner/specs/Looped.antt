@@ -5,7 +5,7 @@ use Rattle.line_io.specs.Source.{Received}
 use Rattle.engine_revival.specs.declared.script.TheConstants.{EVENT_ROOM}
 use Rattle.engine_revival.specs.declared.state.RevivalState.{RevivalState}
 use Rattle.engine_revival.specs.Script.{AllMayHappen, state_behind, texts_from}
-use Rattle.event_pipe.specs.Ends.{IsTaker, KeepsTaker, taken}
+use Rattle.event_pipe.specs.Ends.{IsTaker, KeepsTaker, events_taken}
 use Rattle.sink_offers.specs.declared.offering.LoopEnd.{LoopEnd}
 use Rattle.sink_offers.specs.Streams.{Sinks, Offered, log_state}
 use Rattle.life_runner.specs.declared.looping.MarkedLog.{MarkedLog}
@@ -36,11 +36,12 @@ pub record Shown : Type 0 where
   pub log : Received
   pub failed : LoopEnd
 
-abbrev pub shown : {O L : Type 0} → (O → Received) → (L → Received) → RevivalLoop L → O → Shown
-shown to_output to_log looping output =
+abbrev pub loop_reports : {O L : Type 0} → (O → Received) → (L → Received)
+    → RevivalLoop L → O → Shown
+loop_reports to_output to_log looping output =
     record {
       state = looping.revival.state;
-      events = taken looping.from;
+      events = events_taken looping.from;
       output = to_output output;
       log = log_state to_log looping.marks.log;
       failed = looping.failed;

@@ -13,7 +13,7 @@ event_up s event = up_of (state_before s event) (call_of s event)
 abbrev pub event_child : RevivalState → Event → List ℕ
 event_child s event = child_of (state_before s event) (call_of s event)
 
--- the lines that are given for events, one behind the other
+-- the lines that are given for events, one after the other
 abbrev pub lines_up : RevivalState → List Event → List ℕ
 lines_up s [] = []
 lines_up s (event ∷ events) = event_up s event ++ lines_up (state_after s event) events
@@ -48,7 +48,7 @@ is_close event = false
 abbrev pub has_close : List Event → Bool
 has_close events = list_any is_close events
 
--- the mark of an engine's end behind which no life was started
+-- the mark of an engine's end after which no life was started
 abbrev pub is_refusal : Event → Bool
 is_refusal EngineEnd = true
 is_refusal event = false

@@ -11,9 +11,9 @@ use Rattle.line_io.specs.declared.lines.Item.{Item}
 use Rattle.line_io.specs.declared.faults.ReadFault.{ReadFault}
 use Rattle.event_pipe.specs.declared.reader.ReadEnd.{ReadEnd}
 use Rattle.event_pipe.specs.declared.reader.ReadEnd.TheVariants as read_ends
-use Rattle.event_pipe.specs.Arrivals.{line_limit, failed}
+use Rattle.event_pipe.specs.Arrivals.{line_limit, is_read_fault}
 use Rattle.event_pipe.specs.Counts.{Tells}
-use Rattle.event_pipe.specs.Rule.{ended}
+use Rattle.event_pipe.specs.Rule.{has_last_event}
 use Rattle.life_runner.specs.declared.reading.ReadingTurn.{ReadingTurn}
 use Rattle.life_runner.specs.declared.reading.ReadingTurn.TheVariants as turns
 
@@ -43,7 +43,7 @@ pub record LinesOf (before after : Supplied) (lines : List Event) (r : ReadEnd) 
   -- if there was no memory: a front of the lines
   pub cut : r ≡ read_ends.NoMemory → IsFrontOf lines (line_events (items line_limit got))
   -- the source's count of faults rose if reading failed, and otherwise is as before
-  pub count : Tells before.faults after.faults (failed r)
+  pub count : Tells before.faults after.faults (is_read_fault r)
 
 -- the lines were sent
 pub record ReadLines (before after : Supplied) (sent now : List Event) (r : ReadEnd) : Type 0 where
@@ -59,7 +59,7 @@ pub record ReadLife (before after : Supplied) (sent now : List Event) (r : ReadE
 
 -- what a turn has sent, if the call of the reader of lines answered this
 abbrev pub Sends : Result Item ReadFault → List Event → List Event → ReadingTurn → Type 0
-Sends r before now turns.More = IsTrue (goes_on r) × (now ≡ before ++ line_events (pieces_of (outcome r))) × (ended now ≡ false)
+Sends r before now turns.More = IsTrue (goes_on r) × (now ≡ before ++ line_events (pieces_of (outcome r))) × (has_last_event now ≡ false)
 Sends r before now turns.Done = IsTrue (is_end_answer r) × (now ≡ before)
 Sends r before now turns.Fault = IsErr r × (now ≡ before)
 Sends r before now turns.NoMemory = IsTrue (goes_on r) × (now ≡ before)
@@ -78,7 +78,7 @@ pub record Goes (old new : Held) (before after : Supplied) (sent now : List Even
   pub sends : Sends result sent now turn
   pub count : Tells before.faults after.faults (is_fault turn)
 
--- so far: the lines that were given were sent, behind what was sent before
+-- so far: the lines that were given were sent, after what was sent before
 pub record SoFar (held : Held) (before after : Supplied) (first sent : List Event) : Type 0 where
   pub got : List ℕ
   pub reads : Reads before after got
@@ -88,5 +88,5 @@ pub record SoFar (held : Held) (before after : Supplied) (first sent : List Even
   pub runs : Runs line_limit held got given calls
   pub at_end : held.ended ≡ true → IfSome before.left (λ _. IsAtEnd after.left)
   pub sent_is : sent ≡ first ++ line_events given
-  pub going : ended sent ≡ false
+  pub going : has_last_event sent ≡ false
   pub same : after.faults ≡ before.faults

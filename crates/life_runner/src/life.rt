@@ -1,10 +1,10 @@
 // A life: its reader beside its loop.
 ghost use Rattle.std.specs.Prelude.{◌≡◌, true, false};
 ghost use Rattle.engine_revival.specs.Steps.{is_alive};
-ghost use Rattle.event_pipe.specs.Ends.{IsSender, KeepsSender, sent};
-ghost use Rattle.event_pipe.specs.Rule.{ended};
+ghost use Rattle.event_pipe.specs.Ends.{IsSender, KeepsSender, events_sent};
+ghost use Rattle.event_pipe.specs.Rule.{has_last_event};
 ghost use Rattle.event_pipe.specs.declared.message.Peer.TheVariants as peers;
-ghost use Rattle.life_runner.specs.Looped.{IsReadyLoop, KeepsLoop, LoopedLife, shown};
+ghost use Rattle.life_runner.specs.Looped.{IsReadyLoop, KeepsLoop, LoopedLife, loop_reports};
 ghost use Rattle.life_runner.specs.Reading.{ReadLife};
 
 use crate::looping::life_loop;
@@ -44,24 +44,24 @@ pub fn one_life<
     requires ready { IsReadyLoop looping.old }
     requires sender { IsSender to.old }
     requires engine { to.old.peer ≡ peers.Engine }
-    requires going { ended (sent to.old) ≡ false }
+    requires going { has_last_event (events_sent to.old) ≡ false }
     ensures sender { KeepsSender to.old to.new }
-    ensures going { ended (sent to.new) ≡ false }
+    ensures going { has_last_event (events_sent to.new) ≡ false }
     ensures keeps { KeepsLoop looping.old looping.new }
     ensures alive { is_alive looping.new.revival.state.life ≡ true }
     ensures let_go { looping.old.revival.state.quit ≡ false
         → looping.new.revival.state.quit ≡ true → K.is_let_go run.new.sink }
     ensures read { ReadLife (S.state run.old.source) (S.state run.new.source)
-        (sent to.old) (sent to.new) result }
-    ensures looped { LoopedLife (shown O.state L.state looping.old output.old)
-        (shown O.state L.state looping.new output.new)
+        (events_sent to.old) (events_sent to.new) result }
+    ensures looped { LoopedLife (loop_reports O.state L.state looping.old output.old)
+        (loop_reports O.state L.state looping.new output.new)
         (K.state run.old.sink) (K.state run.new.sink) }
 {
     let LifeRun { source, sink } = run;
     let (end, ()) = join_mut(
         rt,
         &mut ||
-            requires { IsSender to.now × (to.now.peer ≡ peers.Engine) × (ended (sent to.now) ≡ false) }
+            requires { IsSender to.now × (to.now.peer ≡ peers.Engine) × (has_last_event (events_sent to.now) ≡ false) }
         { read_life(rt, alloc, source, to) },
         &mut ||
             requires { (is_alive looping.now.revival.state.life ≡ true) × IsReadyLoop looping.now }

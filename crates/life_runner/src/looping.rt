@@ -10,7 +10,7 @@ ghost use Rattle.engine_revival.specs.Steps.{is_alive};
 ghost use Rattle.engine_revival.specs.declared.script.TheConstants.{EVENT_ROOM};
 ghost use Rattle.event_pipe.specs.Message.{is_good};
 ghost use Rattle.sink_offers.specs.Streams.{sinks, log_state};
-ghost use Rattle.life_runner.specs.Looped.{IsReadyLoop, KeepsLoop, KeepsMarks, Offers, Shown, shown, Going, GoesOrEnds, LoopedLife};
+ghost use Rattle.life_runner.specs.Looped.{IsReadyLoop, KeepsLoop, KeepsMarks, Offers, Shown, loop_reports, Going, GoesOrEnds, LoopedLife};
 ghost use Rattle.life_runner.specs.Played.{event_up, event_child, is_heard};
 
 use child_engine::LetGo;
@@ -149,8 +149,8 @@ fn hear_next<K: LetGo, O: Sink, L: Sink, R: Wait>(
     ensures let_go { (looping.old.revival.state.quit ≡ true → K.is_let_go child.old)
         → looping.new.revival.state.quit ≡ true → K.is_let_go child.new }
     ensures next { (first : Shown) (sink : Received)
-        → Going first (shown O.state L.state looping.old output.old) sink (K.state child.old)
-        → GoesOrEnds result first (shown O.state L.state looping.new output.new)
+        → Going first (loop_reports O.state L.state looping.old output.old) sink (K.state child.old)
+        → GoesOrEnds result first (loop_reports O.state L.state looping.new output.new)
         sink (K.state child.new) }
 {
     let RevivalLoop {
@@ -191,8 +191,9 @@ pub(crate) fn life_loop<K: LetGo, O: Sink, L: Sink, R: Wait>(
     ensures alive { is_alive looping.new.revival.state.life ≡ true }
     ensures let_go { looping.old.revival.state.quit ≡ false
         → looping.new.revival.state.quit ≡ true → K.is_let_go child.new }
-    ensures looped { LoopedLife (shown O.state L.state looping.old output.old)
-        (shown O.state L.state looping.new output.new) (K.state child.old) (K.state child.new) }
+    ensures looped { LoopedLife (loop_reports O.state L.state looping.old output.old)
+        (loop_reports O.state L.state looping.new output.new) (K.state child.old)
+        (K.state child.new) }
 {
     for _ in rt.forever() {
         if !hear_next(rt, looping, child, output) {

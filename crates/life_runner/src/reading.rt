@@ -1,7 +1,7 @@
 // The reader of a life: it sends the lines of its engine, and a mark of its end.
 ghost use Rattle.std.specs.Prelude.{◌≡◌, ◌++◌, ◌∷◌, [], false};
-ghost use Rattle.event_pipe.specs.Rule.{ended};
-ghost use Rattle.event_pipe.specs.Ends.{IsSender, KeepsSender, sent};
+ghost use Rattle.event_pipe.specs.Rule.{has_last_event};
+ghost use Rattle.event_pipe.specs.Ends.{IsSender, KeepsSender, events_sent};
 ghost use Rattle.event_pipe.specs.Arrivals.{line_limit};
 ghost use Rattle.event_pipe.specs.declared.message.Peer.TheVariants as peers;
 ghost use Rattle.life_runner.specs.Reading.{Goes, ReadLines, ReadLife};
@@ -34,11 +34,11 @@ fn read_turn<S: Source, R: Wait>(
 ) -> ReadingTurn
     requires sender { IsSender to.old }
     requires engine { to.old.peer ≡ peers.Engine }
-    requires going { ended (sent to.old) ≡ false }
+    requires going { has_last_event (events_sent to.old) ≡ false }
     requires limit { lines.old.limit ≡ line_limit }
     ensures keeps { KeepsSender to.old to.new }
     ensures goes { Goes lines.old lines.new (S.state source.old) (S.state source.new)
-        (sent to.old) (sent to.new) result }
+        (events_sent to.old) (events_sent to.new) result }
 {
     match lines.next(source) {
         Err(_) => ReadingTurn::Fault,
@@ -64,11 +64,11 @@ fn read_lines<S: Source, R: Wait>(
 ) -> ReadEnd
     requires sender { IsSender to.old }
     requires engine { to.old.peer ≡ peers.Engine }
-    requires going { ended (sent to.old) ≡ false }
+    requires going { has_last_event (events_sent to.old) ≡ false }
     ensures keeps { KeepsSender to.old to.new }
-    ensures going { ended (sent to.new) ≡ false }
+    ensures going { has_last_event (events_sent to.new) ≡ false }
     ensures read { ReadLines (S.state source.old) (S.state source.new)
-        (sent to.old) (sent to.new) result }
+        (events_sent to.old) (events_sent to.new) result }
 {
     lines_of_all_calls();
     let Ok(mut lines) = Lines::make(alloc, PEER_LINE) else {
@@ -95,11 +95,11 @@ pub fn read_life<S: Source, R: Wait>(
 ) -> ReadEnd
     requires sender { IsSender to.old }
     requires engine { to.old.peer ≡ peers.Engine }
-    requires going { ended (sent to.old) ≡ false }
+    requires going { has_last_event (events_sent to.old) ≡ false }
     ensures keeps { KeepsSender to.old to.new }
-    ensures going { ended (sent to.new) ≡ false }
+    ensures going { has_last_event (events_sent to.new) ≡ false }
     ensures read { ReadLife (S.state source.old) (S.state source.new)
-        (sent to.old) (sent to.new) result }
+        (events_sent to.old) (events_sent to.new) result }
 {
     let end = read_lines(rt, alloc, source, to);
     to.send(rt, MessageBody::Long);

@@ -3,7 +3,7 @@ use Rattle.std.proofs.Common.{◌≡◌, ℕ, suc, ◌+◌, ◌≤◌, ◌<◌, 
 use Rattle.std.specs.Io.KnownBytes.{Consumes, IsAtEnd}
 use Rattle.std.proofs.KnownBytes.{Appends-trans, Consumes-trans, Appends-nil, Consumes-nil}
 use Rattle.line_io.specs.Causes.{Rose}
-use Rattle.line_io.specs.Lines.{Piece, Held, Given, Gave, NotYet, Advances, Reads, EndsAt, IsWaiting, unread, flag, rest}
+use Rattle.line_io.specs.Lines.{Piece, Held, Given, Gave, NotYet, Advances, Reads, EndsAt, IsWaiting, empty_reader, flag, rest}
 use Rattle.line_io.specs.Lending.{outcome, AnswersWhen}
 use Rattle.line_io.specs.Runs.{Runs, begins, goes, Call, goes_on, pieces_of}
 use Rattle.line_io.specs.Source.{Supplied}
@@ -153,7 +153,7 @@ read_failed means limit first now input old new calls number fault rose written 
     }
 
 -- before the first call
-pub reached_first : {S O X : Type 0} (means : Meaning S O X) (limit : ℕ) (held : Held) (first : Place S O) → held ≡ unread limit → means.took first.taker first.output [] first.taker first.output → Reached means limit first first held 0 0
+pub reached_first : {S O X : Type 0} (means : Meaning S O X) (limit : ℕ) (held : Held) (first : Place S O) → held ≡ empty_reader limit → means.took first.taker first.output [] first.taker first.output → Reached means limit first first held 0 0
 reached_first means limit held first fresh took = record {
   given = [];
   pieces = [];

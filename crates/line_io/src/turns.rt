@@ -1,6 +1,6 @@
 // Gives the lines of an input to a taker.
 ghost use Rattle.std.specs.Prelude.{◌≡◌, ◌<◌, ◌≤◌, ◌+◌, ◌^◌, ℕ, [], None, length};
-ghost use Rattle.line_io.specs.Lines.{unread, IsReady, IsWaiting};
+ghost use Rattle.line_io.specs.Lines.{empty_reader, IsReady, IsWaiting};
 ghost use Rattle.line_io.specs.Taken.{Taken, Place, place};
 ghost use Rattle.line_io.specs.Turns.{Reached, After, Drained, work};
 
@@ -112,7 +112,7 @@ pub fn take_lines<I: Source, O, T: TakesLines<O>>(
     taker: &mut T,
     output: &mut O,
 ) -> LinesEnd<T::Stop>
-    requires fresh { lines.old ≡ unread lines.old.limit }
+    requires fresh { lines.old ≡ empty_reader lines.old.limit }
     requires may { T.means.may taker.old }
     requires begins { T.means.took taker.old output.old [] taker.old output.old }
     ensures { Taken T.means lines.old.limit result

@@ -9,12 +9,12 @@ use Rattle.chess_board.specs.declared.board.Rights.{Rights}
 use Rattle.chess_board.specs.declared.board.BuildFault.{BuildFault}
 use Rattle.chess_board.specs.Board.{Men}
 use Rattle.chess_board.specs.Position.{Position}
-use Rattle.chess_board.specs.Play.{IsPosition, built, fits_board}
+use Rattle.chess_board.specs.Play.{IsPosition, position_if_built, fits_board}
 use Rattle.chess_board.proofs.Built.{built-is}
 use Rattle.peer_words.specs.Tokens.{tokens}
-use Rattle.fen_text.specs.Squares.{joined, exactly, squares_in, rank_of, men_of, ranks_in, placed, fitting, board_of}
+use Rattle.fen_text.specs.Squares.{men_if_both, exactly, squares_in, rank_of, men_of, ranks_in, men_in_field, men_if_fitting, board_of}
 use Rattle.fen_text.specs.Fields.{passant_of, is_passed}
-use Rattle.fen_text.specs.Fen.{or_fault, spelled, position_of}
+use Rattle.fen_text.specs.Fen.{or_fault, position_from_fields, position_of}
 
 -- so many squares, if they are there
 abbrev Has : ℕ → Option Men → Type 0
@@ -27,7 +27,7 @@ exactly_has n (Some squares) = by (length squares == n) refl where
   by true e = grind (arith, nat_tests)
   by false e = tt
 
-joined_has : (m n : ℕ) (a b : Option Men) → Has m a → Has n b → Has (m + n) (joined a b)
+joined_has : (m n : ℕ) (a b : Option Men) → Has m a → Has n b → Has (m + n) (men_if_both a b)
 joined_has m n None b h k = tt
 joined_has m n (Some x) None h k = tt
 joined_has m n (Some x) (Some y) h k = omega (arith, length-append x y, h, k)
@@ -38,7 +38,7 @@ men_has (upper ∷ lower) =
     let n : 8 * length lower + 8 ≡ 8 * length (upper ∷ lower) = omega arith in
     subst (λ k. Has k (men_of (upper ∷ lower))) n (joined_has (8 * length lower) 8 (men_of lower) (rank_of upper) (men_has lower) (exactly_has 8 (squares_in upper)))
 
-placed_has : (field : List ℕ) → Has 64 (placed field)
+placed_has : (field : List ℕ) → Has 64 (men_in_field field)
 placed_has field = by (length (ranks_in field) == 8) refl where
   by : (b : Bool) → (length (ranks_in field) == 8) ≡ b → Has 64 (cond b (men_of (ranks_in field)) None)
   by true e =
@@ -46,7 +46,7 @@ placed_has field = by (length (ranks_in field) == 8) refl where
       subst (λ k. Has k (men_of (ranks_in field))) n (men_has (ranks_in field))
   by false e = tt
 
-fitting_has : (o : Option Men) → Has 64 o → Has 64 (fitting o)
+fitting_has : (o : Option Men) → Has 64 o → Has 64 (men_if_fitting o)
 fitting_has None h = tt
 fitting_has (Some men) h = by (fits_board men) where
   by : (b : Bool) → Has 64 (cond b (Some men) None)
@@ -55,7 +55,7 @@ fitting_has (Some men) h = by (fits_board men) where
 
 board_has : (o : Option (List ℕ)) → Has 64 (option_and_then board_of o)
 board_has None = tt
-board_has (Some field) = fitting_has (placed field) (placed_has field)
+board_has (Some field) = fitting_has (men_in_field field) (placed_has field)
 
 -- a square on the board, if there is one
 abbrev IsLow : Option (Option ℕ) → Type 0
@@ -84,7 +84,7 @@ right_is (Ok q) p e = let same : q ≡ p = cc in ap Ok same
 right_is (Err fault) p e = absurd (cc)
 
 spelled_is : (men : Option Men) (side : Option Side) (rights : Option Rights) (passant : Option (Option ℕ)) (half full : Option ℕ) (p : Position) → Has 64 men → IsLow passant
-    → spelled men side rights passant half full ≡ Ok p → IsPosition p
+    → position_from_fields men side rights passant half full ≡ Ok p → IsPosition p
 spelled_is None side rights passant half full p h l e = absurd (cc)
 spelled_is (Some men) None rights passant half full p h l e = absurd (cc)
 spelled_is (Some men) (Some side) None passant half full p h l e = absurd (cc)
@@ -93,7 +93,7 @@ spelled_is (Some men) (Some side) (Some rights) (Some passant) None full p h l e
 spelled_is (Some men) (Some side) (Some rights) (Some passant) (Some half) None p h l e = absurd (cc)
 spelled_is (Some men) (Some side) (Some rights) (Some passant) (Some half) (Some full) p h l e =
     let given : Position = record { men = men; side = side; rights = rights; passant = passant; half = half; full = full } in
-    built-is given p h l (right_is (built given) p e)
+    built-is given p h l (right_is (position_if_built given) p e)
 
 pub read_is : (text : List ℕ) (p : Position) → position_of text ≡ Ok p → IsPosition p
 unfolding position_of

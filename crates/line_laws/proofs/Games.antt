@@ -11,7 +11,7 @@ use Rattle.fen_text.specs.declared.fault.FenFault.{FenFault}
 use Rattle.cecp_lines.specs.Messages.{IfaceMsg}
 use Rattle.cecp_lines.specs.Messages as says
 use Rattle.uci_lines.specs.Orders.{Order}
-use Rattle.game_record.specs.Game.{Ply, Game, ply_of, plies_of, IsPlayable, AreLegal, now_of, begun, without_last}
+use Rattle.game_record.specs.Game.{Ply, Game, ply_of, plies_of, IsPlayable, AreLegal, now_of, game_from, without_last}
 use Rattle.game_record.proofs.Replays.{legal-append, legal-take}
 use Rattle.policy_rules.specs.declared.settings.Settings.{Settings}
 use Rattle.desk_rules.specs.declared.desk.Desk.{Desk}
@@ -32,7 +32,7 @@ pub record IsGame (g : Game) : Type 0 where
   pub moves_are : g.moves ≡ plies_of moves
   pub legal : AreLegal g.start g.moves
 
-pub begun_is : (p : Position) → IsPosition p → IsGame (begun p)
+pub begun_is : (p : Position) → IsPosition p → IsGame (game_from p)
 begun_is p q = record { start = q; moves = []; moves_are = refl; legal = tt }
 
 pub played_is : (g : Game) (m : Move) → IsGame g → IsPlayable (now_of g) (ply_of m) → IsGame (desks.played g m)

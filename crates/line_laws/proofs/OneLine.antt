@@ -15,7 +15,7 @@ use Rattle.fen_text.specs.declared.fault.FenFault.{FenFault}
 use Rattle.fen_text.specs.Fen.{position_of}
 use Rattle.cecp_lines.specs.Messages.{IfaceMsg}
 use Rattle.cecp_lines.specs.Messages as says
-use Rattle.cecp_lines.specs.Reading.{reading}
+use Rattle.cecp_lines.specs.Reading.{message_or_fault}
 use Rattle.cecp_lines.specs.Replies.{Reply, reply_text}
 use Rattle.uci_lines.specs.Info.{Info}
 use Rattle.uci_lines.specs.Messages.{EngineMsg, OptionKind}
@@ -27,7 +27,7 @@ use Rattle.uci_lines.specs.Orders as orders
 use Rattle.uci_lines.proofs.Rows.{read_spells}
 use Rattle.game_record.specs.Game.{Game, Ply, ply_of, now_of}
 use Rattle.option_map.specs.declared.declared.Declared.TheVariants as outcome
-use Rattle.option_map.specs.Settings.{OptionSetting, text_size, shown_length, kept, found, is_full, is_unshowable, declared_beside, grown_by, after_declared}
+use Rattle.option_map.specs.Settings.{OptionSetting, text_size, shown_length, setting_from_option, option_by_name, is_full, is_unshowable, declared_beside, grown_by, after_declared}
 use Rattle.option_map.specs.Spelled.{IsSpelled}
 use Rattle.option_map.proofs.Values.{no_feed, line_part, rest_part}
 use Rattle.option_map.proofs.Measured.{more_text}
@@ -41,13 +41,13 @@ use Rattle.desk_rules.specs.declared.desk.Desk.{Desk}
 use Rattle.desk_rules.specs.Desk.{Situation, is_boot, is_getting, is_gone, is_full as is_full_game, plies, played, current}
 use Rattle.desk_rules.specs.Lines.{Verdict, Refused, Accepted, Early, verdict, refusal, change, at_position}
 use Rattle.desk_rules.specs.Steps.{Effect, Nothing, LongLine, Names, Accepts, Declares, Boots, Readies, Shows, Forfeits, Dies, classify, line_effect, engine_says, thinks, shows, answers, desk_after_effect}
-use Rattle.desk_rules.specs.Orders.{waiting, word_of}
+use Rattle.desk_rules.specs.Orders.{orders_waiting, word_of}
 use Rattle.desk_rules.specs.Fits.{Fits, IsServed, IsLineEvent}
 use Rattle.desk_rules.proofs.Passes.{passes, served_few}
 use Rattle.desk_rules.specs.declared.effect.Refusal.{Refusal}
 use Rattle.desk_rules.specs.declared.effect.Refusal.TheVariants as refusals
 use Rattle.adapter_core.specs.Ends.{is_open}
-use Rattle.adapter_core.specs.Trace.{State, Step, IsLawful, Lawful, AreSettled, state, state_after, situation, effect, turn, mid, owing, closed_after, desk_of, gone_after, last_orders, has_ready}
+use Rattle.adapter_core.specs.Trace.{State, Step, IsLawful, Lawful, AreSettled, state, state_after, situation, effect, turn, mid, owed_after, closed_after, desk_of, gone_after, last_orders, has_ready}
 use Rattle.adapter_core.proofs.Closing.{line_event}
 use Rattle.adapter_core.proofs.Traces.{Lasts, lasts, fits}
 use Rattle.line_laws.specs.OneLine.{IsOneLine, TracesWriteLines}
@@ -110,7 +110,7 @@ verdict_bare Early line = tt
 
 comes_bare : (h : Situation) (held : List Order) (e : Event) → IsLineEvent e → IsBareName (classify h held e)
 unfolding classify
-comes_bare h held (events.Iface line) l = bare_unless h.closed (line_effect (verdict h held line (reading line)) line) (verdict_bare (verdict h held line (reading line)) line)
+comes_bare h held (events.Iface line) l = bare_unless h.closed (line_effect (verdict h held line (message_or_fault line)) line) (verdict_bare (verdict h held line (message_or_fault line)) line)
 comes_bare h held events.IfaceLong l = bare_unless h.closed LongLine tt
 comes_bare h held (events.Engine line) l = bare_unless h.closed (engine_says h (engine_message line)) (says_bare h line (engine_message line) l refl)
 comes_bare h held events.EngineEnd l = bare_unless (is_gone h.engine) Dies tt
@@ -193,12 +193,12 @@ beside_step : (other : Option OptionSetting) (os : List OptionSetting) (o : Opti
 beside_step (Some other) os o f = f
 beside_step None os o f = full_step (is_full os o) os o refl f
 
-shown_step : (w : Bool) (os : List OptionSetting) (name : List ℕ) (o : OptionSetting) → AreFewOptions os → AreFewOptions (grown_by (cond w outcome.Unshowable (declared_beside (found name os) os o)) os o)
+shown_step : (w : Bool) (os : List OptionSetting) (name : List ℕ) (o : OptionSetting) → AreFewOptions os → AreFewOptions (grown_by (cond w outcome.Unshowable (declared_beside (option_by_name name os) os o)) os o)
 shown_step true os name o f = f
-shown_step false os name o f = beside_step (found name os) os o f
+shown_step false os name o f = beside_step (option_by_name name os) os o f
 
 declared_few : (strength : Bool) (os : List OptionSetting) (name : List ℕ) (shape : OptionKind) → AreFewOptions os → AreFewOptions (after_declared strength os name shape)
-declared_few strength os name shape f = shown_step (is_unshowable name shape) os name (kept strength name shape) f
+declared_few strength os name shape f = shown_step (is_unshowable name shape) os name (setting_from_option strength name shape) f
 
 -- AFTER AN EFFECT
 
@@ -245,7 +245,7 @@ waits_after s step last l w =
     let k = few_after h s.held d last.served f (comes_bare h s.held step.event (line_event s.ends step.event l.may_come)) w.few in
     record {
       few = record { size = k.size; count = k.count; name = k.name; plies = k.plies };
-      held = left_held (has_ready (map word_of step.orders)) (waiting h s.held d) (waiting_spelled h s.held d last.sound f w.held);
+      held = left_held (has_ready (map word_of step.orders)) (orders_waiting h s.held d) (waiting_spelled h s.held d last.sound f w.held);
     }
 
 waits_in : (o : Settings) (t : List Step) → Lawful o t → Waits (state o t)
@@ -299,26 +299,26 @@ module _ (o : Settings) (step : Step) (t : List Step) (l : Lawful o (step ∷ t)
   settled_ordered : AreSettled s ev step.orders → AreOrdered step.orders
   settled_ordered a = by_go (is_due s.dialogue (turn s ev)) (has_go (map word_of step.orders)) refl refl where
     chosen : is_due s.dialogue (turn s ev) ≡ false
-        → map word_of step.orders ≡ only (mid s ev).engine (mid s ev).epoch (owing s ev) (turn s ev).waiting false (is_hit s.dialogue (turn s ev)) (is_hurry (turn s ev).what)
+        → map word_of step.orders ≡ only (mid s ev).engine (mid s ev).epoch (owed_after s ev) (turn s ev).waiting false (is_hit s.dialogue (turn s ev)) (is_hurry (turn s ev).what)
     chosen d =
-        only_orders (mid s ev).engine (mid s ev).epoch (owing s ev) (turn s ev).waiting (is_due s.dialogue (turn s ev)) (is_hit s.dialogue (turn s ev)) (is_hurry (turn s ev).what) (map word_of step.orders) a.words
-        ∙ ap (λ b. only (mid s ev).engine (mid s ev).epoch (owing s ev) (turn s ev).waiting b (is_hit s.dialogue (turn s ev)) (is_hurry (turn s ev).what)) d
+        only_orders (mid s ev).engine (mid s ev).epoch (owed_after s ev) (turn s ev).waiting (is_due s.dialogue (turn s ev)) (is_hit s.dialogue (turn s ev)) (is_hurry (turn s ev).what) (map word_of step.orders) a.words
+        ∙ ap (λ b. only (mid s ev).engine (mid s ev).epoch (owed_after s ev) (turn s ev).waiting b (is_hit s.dialogue (turn s ev)) (is_hurry (turn s ev).what)) d
 
     by_go : (due go : Bool) → is_due s.dialogue (turn s ev) ≡ due → has_go (map word_of step.orders) ≡ go → AreOrdered step.orders
     by_go true go d g =
-        let waits = waiting (situation s) s.held (effect s ev) in
+        let waits = orders_waiting (situation s) s.held (effect s ev) in
         let last = lasts o t l.0 in
         subst AreOrdered (sym (a.batch d))
         (all_both IsOrdered waits (orders.IsReady ∷ [])
         (spelled_ordered waits (waiting_spelled (situation s) s.held (effect s ev) last.sound (fits s step last l.1) (waits_in o t l.0).held)) (ready_ordered, tt))
     by_go false true d g =
-        subst AreOrdered (sym (a.search g)) (search_ordered (desk_of s ev) (owing s ev) (game_is o (step ∷ t) l) (waits_in o (step ∷ t) l).few.plies)
+        subst AreOrdered (sym (a.search g)) (search_ordered (desk_of s ev) (owed_after s ev) (game_is o (step ∷ t) l) (waits_in o (step ∷ t) l).few.plies)
     by_go false false d g =
         let same = chosen d in
         plain_ordered step.orders
         (ap is_plain same
         ∙ plain_by (is_hit s.dialogue (turn s ev)) (stops (is_hit s.dialogue (turn s ev)) (mid s ev).epoch (is_hurry (turn s ev).what) (mid s ev).engine)
-        (is_idle (mid s ev).engine && not (is_nothing (owing s ev))) (kind_of (owing s ev)) (sym (ap has_go same) ∙ g))
+        (is_idle (mid s ev).engine && not (is_nothing (owed_after s ev))) (kind_of (owed_after s ev)) (sym (ap has_go same) ∙ g))
 
   orders_ordered : (opens before after : Bool) → is_open ev ≡ opens → s.ends.closed ≡ before → closed_after s ev ≡ after → AreOrdered step.orders
   orders_ordered true before after n c e = subst AreOrdered (sym (l.1.opens n)) (uci_ordered, tt)
@@ -331,7 +331,7 @@ module _ (o : Settings) (step : Step) (t : List Step) (l : Lawful o (step ∷ t)
       let last = lasts o t l.0 in
       let few = (waits_in o t l.0).few in
       subst AreTold (sym l.1.replies)
-      (replies_told (closed_after s ev) (is_move (owing s ev)) (situation s) s.held (effect s ev)
+      (replies_told (closed_after s ev) (is_move (owed_after s ev)) (situation s) s.held (effect s ev)
       (record { options = last.sound.options; early = last.sound.early.lines; size = few.size; count = few.count; name = few.name }) last.sound (fits s step last l.1))
 
 -- LINES

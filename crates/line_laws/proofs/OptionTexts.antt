@@ -12,7 +12,7 @@ use Rattle.uci_lines.specs.Engine.{engine_message}
 use Rattle.uci_lines.specs.Spells.{IsFirst, Begins, Behind, HasForm}
 use Rattle.uci_lines.proofs.Rows.{read_spells}
 use Rattle.option_map.specs.Names.{same_text, is_hidden}
-use Rattle.option_map.specs.Choices.{starred, barred, choices_text}
+use Rattle.option_map.specs.Choices.{with_star, with_bars, choices_text}
 use Rattle.option_map.specs.Settings.{OptionSetting, SettingKind, Spin, bit_text, kind_text, shown_kind, hidden_kind}
 use Rattle.option_map.specs.Spelled.{IsDeclared}
 use Rattle.option_map.proofs.Values.{no_feed, IsPart, IsPiece, back_part, trimmed_part, rest_part, line_part}
@@ -48,13 +48,13 @@ default_part line name default e h =
 
 -- KINDS
 
-choices_bare : (cs : List (List ℕ)) → AllByRecursion (λ c. no_feed c ≡ true) cs → no_feed (flat_map barred cs) ≡ true
+choices_bare : (cs : List (List ℕ)) → AllByRecursion (λ c. no_feed c ≡ true) cs → no_feed (flat_map with_bars cs) ≡ true
 choices_bare [] h = refl
-choices_bare (c ∷ cs) h = both_bare (barred c) (flat_map barred cs) h.0 (choices_bare cs h.1)
+choices_bare (c ∷ cs) h = both_bare (with_bars c) (flat_map with_bars cs) h.0 (choices_bare cs h.1)
 
 combo_bare : (cs : List (List ℕ)) → AllByRecursion (λ c. no_feed c ≡ true) cs → no_feed (choices_text cs) ≡ true
 combo_bare [] h = refl
-combo_bare (c ∷ cs) h = both_bare c (flat_map barred cs) h.0 (choices_bare cs h.1)
+combo_bare (c ∷ cs) h = both_bare c (flat_map with_bars cs) h.0 (choices_bare cs h.1)
 
 pieces_bare : (vs : List (List ℕ)) → AllByRecursion (IsPiece 65536) vs → AllByRecursion (λ c. no_feed c ≡ true) vs
 pieces_bare [] h = tt
@@ -65,9 +65,9 @@ star_bare : (w : Bool) (v : List ℕ) (vs others : List (List ℕ)) → no_feed 
 star_bare true v vs others h k l = (h, k)
 star_bare false v vs others h k l = (h, l)
 
-starred_bare : (default : List ℕ) (vs : List (List ℕ)) → AllByRecursion (λ c. no_feed c ≡ true) vs → AllByRecursion (λ c. no_feed c ≡ true) (starred default vs)
+starred_bare : (default : List ℕ) (vs : List (List ℕ)) → AllByRecursion (λ c. no_feed c ≡ true) vs → AllByRecursion (λ c. no_feed c ≡ true) (with_star default vs)
 starred_bare default [] h = tt
-starred_bare default (v ∷ vs) h = star_bare (same_text default v) v vs (starred default vs) h.0 h.1 (starred_bare default vs h.1)
+starred_bare default (v ∷ vs) h = star_bare (same_text default v) v vs (with_star default vs) h.0 h.1 (starred_bare default vs h.1)
 
 bit_bare : (b : Bool) → no_feed (codes " -check " ++ bit_text b) ≡ true
 bit_bare true = refl
@@ -89,7 +89,7 @@ shown_bare : (line name : List ℕ) (shape : OptionKind) → engine_message line
 unfolding IsBare
 shown_bare line name (says.Check on) e l h = bit_bare on
 shown_bare line name (says.Spin default min max) e l h = spin_bare default min max
-shown_bare line name (says.Combo default vs) e l h = both_bare (codes " -combo ") (choices_text (starred default vs)) refl (combo_bare (starred default vs) (starred_bare default vs (pieces_bare vs h)))
+shown_bare line name (says.Combo default vs) e l h = both_bare (codes " -combo ") (choices_text (with_star default vs)) refl (combo_bare (with_star default vs) (starred_bare default vs (pieces_bare vs h)))
 shown_bare line name says.Button e l h = refl
 shown_bare line name (says.Text default) e l h = both_bare (codes " -string ") default refl (default_part line name default e l).line
 

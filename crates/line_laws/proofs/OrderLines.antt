@@ -7,19 +7,19 @@ use Rattle.std.proofs.lemmas.Bool.Decides.{nat_tests}
 use Rattle.line_io.specs.Event.{is_line}
 use Rattle.line_io.specs.Lines.{is_feed}
 use Rattle.chess_board.specs.Position.{Position}
-use Rattle.fen_text.specs.Written.{written, board_text, side_text, rights_text, passant_text}
+use Rattle.fen_text.specs.Written.{position_fen, board_text, side_text, rights_text, passant_text}
 use Rattle.fen_text.proofs.Cut.{Above}
 use Rattle.fen_text.proofs.Boards.{word-board}
 use Rattle.fen_text.proofs.Others.{word-side, word-rights, word-passant}
 use Rattle.cecp_lines.specs.Messages.{IfaceMsg}
 use Rattle.cecp_lines.specs.Messages as says
-use Rattle.cecp_lines.specs.Reading.{reading}
+use Rattle.cecp_lines.specs.Reading.{message_or_fault}
 use Rattle.uci_lines.specs.declared.orders.GoControl.{GoControl}
 use Rattle.uci_lines.specs.declared.orders.GoControl.TheVariants.{Infinite, MoveTime, Clock}
 use Rattle.uci_lines.specs.Orders.{Order, order_text, optional_number, ponder_text, control_text, go_text}
 use Rattle.uci_lines.specs.Orders as orders
 use Rattle.game_record.specs.Game.{Ply, Game, ply_of}
-use Rattle.game_record.specs.Line.{ply_text, spaced, told, is_standard, start_text, position_text, moves_text}
+use Rattle.game_record.specs.Line.{ply_text, spaced_plies, plies_and_hint, is_standard, start_text, position_text, moves_text}
 use Rattle.game_record.proofs.Lines.{most_bytes}
 use Rattle.clock_map.specs.Search.{search_order, time_of}
 use Rattle.clock_map.specs.declared.clocks.Clocks.{Clocks}
@@ -41,7 +41,7 @@ use Rattle.desk_rules.specs.Desk.{Situation, is_gone, table, analyses, on_move, 
 use Rattle.desk_rules.specs.Lines.{switches, tells, asks_for_mode, asked_by, asks_of, asks}
 use Rattle.desk_rules.specs.Steps.{Effect, Accepts, Boots}
 use Rattle.desk_rules.proofs.EarlyOrders.{early_spelled}
-use Rattle.desk_rules.specs.Orders.{ponder_at_boot, analysis_at_boot, early_orders, asked_by_effect, waiting, position_order, pondered, searched, search_orders}
+use Rattle.desk_rules.specs.Orders.{ponder_at_boot, analysis_at_boot, early_orders, asked_by_effect, orders_waiting, position_order, pondered, searched, search_orders}
 use Rattle.desk_rules.specs.Fits.{Fits, IsSound}
 use Rattle.desk_rules.proofs.Searches.{searched_text}
 use Rattle.desk_rules.proofs.Waits.{table_declared}
@@ -85,14 +85,14 @@ mode_setting os true false d = tells_setting os analyse_name false d
 mode_setting os true true d = tt
 mode_setting os false false d = tt
 
-line_setting : (os : List OptionSetting) (line : List ℕ) (m : IfaceMsg) → AreDeclared os → is_line line ≡ true → reading line ≡ Ok m → IsSetting (asked_by (asked os m))
+line_setting : (os : List OptionSetting) (line : List ℕ) (m : IfaceMsg) → AreDeclared os → is_line line ≡ true → message_or_fault line ≡ Ok m → IsSetting (asked_by (asked os m))
 line_setting os line m d l r = by (asked os m) refl where
   by : (a : Result (Option Order) OptionFault) → asked os m ≡ a → IsSetting (asked_by a)
   by (Ok None) e = tt
   by (Ok (Some order)) e = asked_spelled os line m order d l r e
   by (Err fault) e = tt
 
-desk_setting : (d : Desk) (line : List ℕ) (m : IfaceMsg) → AreDeclared (table d) → is_line line ≡ true → reading line ≡ Ok m → IsSetting (asks_of d m)
+desk_setting : (d : Desk) (line : List ℕ) (m : IfaceMsg) → AreDeclared (table d) → is_line line ≡ true → message_or_fault line ≡ Ok m → IsSetting (asks_of d m)
 desk_setting d line says.New o l r = new_spelled
 desk_setting d line says.Force o l r = mode_setting (table d) (analyses d.mode) false o
 desk_setting d line says.Go o l r = mode_setting (table d) (analyses d.mode) false o
@@ -137,7 +137,7 @@ effect_spelled h held Boots s f =
 effect_spelled h held d s f = tt
 
 -- what waits after an effect
-pub waiting_spelled : (h : Situation) (held : List Order) (d : Effect) → IsSound h.desk → Fits h held d → AllByRecursion (IsSpelled 65700) held → AllByRecursion (IsSpelled 65700) (waiting h held d)
+pub waiting_spelled : (h : Situation) (held : List Order) (d : Effect) → IsSound h.desk → Fits h held d → AllByRecursion (IsSpelled 65700) held → AllByRecursion (IsSpelled 65700) (orders_waiting h held d)
 waiting_spelled h held d s f a = stay_spelled 65700 held (asked_by_effect h d) a (effect_spelled h held d s f)
 
 -- POSITIONS
@@ -150,8 +150,8 @@ joined_bare : (w : List ℕ) (ws : List (List ℕ)) → AllByRecursion (λ t. no
 joined_bare w [] a = a.0
 joined_bare w (v ∷ ws) a = both_bare w _ a.0 (both_bare (32 ∷ []) (join_with_byte 32 (v ∷ ws)) refl (joined_bare v ws a.1))
 
-written_bare : (p : Position) → no_feed (written p) ≡ true
-unfolding written
+written_bare : (p : Position) → no_feed (position_fen p) ≡ true
+unfolding position_fen
 written_bare p =
     joined_bare (board_text p.men) (side_text p.side ∷ rights_text p.rights ∷ passant_text p.passant ∷ decimal p.half ∷ decimal p.full ∷ []) (
       word_bare (board_text p.men) (word-board p.men).1,
@@ -164,24 +164,24 @@ written_bare p =
       ),
     )
 
-spaced_bare : (ms : List Ply) → no_feed (spaced ms) ≡ true
+spaced_bare : (ms : List Ply) → no_feed (spaced_plies ms) ≡ true
 spaced_bare [] = refl
-spaced_bare (m ∷ ms) = both_bare (32 ∷ ply_text m) (spaced ms) (both_bare (32 ∷ []) (ply_text m) refl (squares_bare m.from m.to m.promotion)) (spaced_bare ms)
+spaced_bare (m ∷ ms) = both_bare (32 ∷ ply_text m) (spaced_plies ms) (both_bare (32 ∷ []) (ply_text m) refl (squares_bare m.from m.to m.promotion)) (spaced_bare ms)
 
-start_bare : (b : Bool) (p : Position) → no_feed (cond b (codes "startpos") (codes "fen " ++ written p)) ≡ true
+start_bare : (b : Bool) (p : Position) → no_feed (cond b (codes "startpos") (codes "fen " ++ position_fen p)) ≡ true
 start_bare true p = refl
-start_bare false p = both_bare (codes "fen ") (written p) refl (written_bare p)
+start_bare false p = both_bare (codes "fen ") (position_fen p) refl (written_bare p)
 
-moves_bare : (b : Bool) (ms : List Ply) → no_feed (cond b (codes " moves" ++ spaced ms) []) ≡ true
-moves_bare true ms = both_bare (codes " moves") (spaced ms) refl (spaced_bare ms)
+moves_bare : (b : Bool) (ms : List Ply) → no_feed (cond b (codes " moves" ++ spaced_plies ms) []) ≡ true
+moves_bare true ms = both_bare (codes " moves") (spaced_plies ms) refl (spaced_bare ms)
 moves_bare false ms = refl
 
 position_bare : (g : Game) (hint : Option Ply) → no_feed (position_text g hint) ≡ true
 unfolding position_text
 position_bare g hint =
-    let moves = moves_text (told g.moves hint) in
+    let moves = moves_text (plies_and_hint g.moves hint) in
     both_bare (codes "position ") (start_text g.start ++ moves) refl
-    (both_bare (start_text g.start) moves (start_bare (is_standard g.start) g.start) (moves_bare (ltb 0 (length (told g.moves hint))) (told g.moves hint)))
+    (both_bare (start_text g.start) moves (start_bare (is_standard g.start) g.start) (moves_bare (ltb 0 (length (plies_and_hint g.moves hint))) (plies_and_hint g.moves hint)))
 
 position_ordered : (g : Game) (c : Call) → IsGame g → plies g ≤ 12000 → IsOrdered (position_order (searched g c))
 position_ordered g c i few =

@@ -48,7 +48,7 @@ pub signed_part : (z : ℤ) → IsPart 65 (signed_decimal z)
 signed_part (pos n) = wide 65 (decimal n) (number_part n) (omega arith)
 signed_part (negsuc n) = joined {m = 1} {n = 64} (45 ∷ []) (decimal (suc n)) (record { line = refl; short = omega arith }) (number_part (suc n))
 
--- words and a number behind a text
+-- words and a number after a text
 pub numbered : {n : ℕ} (front words : List ℕ) (k : ℕ) → no_feed words ≡ true → length words ≤ 20 → IsPart n front → IsPart (n + 84) ((front ++ words) ++ decimal k)
 numbered {n} front words k w s p =
     let both : IsPart (n + 20) (front ++ words) = joined front words p (record { line = w; short = s }) in

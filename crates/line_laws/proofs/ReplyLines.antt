@@ -42,7 +42,7 @@ use Rattle.think_text.proofs.Short.{lines_short}
 use Rattle.feature_talk.specs.declared.talk.ProtoverAnswer.{ProtoverAnswer}
 use Rattle.feature_talk.specs.declared.talk.ProtoverAnswer.TheVariants as say
 use Rattle.feature_talk.specs.Due.{answer}
-use Rattle.feature_talk.specs.Features.{shown_name, is_unfit, in_quotes, bit, fixed, tables, by_options, option_feature, shown_options, feature_list, reply_line, reply_lines}
+use Rattle.feature_talk.specs.Features.{shown_name, is_unfit, in_quotes, bit, fixed_features, tables, by_options, option_feature, shown_options, feature_list, reply_line, reply_lines}
 use Rattle.desk_rules.specs.declared.effect.Refusal.{Refusal}
 use Rattle.desk_rules.specs.declared.effect.Refusal.TheVariants as refusals
 use Rattle.desk_rules.specs.declared.desk.Desk.{Desk}
@@ -104,7 +104,7 @@ named_bare name text n t =
     let quoted = both_bare (34 ∷ []) (text ++ 34 ∷ []) refl (both_bare text (34 ∷ []) t refl) in
     both_bare (codes "feature " ++ name ++ codes "=") (in_quotes text) two quoted
 
-fixed_bare : AreBare fixed
+fixed_bare : AreBare fixed_features
 unfolding AreBare
 fixed_bare = (refl, (refl, (refl, (refl, (refl, (refl, (refl, (refl, (refl, (refl, (refl, (refl, (refl, tt)))))))))))))
 
@@ -137,10 +137,10 @@ list_bare os said d n =
     let P = λ (r : Reply). no_feed (reply_text r) ≡ true in
     let last : AreBare (Feature (codes "done") (codes "1") ∷ []) = (refl, tt) in
     let options : AreBare (by_options os) = (memory_bare (takes_memory os), (cores_bare (takes_cores os), tables_bare (takes_tables os))) in
-    let front = all_both P fixed (by_options os) fixed_bare options in
-    let most = all_both P (fixed ++ by_options os) (map option_feature (shown_options os)) front (options_bare os d) in (
+    let front = all_both P fixed_features (by_options os) fixed_bare options in
+    let most = all_both P (fixed_features ++ by_options os) (map option_feature (shown_options os)) front (options_bare os d) in (
       named_bare (codes "myname") (shown_name said) refl n,
-      all_both P (fixed ++ by_options os ++ map option_feature (shown_options os)) (Feature (codes "done") (codes "1") ∷ []) most last,
+      all_both P (fixed_features ++ by_options os ++ map option_feature (shown_options os)) (Feature (codes "done") (codes "1") ∷ []) most last,
     )
 
 -- no reply is longer than all of them
@@ -259,7 +259,7 @@ AreBareTexts texts = AllByRecursion (λ t. no_feed t ≡ true) texts
 
 texts_bare : (s : Spelling) (p : Position) (moves : List Move) → AreBareTexts (run_texts s p moves)
 texts_bare s p [] = tt
-texts_bare s p (m ∷ moves) = (written_bare s p m, texts_bare s (think.played p m) moves)
+texts_bare s p (m ∷ moves) = (written_bare s p m, texts_bare s (think.moved_position p m) moves)
 
 run_bare : (t : List ℕ) (texts : List (List ℕ)) → AreBareTexts (t ∷ texts) → no_feed (join_with_byte 32 (t ∷ texts)) ≡ true
 run_bare t [] h = h.0

@@ -8,7 +8,7 @@ use Rattle.chess_board.specs.Board.{file_of, rank_of, is_pawn_kind}
 use Rattle.chess_board.specs.Place.{has_any_way}
 use Rattle.chess_board.specs.Position.{Position}
 use Rattle.san_text.specs.declared.men.RivalSquares.TheVariants.{Board, File, Rank}
-use Rattle.san_text.specs.Writing.{kind_at, castles_short, castles_long, is_capture, has_rival, file_letter, rank_digit, letter, origin, promotion_letters, target, taking, body, after, sign, san}
+use Rattle.san_text.specs.Writing.{kind_at, castles_short, castles_long, is_capture, has_rival, file_letter, rank_digit, letter, origin, promotion_letters, target, capture_text, body, after, sign, san}
 use Rattle.option_map.proofs.Values.{no_feed}
 use Rattle.line_laws.proofs.Pieces.{both_bare, high_bare}
 
@@ -50,17 +50,17 @@ origin_bare p m =
     (where_bare (not (has_rival p m File)) (file_letter s ∷ []) _ (file_bare s)
     (where_bare (not (has_rival p m Rank)) (rank_digit s ∷ []) (file_letter s ∷ rank_digit s ∷ []) (rank_bare s) (square_bare s))))
 
-man_bare : (p : Position) (m : Move) → no_feed (letter (kind_at p m.from.index) ++ (origin p m ++ (taking p m ++ target m))) ≡ true
+man_bare : (p : Position) (m : Move) → no_feed (letter (kind_at p m.from.index) ++ (origin p m ++ (capture_text p m ++ target m))) ≡ true
 man_bare p m =
-    both_bare (letter (kind_at p m.from.index)) (origin p m ++ (taking p m ++ target m)) (letter_bare (kind_at p m.from.index))
-    (both_bare (origin p m) (taking p m ++ target m) (origin_bare p m)
-    (both_bare (taking p m) (target m) (where_bare (is_capture p m) (120 ∷ []) [] refl refl)
+    both_bare (letter (kind_at p m.from.index)) (origin p m ++ (capture_text p m ++ target m)) (letter_bare (kind_at p m.from.index))
+    (both_bare (origin p m) (capture_text p m ++ target m) (origin_bare p m)
+    (both_bare (capture_text p m) (target m) (where_bare (is_capture p m) (120 ∷ []) [] refl refl)
     (both_bare (file_letter m.to.index ∷ rank_digit m.to.index ∷ []) (promotion_letters m.promotion) (square_bare m.to.index) (promotion_bare m.promotion))))
 
 body_bare : (p : Position) (m : Move) → no_feed (body p m) ≡ true
 body_bare p m =
     where_bare (castles_short p m) (79 ∷ 45 ∷ 79 ∷ []) _ refl
-    (where_bare (castles_long p m) (79 ∷ 45 ∷ 79 ∷ 45 ∷ 79 ∷ []) (letter (kind_at p m.from.index) ++ (origin p m ++ (taking p m ++ target m))) refl (man_bare p m))
+    (where_bare (castles_long p m) (79 ∷ 45 ∷ 79 ∷ 45 ∷ 79 ∷ []) (letter (kind_at p m.from.index) ++ (origin p m ++ (capture_text p m ++ target m))) refl (man_bare p m))
 
 pub san_bare : (p : Position) (m : Move) → no_feed (san p m) ≡ true
 unfolding san

@@ -8,7 +8,7 @@ use Rattle.policy_rules.specs.declared.settings.Settings.{Settings}
 use Rattle.adapter_core.specs.Trace.{Step, Lawful}
 use Rattle.line_io.specs.declared.limits.TheConstants.{SCRIPT_LINE}
 
--- no line feed, and no more bytes than stand behind a mark in a line of a script
+-- no line feed, and no more bytes than stand after a mark in a line of a script
 pub record IsOneLine (text : List ℕ) : Type 0 where
   pub no_feed : has_feed text ≡ false
   pub short : length text ≤ SCRIPT_LINE - 2

@@ -33,7 +33,7 @@ some_behind a b l = omega (arith, length-append a b, l)
 pub unmoved : (held : Text) (output : Received) → Moved held held output output
 unmoved held output = record { front = []; appended = Appends-nil output.taken; rest = refl; room = refl; no_failure = refl }
 
--- a piece that is put behind what is held
+-- a piece that is put after what is held
 put_behind : (written text more : List ℕ) (held held' : Text) → held' ≡ with held more → written ++ held.text ≡ text → written ++ held'.text ≡ text ++ more
 put_behind written text more held held' e all = ap (λ (x : Text). written ++ x.text) e ∙ sym (append_assoc written held.text more) ∙ ap (λ l. l ++ more) all
 

@@ -9,7 +9,7 @@ use Rattle.command_endings.specs.declared.ending.Ending.TheVariants as endings
 pub record Putting (S : Type 0) : Type 1 where
   -- it took these lines and is now so, and this is their text
   pub put : S → List Piece → S → List ℕ → Type 0
-  -- behind these lines it takes no more, for this reason, and this is their text
+  -- after these lines it takes no more, for this reason, and this is their text
   pub says : S → List Piece → Ending → List ℕ → Type 0
   -- It may take a line. This holds from the first line to a stop.
   pub may : S → Type 0
@@ -23,7 +23,7 @@ IsOfLine (endings.OutOfStep n) = ⊤
 IsOfLine (endings.MayNotCome n) = ⊤
 IsOfLine ending = ⊥
 
--- the endings of which no line is the reason, and behind which a text may stand
+-- the endings of which no line is the reason, and after which a text may stand
 abbrev pub IsInputEnd : Ending → Type 0
 IsInputEnd endings.Done = ⊤
 IsInputEnd endings.ReadingFailed = ⊤

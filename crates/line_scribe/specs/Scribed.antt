@@ -46,7 +46,7 @@ IsText {S} means s0 lines text = ((s : S) × means.put s0 lines s text) ⊎ ((en
 abbrev pub AreAll : Option (List ℕ) → List Piece → Type 0
 AreAll left lines = IfSome left (λ x. items SCRIPT_LINE x ≡ lines)
 
--- Behind these lines the input ended only if they are all of it.
+-- After these lines the input ended only if they are all of it.
 abbrev pub EndsRightly : Option (List ℕ) → List Piece → Ending → Type 0
 EndsRightly left lines endings.Done = AreAll left lines
 EndsRightly left lines ending = ⊤

@@ -40,7 +40,7 @@ pub record Stood {S : Type 0} (means : Putting S) (s0 : S) (lines : List Piece) 
   pub all : written ++ held.text ≡ text
   pub no_failure : after.faults ≡ before.faults
 
--- It takes no line behind these, and their text was written except what is held.
+-- It takes no line after these, and their text was written except what is held.
 pub record Said {S : Type 0} (means : Putting S) (s0 : S) (lines : List Piece) (ending : Ending) (held : List ℕ) (before after : Received) : Type 0 where
   pub text : List ℕ
   pub says : means.says s0 lines ending text

@@ -1,6 +1,6 @@
 // One run over the lines of an input.
 ghost use Rattle.std.specs.Prelude.{◌≡◌, [], IfOk};
-ghost use Rattle.line_io.specs.Lines.{unread};
+ghost use Rattle.line_io.specs.Lines.{empty_reader};
 ghost use Rattle.line_io.specs.Out.{empty};
 ghost use Rattle.line_io.specs.Source.{Received};
 ghost use Rattle.command_endings.specs.Diagnostics.{code_of};
@@ -26,7 +26,7 @@ struct ScribeRoom {
 
 impl ScribeRoom {
     fn make(alloc: Global) -> Result<ScribeRoom, NoMemory>
-        ensures lines { IfOk result (λ room. room.lines ≡ unread SCRIPT_LINE) }
+        ensures lines { IfOk result (λ room. room.lines ≡ empty_reader SCRIPT_LINE) }
         ensures text { IfOk result (λ room. room.text ≡ empty TEXT_ROOM) }
         ensures told { IfOk result (λ room. room.told ≡ empty DIAGNOSTIC_ROOM) }
     {
@@ -45,7 +45,7 @@ fn write_lines_of<I: Source, O: Sink, S: Scribe>(
     writer: &mut Writer<S>,
     output: &mut O,
 ) -> Ending
-    requires lines { lines.old ≡ unread SCRIPT_LINE }
+    requires lines { lines.old ≡ empty_reader SCRIPT_LINE }
     requires text { writer.old.text ≡ empty TEXT_ROOM }
     requires may { S.means.may writer.old.scribe }
     requires fresh { S.means.put writer.old.scribe [] writer.old.scribe [] }

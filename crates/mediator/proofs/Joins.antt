@@ -1,4 +1,4 @@
--- The lines of bytes that stand behind whole lines.
+-- The lines of bytes that stand after whole lines.
 use Rattle.std.proofs.Common.{◌≡◌, ◌≢◌, inl, inr, ℕ, List, [], ◌∷◌, ◌++◌, map, Bool, true, false, cond, refl, sym, ap, subst, ◌∙◌, append_assoc}
 use Rattle.std.proofs.lemmas.List.{map-append}
 use Rattle.std.specs.List.{onto_first}
@@ -7,7 +7,7 @@ use Rattle.line_io.specs.Lines.{Piece, parts, is_feed, items, piece_of}
 use Rattle.line_io.proofs.Parts.{parts_first}
 use Rattle.event_pipe.specs.declared.message.Peer.TheVariants as peers
 use Rattle.event_pipe.specs.Message.{is_end}
-use Rattle.event_pipe.specs.Rule.{ended}
+use Rattle.event_pipe.specs.Rule.{has_last_event}
 use Rattle.event_pipe.specs.Arrivals.{arrivals, piece_event, piece_events, line_limit}
 use Rattle.mediator.specs.First.{first_events, FirstLinesJoin}
 use Rattle.mediator.proofs.Loops.{or_parts}
@@ -31,10 +31,10 @@ parts_join (b ∷ bs) rest =
 items_join : (limit : ℕ) (bs rest : List ℕ) → items limit (bs ++ 10 ∷ rest) ≡ items limit (bs ++ 10 ∷ []) ++ items limit rest
 items_join limit bs rest = ap (λ (ps : List (List ℕ)). map (piece_of limit) ps) (parts_join bs rest) ∙ map-append (piece_of limit) (parts (bs ++ 10 ∷ [])) (parts rest)
 
-arrivals_join : (ps qs : List Piece) → ended (piece_events peers.Iface ps) ≡ false → arrivals peers.Iface (ps ++ qs) ≡ piece_events peers.Iface ps ++ arrivals peers.Iface qs
+arrivals_join : (ps qs : List Piece) → has_last_event (piece_events peers.Iface ps) ≡ false → arrivals peers.Iface (ps ++ qs) ≡ piece_events peers.Iface ps ++ arrivals peers.Iface qs
 arrivals_join [] qs h = refl
 arrivals_join (p ∷ ps) qs h =
-    let w = or_parts (is_end (piece_event peers.Iface p)) (ended (piece_events peers.Iface ps)) h in
+    let w = or_parts (is_end (piece_event peers.Iface p)) (has_last_event (piece_events peers.Iface ps)) h in
     ap (λ (b : Bool). piece_event peers.Iface p ∷ cond b [] (arrivals peers.Iface (ps ++ qs))) w.0 ∙ ap (λ (es : List Event). piece_event peers.Iface p ∷ es) (arrivals_join ps qs w.1)
 
 pub join : FirstLinesJoin
@@ -43,5 +43,5 @@ join first got (inr x) opening =
     let lines = items line_limit (x.0 ++ 10 ∷ []) in
     ap (λ (f : List ℕ). arrivals peers.Iface (items line_limit (f ++ got))) x.1 ∙ ap (λ (f : List ℕ). arrivals peers.Iface (items line_limit f)) (append_assoc x.0 (10 ∷ []) got)
     ∙ ap (λ (ps : List Piece). arrivals peers.Iface ps) (items_join line_limit x.0 got)
-    ∙ arrivals_join lines (items line_limit got) (ap (λ (f : List ℕ). ended (first_events f)) (sym x.1) ∙ opening)
+    ∙ arrivals_join lines (items line_limit got) (ap (λ (f : List ℕ). has_last_event (first_events f)) (sym x.1) ∙ opening)
     ∙ ap (λ (f : List ℕ). first_events f ++ arrivals peers.Iface (items line_limit got)) (sym x.1)

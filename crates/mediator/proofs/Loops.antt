@@ -13,13 +13,13 @@ use Rattle.cecp_lines.specs.Quit.{is_quit}
 use Rattle.event_pipe.specs.declared.message.Peer.{Peer}
 use Rattle.event_pipe.specs.declared.message.Peer.TheVariants as peers
 use Rattle.event_pipe.specs.Message.{role_of_event, is_end}
-use Rattle.event_pipe.specs.Rule.{is_of, of, ended, Follows}
+use Rattle.event_pipe.specs.Rule.{is_of, of, has_last_event, Follows}
 use Rattle.event_pipe.proofs.Roles.{more_ended}
 use Rattle.sink_offers.specs.declared.offering.LoopEnd.{LoopEnd}
 use Rattle.sink_offers.specs.Streams.{Sinks, TookFront, Offered}
 use Rattle.sink_offers.proofs.Took.{took_next, took_nothing}
 use Rattle.mediator.specs.declared.looping.Sides.{Sides}
-use Rattle.mediator.specs.Turns.{Turn, given, texts, received, is_own, loss, is_loss, has_loss, stands_between, Gave}
+use Rattle.mediator.specs.Turns.{Turn, given, texts, events_of_turns, is_own, loss, is_loss, has_loss, stands_between, Gave}
 use Rattle.mediator.specs.Meaning.{Meaning, turn_of, Opens, Allows}
 use Rattle.mediator.specs.Looped.{FailsAt, Fails, LostBehind, SideTook, Looped}
 use Rattle.mediator.specs.Reached.{AllOffered, Stepped, Receives, ended_by, SideSoFar, Reached}
@@ -100,12 +100,12 @@ side_took hears p t failed false o0 o e x n = record { took = x.took; only = λ 
 
 -- EVENTS
 
-iface_by : (e : Sides) (x : Event) (b : Bool) → e.iface ≡ b → (ended_by e x).iface ≡ (b || ended (of 1 (x ∷ [])))
+iface_by : (e : Sides) (x : Event) (b : Bool) → e.iface ≡ b → (ended_by e x).iface ≡ (b || has_last_event (of 1 (x ∷ [])))
 iface_by e (Iface line) b h = ap (λ x. x || is_quit line) h ∙ ap (λ x. b || x) (sym (or-false (is_quit line)))
 iface_by e IfaceEnd b h = sym (or-true b)
 iface_by e x b h = h ∙ sym (or-false b)
 
-engine_by : (e : Sides) (x : Event) (b : Bool) → e.engine ≡ b → (ended_by e x).engine ≡ (b || ended (of 2 (x ∷ [])))
+engine_by : (e : Sides) (x : Event) (b : Bool) → e.engine ≡ b → (ended_by e x).engine ≡ (b || has_last_event (of 2 (x ∷ [])))
 engine_by e EngineEnd b h = sym (or-true b)
 engine_by e x b h = h ∙ sym (or-false b)
 
@@ -146,8 +146,8 @@ filter_swap f g (x ∷ es) =
     ∙ ap (λ (l : List Event). cond (f x) (cond (g x) (x ∷ l) l) l) (filter_swap f g es)
     ∙ sym (filter_one g (f x) x (filter f es))
 
-no_ends : (role : ℕ) (g : Event → Bool) (es : List Event) → ended (of role es) ≡ false → ended (of role (filter g es)) ≡ false
-no_ends role g es h = ap ended (filter_swap (is_of role) g es) ∙ any_filter is_end g (of role es) h
+no_ends : (role : ℕ) (g : Event → Bool) (es : List Event) → has_last_event (of role es) ≡ false → has_last_event (of role (filter g es)) ≡ false
+no_ends role g es h = ap has_last_event (filter_swap (is_of role) g es) ∙ any_filter is_end g (of role es) h
 
 -- what is received is none of the loop's own
 comes : (x : Event) → role_of_event x ≢ 3 → (is_own x ≡ false) × (is_loss peers.Iface x ≡ false) × (is_loss peers.Engine x ≡ false)
@@ -171,7 +171,7 @@ module _ {M : Type 0} (means : Meaning M) where
   new_side : (p : Peer) (o : Received) → SideSoFar means.hears_loss p [] false false o o
   new_side p o = record { took = took_nothing o; only = λ q. cc; owes = λ h q. cc; lost = λ h q. cc }
 
-  -- behind the first turn
+  -- after the first turn
   pub reached_first : (m0 m : M) (events : List Event) (held held' : Text) (b a : Sinks) (to : LoopEnd) → held.text ≡ [] → events ≡ []
       → Opens means m0 held m held' → AllOffered (means.gave m peers.Iface) (means.gave m peers.Engine) held'.text b a none_failed to → Reached means m0 m events none_ended b a to
   reached_first m0 m events held held' b a to t e o f =
@@ -182,8 +182,8 @@ module _ {M : Type 0} (means : Meaning M) where
         did = o.did;
         begins = record { later = []; first = first; is = refl; event = refl };
         received_is = ap (λ (es : List Event). filter means.told es) (sym e);
-        iface_ended = ap (λ (es : List Event). ended (of 1 es)) (sym e);
-        engine_ended = ap (λ (es : List Event). ended (of 2 es)) (sym e);
+        iface_ended = ap (λ (es : List Event). has_last_event (of 1 es)) (sym e);
+        engine_ended = ap (λ (es : List Event). has_last_event (of 2 es)) (sym e);
         iface = side_next means.hears_loss peers.Iface false to.output false false first [] b.output b.output a.output (λ q. cc) (λ h q. cc) (λ q. cc) (new_side peers.Iface b.output) f.output;
         engine = side_next means.hears_loss peers.Engine false to.engine false false first [] b.engine b.engine a.engine (λ q. cc) (λ h q. cc) (λ q. cc) (new_side peers.Engine b.engine) f.engine;
         log = took_next _ _ [] o.piece b.log b.log a.log (took_nothing b.log) (subst (λ (x : List ℕ). Offered false to.log b.log a.log x) piece f.log);
@@ -194,8 +194,8 @@ module _ {M : Type 0} (means : Meaning M) where
     has p = has_loss p r.turns
 
     next : (m' : M) (e : Event) (a : Sinks) (to : LoopEnd) → Stepped means e m m' s a at to → (events' : List Event) (sides' : Sides)
-        → (received r.turns ++ cond (is_own e) [] (e ∷ [])) ≡ filter means.told events'
-        → sides'.iface ≡ ended (of 1 events') → sides'.engine ≡ ended (of 2 events')
+        → (events_of_turns r.turns ++ cond (is_own e) [] (e ∷ [])) ≡ filter means.told events'
+        → sides'.iface ≡ has_last_event (of 1 events') → sides'.engine ≡ has_last_event (of 2 events')
         → (means.hears_loss ≡ true → at.output ≡ true → has peers.Iface ≡ false → (is_loss peers.Iface e ≡ true) ⊎ (stands_between peers.Iface e ≡ true))
         → (is_loss peers.Iface e ≡ true → (at.output ≡ true) × (has peers.Iface ≡ false))
         → (means.hears_loss ≡ true → at.engine ≡ true → has peers.Engine ≡ false → (is_loss peers.Engine e ≡ true) ⊎ (stands_between peers.Engine e ≡ true))
@@ -225,26 +225,26 @@ module _ {M : Type 0} (means : Meaning M) where
 
     pub after_iface_lost : (m' : M) (a : Sinks) (to : LoopEnd) → Allows means m IfaceLost → (at.output && means.may m IfaceLost) ≡ true → Stepped means IfaceLost m m' s a at to → Reached means m0 m' events sides b a to
     after_iface_lost m' a to allows h st =
-        next m' IfaceLost a to st events sides (append-nil (received r.turns) ∙ r.received_is) r.iface_ended r.engine_ended (λ _ _ _. inl refl) (λ _. owed_once peers.Iface at.output allows h) (λ _ _ _. inr refl) (λ q. cc)
+        next m' IfaceLost a to st events sides (append-nil (events_of_turns r.turns) ∙ r.received_is) r.iface_ended r.engine_ended (λ _ _ _. inl refl) (λ _. owed_once peers.Iface at.output allows h) (λ _ _ _. inr refl) (λ q. cc)
 
     pub after_engine_lost : (m' : M) (a : Sinks) (to : LoopEnd) → Allows means m IfaceLost → (at.output && means.may m IfaceLost) ≡ false → Allows means m EngineLost → (at.engine && means.may m EngineLost) ≡ true
         → Stepped means EngineLost m m' s a at to → Reached means m0 m' events sides b a to
     after_engine_lost m' a to allows h allows' h' st =
-        next m' EngineLost a to st events sides (append-nil (received r.turns) ∙ r.received_is) r.iface_ended r.engine_ended
+        next m' EngineLost a to st events sides (append-nil (events_of_turns r.turns) ∙ r.received_is) r.iface_ended r.engine_ended
         (λ q f n. absurd (none_owed peers.Iface at.output _ _ allows h r.iface q f n)) (λ q. cc) (λ _ _ _. inl refl) (λ _. owed_once peers.Engine at.engine allows' h')
 
-    follows_received : (x : Event) → Follows events x → Follows (received r.turns) x
-    follows_received x f = (ap (λ (es : List Event). ended (of (role_of_event x) es)) r.received_is ∙ no_ends (role_of_event x) means.told events f.0, f.1, f.2)
+    follows_received : (x : Event) → Follows events x → Follows (events_of_turns r.turns) x
+    follows_received x f = (ap (λ (es : List Event). has_last_event (of (role_of_event x) es)) r.received_is ∙ no_ends (role_of_event x) means.told events f.0, f.1, f.2)
 
     module _ (x : Event) (follows : Follows events x) (allows : Allows means m x) (events' : List Event) (got : events' ≡ events ++ x ∷ []) where
       told_is : means.may m x ≡ means.told x
       told_is = allows.follows m0 r.turns r.did (follows_received x follows)
 
-      iface_next : (ended_by sides x).iface ≡ ended (of 1 events')
-      iface_next = iface_by sides x _ r.iface_ended ∙ sym (more_ended 1 events (x ∷ [])) ∙ ap (λ (es : List Event). ended (of 1 es)) (sym got)
+      iface_next : (ended_by sides x).iface ≡ has_last_event (of 1 events')
+      iface_next = iface_by sides x _ r.iface_ended ∙ sym (more_ended 1 events (x ∷ [])) ∙ ap (λ (es : List Event). has_last_event (of 1 es)) (sym got)
 
-      engine_next : (ended_by sides x).engine ≡ ended (of 2 events')
-      engine_next = engine_by sides x _ r.engine_ended ∙ sym (more_ended 2 events (x ∷ [])) ∙ ap (λ (es : List Event). ended (of 2 es)) (sym got)
+      engine_next : (ended_by sides x).engine ≡ has_last_event (of 2 events')
+      engine_next = engine_by sides x _ r.engine_ended ∙ sym (more_ended 2 events (x ∷ [])) ∙ ap (λ (es : List Event). has_last_event (of 2 es)) (sym got)
 
       filter_next : (c : Bool) → means.told x ≡ c → filter means.told events ++ cond c (x ∷ []) [] ≡ filter means.told events'
       filter_next c h = ap (λ k. filter means.told events ++ cond k (x ∷ []) []) (sym h) ∙ sym (filter-append means.told events (x ∷ [])) ∙ ap (λ (es : List Event). filter means.told es) (sym got)
@@ -256,7 +256,7 @@ module _ {M : Type 0} (means : Meaning M) where
       after_take m' a to may al h al' h' st =
           let c = comes x follows.2 in
           next m' x a to st events' (ended_by sides x)
-          (ap (λ k. received r.turns ++ cond k [] (x ∷ [])) c.0 ∙ ap (λ (es : List Event). es ++ x ∷ []) r.received_is ∙ filter_next true (sym told_is ∙ may))
+          (ap (λ k. events_of_turns r.turns ++ cond k [] (x ∷ [])) c.0 ∙ ap (λ (es : List Event). es ++ x ∷ []) r.received_is ∙ filter_next true (sym told_is ∙ may))
           iface_next engine_next
           (λ q f n. absurd (none_owed peers.Iface at.output _ _ al h r.iface q f n)) (λ q. let z = c.1 in cc)
           (λ q f n. absurd (none_owed peers.Engine at.engine _ _ al' h' r.engine q f n)) (λ q. let z = c.2 in cc)

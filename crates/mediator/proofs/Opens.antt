@@ -7,10 +7,10 @@ use Rattle.line_io.specs.Out.{Text}
 use Rattle.line_io.specs.Lines.{Piece, Whole, TooLong, is_feed, feed_at, piece_of}
 use Rattle.line_io.proofs.Parts.{items_first}
 use Rattle.event_pipe.specs.declared.message.Peer.TheVariants as peers
-use Rattle.event_pipe.specs.Ends.{KeepsTaker, taken}
+use Rattle.event_pipe.specs.Ends.{KeepsTaker, events_taken}
 use Rattle.event_pipe.specs.declared.pipe.PipeTake.{PipeTake}
 use Rattle.event_pipe.specs.Message.{role_of_event, is_end, is_good}
-use Rattle.event_pipe.specs.Rule.{is_of, of, ended, Follows}
+use Rattle.event_pipe.specs.Rule.{is_of, of, has_last_event, Follows}
 use Rattle.event_pipe.specs.Arrivals.{piece_event, piece_events, line_limit}
 use Rattle.event_pipe.proofs.Reading.{any_append}
 use Rattle.event_pipe.proofs.Roles.{more_ended}
@@ -74,10 +74,10 @@ none_left rest empty e h = nil_is rest (is_zero (length rest) (sym e ∙ h))
 
 -- WHAT CAME SO FAR
 
-front_going : (xs ys zs : List Event) → xs ++ ys ≡ zs → ended zs ≡ false → ended xs ≡ false
-front_going xs ys zs e h = (or_parts (ended xs) (ended ys) (sym (any_append is_end xs ys) ∙ ap ended e ∙ h)).0
+front_going : (xs ys zs : List Event) → xs ++ ys ≡ zs → has_last_event zs ≡ false → has_last_event xs ≡ false
+front_going xs ys zs e h = (or_parts (has_last_event xs) (has_last_event ys) (sym (any_append is_end xs ys) ∙ ap has_last_event e ∙ h)).0
 
-behind_first : (first taken : List Event) (t : Event) → ended first ≡ false → Follows taken t → Follows (first ++ taken) t
+behind_first : (first taken : List Event) (t : Event) → has_last_event first ≡ false → Follows taken t → Follows (first ++ taken) t
 behind_first first taken t going f = (more_ended (role_of_event t) first taken ∙ neither _ _ (any_filter is_end (is_of (role_of_event t)) first going) f.0, f.1, f.2)
 
 pub opened_first : {M : Type 0} (means : Meaning M) (m0 m : M) (first : List ℕ) (taken : List Event) (held held' : Text) (b a : Sinks) (to : LoopEnd) → held.text ≡ [] → taken ≡ []
@@ -94,9 +94,9 @@ opened_first means m0 m first taken held held' b a to t e o f =
 pub kept_by : (t0 t t' : PipeTake) → t' ≡ t → KeepsTaker t0 t → KeepsTaker t0 t'
 kept_by t0 t t' e k = subst (λ (x : PipeTake). KeepsTaker t0 x) (sym e) k
 
-pub none_taken : {M : Type 0} (means : Meaning M) (m0 m : M) (first rest : List ℕ) (t t' : PipeTake) (sides : Sides) (b a : Sinks) (at : LoopEnd) → t' ≡ t → Opened means m0 m first rest (taken t) sides b a at
-    → Opened means m0 m first rest (taken t') sides b a at
-none_taken means m0 m first rest t t' sides b a at e x = subst (λ (y : PipeTake). Opened means m0 m first rest (taken y) sides b a at) (sym e) x
+pub none_taken : {M : Type 0} (means : Meaning M) (m0 m : M) (first rest : List ℕ) (t t' : PipeTake) (sides : Sides) (b a : Sinks) (at : LoopEnd) → t' ≡ t → Opened means m0 m first rest (events_taken t) sides b a at
+    → Opened means m0 m first rest (events_taken t') sides b a at
+none_taken means m0 m first rest t t' sides b a at e x = subst (λ (y : PipeTake). Opened means m0 m first rest (events_taken y) sides b a at) (sym e) x
 
 module _ {M : Type 0} (means : Meaning M) (m0 m : M) (first rest : List ℕ) (taken : List Event) (sides : Sides) (b s : Sinks) (at : LoopEnd) (x : Opened means m0 m first rest taken sides b s at) where
   pub still : (m' : M) (a : Sinks) (to : LoopEnd) → Reached means m0 m' x.events sides b a to → Opened means m0 m' first rest taken sides b a to
@@ -122,7 +122,7 @@ module _ {M : Type 0} (means : Meaning M) (m0 m : M) (first rest : List ℕ) (ta
         first_more rest some ∙ ap (λ (l : List ℕ). piece_event peers.Iface (piece_of line_limit l) ∷ first_events (after_first is_feed rest)) (sym cut)
         ∙ ap (λ (l : List ℕ). piece_event peers.Iface (piece_of line_limit line) ∷ first_events l) (sym behind) ∙ ap (λ (z : Event). z ∷ first_events after) (sym is) in
         let split : x.events ++ y ∷ first_events after ≡ first_events first ++ taken = ap (λ (es : List Event). x.events ++ es) (sym here) ∙ x.are in
-        let going : ended x.events ≡ false =
+        let going : has_last_event x.events ≡ false =
         front_going x.events (y ∷ first_events after) (first_events first) (split ∙ ap (λ (es : List Event). first_events first ++ es) none ∙ append-nil (first_events first)) opening in
         let follows : Follows x.events y =
         (any_filter is_end (is_of (role_of_event y)) x.events going, ap is_good is ∙ good_piece line (ap has_feed cut ∙ no_feed rest), λ q. no_own (piece_of line_limit line) (ap role_of_event (sym is) ∙ q)) in

@@ -6,7 +6,7 @@ use Rattle.line_io.specs.Lines.{items, line_feed}
 use Rattle.event_pipe.specs.declared.message.Peer.{Peer}
 use Rattle.event_pipe.specs.declared.message.Peer.TheVariants as peers
 use Rattle.event_pipe.specs.declared.reader.ReadEnd.{ReadEnd}
-use Rattle.event_pipe.specs.Rule.{ended}
+use Rattle.event_pipe.specs.Rule.{has_last_event}
 use Rattle.event_pipe.specs.Arrivals.{Arrived, arrivals, piece_events, line_limit}
 
 -- these lines, as events
@@ -15,9 +15,9 @@ first_events first = piece_events peers.Iface (items line_limit first)
 
 -- none of them spells `quit`
 abbrev pub AreOpening : List ℕ → Type 0
-AreOpening first = ended (first_events first) ≡ false
+AreOpening first = has_last_event (first_events first) ≡ false
 
--- nothing stands behind the last line feed
+-- nothing stands after the last line feed
 abbrev pub AreWholeLines : List ℕ → Type 0
 AreWholeLines bytes = (bytes ≡ []) ⊎ ((front : List ℕ) × (bytes ≡ front ++ line_feed ∷ []))
 

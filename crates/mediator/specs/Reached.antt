@@ -5,12 +5,12 @@ use Rattle.line_io.specs.Source.{Received}
 use Rattle.cecp_lines.specs.Quit.{is_quit}
 use Rattle.event_pipe.specs.declared.message.Peer.{Peer}
 use Rattle.event_pipe.specs.declared.message.Peer.TheVariants as peers
-use Rattle.event_pipe.specs.Rule.{sent_by, ended}
+use Rattle.event_pipe.specs.Rule.{sent_by, has_last_event}
 use Rattle.sink_offers.specs.declared.offering.LoopEnd.{LoopEnd}
 use Rattle.sink_offers.specs.Streams.{Sinks, Offered}
 use Rattle.sink_offers.specs.Took.{LogTook}
 use Rattle.mediator.specs.declared.looping.Sides.{Sides}
-use Rattle.mediator.specs.Turns.{Turn, given, logged, texts, received, has_loss}
+use Rattle.mediator.specs.Turns.{Turn, given, log_of_turn, texts, events_of_turns, has_loss}
 use Rattle.mediator.specs.Meaning.{Meaning, turn_of}
 use Rattle.mediator.specs.First.{first_events}
 use Rattle.mediator.specs.Looped.{Fails, LostBehind, BeginsWithOpen}
@@ -58,12 +58,12 @@ pub record Reached {M : Type 0} (means : Meaning M) (m0 m : M) (events : List Ev
   pub turns : List Turn
   pub did : means.did m0 turns m
   pub begins : BeginsWithOpen turns
-  pub received_is : received turns ≡ filter means.told events
-  pub iface_ended : sides.iface ≡ ended (sent_by peers.Iface events)
-  pub engine_ended : sides.engine ≡ ended (sent_by peers.Engine events)
+  pub received_is : events_of_turns turns ≡ filter means.told events
+  pub iface_ended : sides.iface ≡ has_last_event (sent_by peers.Iface events)
+  pub engine_ended : sides.engine ≡ has_last_event (sent_by peers.Engine events)
   pub iface : SideSoFar means.hears_loss peers.Iface turns at.output (has_loss peers.Iface turns) before.output after.output
   pub engine : SideSoFar means.hears_loss peers.Engine turns at.engine (has_loss peers.Engine turns) before.engine after.engine
-  pub log : LogTook (texts logged turns) at.log before.log after.log
+  pub log : LogTook (texts log_of_turn turns) at.log before.log after.log
 
 -- The same, if of the first lines these are left, and this was taken from the channel.
 pub record Opened {M : Type 0} (means : Meaning M) (m0 m : M) (first rest : List ℕ) (taken : List Event) (sides : Sides) (before after : Sinks) (at : LoopEnd) : Type 0 where

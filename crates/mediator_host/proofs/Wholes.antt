@@ -19,7 +19,7 @@ use Rattle.host_run.specs.Outside.{Outside, outside, AreTold, IsClosed}
 use Rattle.host_run.proofs.Counts.{same_told}
 use Rattle.host_run.proofs.Early.{early_told, none_closed}
 use Rattle.host_run.proofs.Telling.{sink_took, log_took, front_of, gave_by, is_done, if_some, told_is}
-use Rattle.mediator.specs.Turns.{given, logged, texts}
+use Rattle.mediator.specs.Turns.{given, log_of_turn, texts}
 use Rattle.mediator.specs.Meaning.{Meaning}
 use Rattle.mediator_host.specs.Mediated.{Mediated}
 use Rattle.mediator_host.specs.Recorded.{RecordedAs}
@@ -57,7 +57,7 @@ iface_as i j i' sent r f h a =
     subst (λ (x : Supplied). Arrived peers.Iface i x sent read_ends.Done) f (subst (λ (x : ReadEnd). Arrived peers.Iface i j sent x) h a)
 
 module _ {M : Type 0} (means : Meaning M) (m0 : M) (first : List ℕ) (before after : Outside) (failures : Failures) (x : Mediated means m0 first before after failures)
-    (put down up : List ℕ) (put_is : texts logged x.ran.looped.turns ≡ put) (down_is : texts (given peers.Engine) x.ran.looped.turns ≡ down) (up_is : texts (given peers.Iface) x.ran.looped.turns ≡ up) where
+    (put down up : List ℕ) (put_is : texts log_of_turn x.ran.looped.turns ≡ put) (down_is : texts (given peers.Engine) x.ran.looped.turns ≡ down) (up_is : texts (given peers.Iface) x.ran.looped.turns ≡ up) where
   to_log : LogTook put x.end.done.log (fresh_log before.books.tells after.books.logs_out) x.last.into.log
   to_log = took_as _ put _ _ _ put_is x.ran.looped.log
 

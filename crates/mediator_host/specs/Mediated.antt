@@ -1,6 +1,6 @@
 -- What a run leaves.
 use Rattle.std.specs.Prelude.{◌≡◌, ◌<◌, ◌⊎◌, true, false, [], ◌∷◌, ℕ, List}
-use Rattle.event_pipe.specs.Arrivals.{failed}
+use Rattle.event_pipe.specs.Arrivals.{is_read_fault}
 use Rattle.child_engine.specs.Hosts.{Books, told_by}
 use Rattle.sink_offers.specs.Streams.{Streams}
 use Rattle.host_run.specs.declared.failures.Failures.{Failures}
@@ -14,9 +14,9 @@ use Rattle.mediator.specs.Ran.{Ran}
 
 -- what the readers and the loop answered is reported
 pub record TellsRun (run : RunEnd) (failures : Failures) : Type 0 where
-  pub iface_read : failures.iface_read ≡ failed run.iface
+  pub iface_read : failures.iface_read ≡ is_read_fault run.iface
   pub iface_write : failures.iface_write ≡ run.done.output
-  pub engine_read : failures.engine_read ≡ failed run.engine
+  pub engine_read : failures.engine_read ≡ is_read_fault run.engine
   pub engine_write : failures.engine_write ≡ run.done.engine
   pub iface_memory : failures.memory ≡ false → lacked_memory run.iface ≡ false
   pub engine_memory : failures.memory ≡ false → lacked_memory run.engine ≡ false

@@ -39,7 +39,7 @@ fn run_started<
 >(
     rt: &R,
     alloc: Global,
-    ready: ReadyMediator<M, H::EngineSource, H::EngineSink, H::ChildProcess>,
+    ready: ReadyMediator<M, H::EngineSource, H::EngineSink, H::EngineProcess>,
     request: &RunRequest,
     interface: &mut Interface<I, O>,
     host: &mut H,
@@ -109,7 +109,7 @@ fn start<M: Mediator + Drop, H: Host, R: Threads>(
     mediator: M,
     words: &[String],
     host: &mut H,
-) -> Result<ReadyMediator<M, H::EngineSource, H::EngineSink, H::ChildProcess>, Failures>
+) -> Result<ReadyMediator<M, H::EngineSource, H::EngineSink, H::EngineProcess>, Failures>
     requires fresh { M.means.fresh mediator }
     requires words { 0 < length words.now }
     requires unused { IsUnused (H.books host.old) }

@@ -3,7 +3,7 @@ ghost use Rattle.std.specs.Prelude.{◌≡◌, ◌≤◌, ◌+◌, ◌||◌, len
 ghost use Rattle.std.specs.Fmt.{signed_decimal};
 ghost use Rattle.std.specs.Option.{option_map, option_and_then};
 ghost use Rattle.std.specs.Str.{bytes_eq};
-ghost use Rattle.peer_words.specs.Numbers.{signed};
+ghost use Rattle.peer_words.specs.Numbers.{signed_number};
 ghost use Rattle.line_io.specs.Out.{with};
 ghost use Rattle.uci_lines.specs.Orders.{order_of, order_text, optional_now};
 ghost use Rattle.uci_lines.specs.Orders as orders;
@@ -66,7 +66,7 @@ fn text_or_empty(text: &[u8]) -> &[u8]
 
 fn number_within(min: i64, max: i64, value: &[u8]) -> Option<i64>
     ensures { option_map signed_decimal result
-        ≡ option_and_then (number_within min max) (signed value.now) }
+        ≡ option_and_then (number_within min max) (signed_number value.now) }
 {
     let n = read_signed(value)?;
     if n < min || n > max { None } else { Some(n) }

@@ -91,7 +91,7 @@ impl<'a> Host for PacedHost<'a> {
 
     type Log = PacedLog<'a>;
 
-    type ChildProcess = ();
+    type EngineProcess = ();
 
     ghost faults = { λ h. h.host.faults };
 

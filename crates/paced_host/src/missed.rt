@@ -17,7 +17,7 @@ pub fn has_come(lines: &AtomicU64, wanted: u64) -> bool {
     false
 }
 
-// Puts the text behind so many bytes, as much of it as fits, and gives how many bytes are there then.
+// Puts the text after so many bytes, as much of it as fits, and gives how many bytes are there then.
 fn put(buf: &mut [u8], at: usize, text: &[u8]) -> usize
     requires { at ≤ length buf.old }
     ensures { result ≤ length buf.new }

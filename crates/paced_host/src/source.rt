@@ -6,7 +6,7 @@ use line_io::{Failed, MemSource, Source};
 use std::sync::atomic::AtomicU64;
 
 /// Bytes in memory, given in pieces. The k-th read waits until the log took the k-th number of
-/// lines; a read behind the last number does not wait, nor does any behind a wait in vain.
+/// lines; a read after the last number does not wait, nor does any after a wait in vain.
 #[derive(Drop)]
 pub struct PacedSource<'a> {
     pub source: MemSource,

@@ -12,7 +12,7 @@ use Rattle.std.specs.Fmt.{decimal, signed_decimal}
 use Rattle.std.specs.Char.{is_ascii_digit, digit_value}
 use Rattle.std.specs.Str.Parse.{digits_value, AllDigits, starts_with_minus}
 use Rattle.std.proofs.lemmas.Bool.{and_parts}
-use Rattle.peer_words.specs.Numbers.{digits, number, count, signed, centis, is_point, thousandths, seconds, three_digits, seconds_text}
+use Rattle.peer_words.specs.Numbers.{digits, number, count, signed_number, centis, is_point, thousandths, seconds, three_digits, seconds_text}
 use Rattle.peer_words.specs.Tokens.{is_white, is_token}
 use Rattle.peer_words.proofs.Runs.{all_of, prefix_whole, prefix_stops}
 
@@ -58,7 +58,7 @@ decimal_digits n h = all_digits (decimal n) (decimal_is_IsNumeral n h).0.1
 signed_positive : (n : ℕ) → n < 2 ^ 64 → starts_with_minus (decimal n) ≡ false
 signed_positive n h = no_sign (decimal n) (decimal_is_IsNumeral n h).0.0 (decimal_digits n h)
 
-pub signed_decimal_read : (z : ℤ) → unsigned_abs z < 10 ^ 18 → signed (signed_decimal z) ≡ Some z
+pub signed_decimal_read : (z : ℤ) → unsigned_abs z < 10 ^ 18 → signed_number (signed_decimal z) ≡ Some z
 signed_decimal_read (pos n) h = rw (signed_positive n (omega arith), count_decimal n h) refl
 signed_decimal_read (negsuc n) h = rw (count_decimal (suc n) h) refl
 

@@ -31,8 +31,8 @@ abbrev pub negative : Option ℕ → Option ℤ
 negative n = option_map (λ k. neg_ℤ (pos k)) n
 
 -- perhaps a minus, then a count
-abbrev pub signed : List ℕ → Option ℤ
-signed text = if starts_with_minus text then negative (count (drop 1 text)) else positive (count text)
+abbrev pub signed_number : List ℕ → Option ℤ
+signed_number text = if starts_with_minus text then negative (count (drop 1 text)) else positive (count text)
 
 -- perhaps a minus, then a number
 abbrev pub centis : List ℕ → Option ℤ

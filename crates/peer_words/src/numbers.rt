@@ -1,7 +1,7 @@
 // Numbers as texts.
 ghost use Rattle.std.specs.Prelude.{◌≡◌, ◌≤◌, ◌+◌, ◌-◌, ◌*◌, ◌<◌, ◌^◌, length, drop, Some, None, IfSome, position};
 ghost use Rattle.std.specs.List.{before_first, after_first};
-ghost use Rattle.peer_words.specs.Numbers.{digits, number, count, signed, centis, thousandths, seconds, is_point};
+ghost use Rattle.peer_words.specs.Numbers.{digits, number, count, signed_number, centis, thousandths, seconds, is_point};
 ghost use Rattle.peer_words.specs.declared.numbers.TheConstants.{SECOND};
 
 /// A second in milliseconds.
@@ -48,7 +48,7 @@ pub fn read_count(text: &[u8]) -> Option<u64>
 
 /// Perhaps a minus, then 1 to 18 digits.
 pub fn read_signed(text: &[u8]) -> Option<i64>
-    ensures { result ≡ signed text.now }
+    ensures { result ≡ signed_number text.now }
 {
     match text {
         [b'-', digits @ ..] => Some(-(read_count(digits)? as i64)),

@@ -8,9 +8,9 @@ use Rattle.policy_rules.specs.declared.settings.TheConstants.{MOST_MOVES}
 use Rattle.policy_rules.specs.declared.settings.Settings.{Settings}
 use Rattle.policy_rules.specs.declared.scores.Scores.{Scores}
 use Rattle.policy_rules.specs.Policy.{IsProper}
-use Rattle.policy_rules.specs.Scores.{Score, AtMost, LastAtMost, Resigns, AcceptsDraw, lost_bound, is_at_most, run_after, counted, last_at_most, CountsTell, TestsTell}
+use Rattle.policy_rules.specs.Scores.{Score, AtMost, LastAtMost, Resigns, AcceptsDraw, lost_bound, is_at_most, run_after, score_counts, last_at_most, CountsTell, TestsTell}
 
-pub settings_kept : (o : Settings) (xs : List Score) → (counted o xs).settings ≡ o
+pub settings_kept : (o : Settings) (xs : List Score) → (score_counts o xs).settings ≡ o
 settings_kept o [] = refl
 settings_kept o (x ∷ xs) = settings_kept o xs
 
@@ -19,13 +19,13 @@ abbrev run_of : (Score → Bool) → List Score → ℕ
 run_of test [] = 0
 run_of test (x ∷ xs) = run_after (test x) (run_of test xs)
 
-lost_is : (o : Settings) (xs : List Score) → (counted o xs).lost ≡ run_of (is_at_most (lost_bound o)) xs
+lost_is : (o : Settings) (xs : List Score) → (score_counts o xs).lost ≡ run_of (is_at_most (lost_bound o)) xs
 lost_is o [] = refl
 lost_is o (x ∷ xs) =
-    ap (λ (s : Settings). run_after (is_at_most (lost_bound s) x) (counted o xs).lost) (settings_kept o xs)
+    ap (λ (s : Settings). run_after (is_at_most (lost_bound s) x) (score_counts o xs).lost) (settings_kept o xs)
     ∙ ap (λ n. run_after (is_at_most (lost_bound o) x) n) (lost_is o xs)
 
-level_is : (o : Settings) (xs : List Score) → (counted o xs).level ≡ run_of (is_at_most (pos 0)) xs
+level_is : (o : Settings) (xs : List Score) → (score_counts o xs).level ≡ run_of (is_at_most (pos 0)) xs
 level_is o [] = refl
 level_is o (x ∷ xs) = ap (λ n. run_after (is_at_most (pos 0) x) n) (level_is o xs)
 
@@ -59,18 +59,18 @@ tells bound (suc n) (x ∷ xs) l =
     subst (λ b. Decides b (AtMost bound x × LastAtMost n bound xs)) (sym (step n (run_of (is_at_most bound) xs) (is_at_most bound x) l))
     (Decides-and _ _ (at_most bound x) (tells bound n xs (omega arith)))
 
-pub draws : (o : Settings) (xs : List Score) (s : Scores) → IsProper o → s ≡ counted o xs → IsTrue (leb s.settings.resign_moves s.level) ↔ AcceptsDraw o xs
+pub draws : (o : Settings) (xs : List Score) (s : Scores) → IsProper o → s ≡ score_counts o xs → IsTrue (leb s.settings.resign_moves s.level) ↔ AcceptsDraw o xs
 draws o xs s p e =
     subst (λ (v : Scores). Decides (leb v.settings.resign_moves v.level) (AcceptsDraw o xs)) (sym e)
-    (subst (λ (v : Settings). Decides (leb v.resign_moves (counted o xs).level) (AcceptsDraw o xs)) (sym (settings_kept o xs))
+    (subst (λ (v : Settings). Decides (leb v.resign_moves (score_counts o xs).level) (AcceptsDraw o xs)) (sym (settings_kept o xs))
     (subst (λ n. Decides (leb o.resign_moves n) (AcceptsDraw o xs)) (sym (level_is o xs))
     (tells (pos 0) o.resign_moves xs p.few_moves)))
 
 -- the same of the lost ones, if resigning is on
-lost_tells : (o : Settings) (xs : List Score) (s : Scores) → IsProper o → s ≡ counted o xs → Decides (s.settings.resign && leb s.settings.resign_moves s.lost) (Resigns o xs)
+lost_tells : (o : Settings) (xs : List Score) (s : Scores) → IsProper o → s ≡ score_counts o xs → Decides (s.settings.resign && leb s.settings.resign_moves s.lost) (Resigns o xs)
 lost_tells o xs s p e =
     subst (λ (v : Scores). Decides (v.settings.resign && leb v.settings.resign_moves v.lost) (Resigns o xs)) (sym e)
-    (subst (λ (v : Settings). Decides (v.resign && leb v.resign_moves (counted o xs).lost) (Resigns o xs)) (sym (settings_kept o xs))
+    (subst (λ (v : Settings). Decides (v.resign && leb v.resign_moves (score_counts o xs).lost) (Resigns o xs)) (sym (settings_kept o xs))
     (subst (λ n. Decides (o.resign && leb o.resign_moves n) (Resigns o xs)) (sym (lost_is o xs))
     (Decides-and _ _ (λ q. q, λ q. q) (tells (lost_bound o) o.resign_moves xs p.few_moves))))
 
@@ -82,10 +82,10 @@ one_fails : {P : Type 0} (a b : Bool) → Decides (a && b) P → a ≡ false →
 one_fails true b d e = grind arith
 one_fails false b d e = d
 
-pub resigns_on : (o : Settings) (xs : List Score) (s : Scores) → IsProper o → s ≡ counted o xs → s.settings.resign ≡ true → IsTrue (leb s.settings.resign_moves s.lost) ↔ Resigns o xs
+pub resigns_on : (o : Settings) (xs : List Score) (s : Scores) → IsProper o → s ≡ score_counts o xs → s.settings.resign ≡ true → IsTrue (leb s.settings.resign_moves s.lost) ↔ Resigns o xs
 resigns_on o xs s p e on = both_are s.settings.resign (leb s.settings.resign_moves s.lost) (lost_tells o xs s p e) on
 
-pub resigns_off : (o : Settings) (xs : List Score) (s : Scores) → IsProper o → s ≡ counted o xs → s.settings.resign ≡ false → IsTrue s.settings.resign ↔ Resigns o xs
+pub resigns_off : (o : Settings) (xs : List Score) (s : Scores) → IsProper o → s ≡ score_counts o xs → s.settings.resign ≡ false → IsTrue s.settings.resign ↔ Resigns o xs
 resigns_off o xs s p e off = one_fails s.settings.resign (leb s.settings.resign_moves s.lost) (lost_tells o xs s p e) off
 
 -- THE TESTS
@@ -107,10 +107,10 @@ run_tells bound (suc n) (x ∷ xs) l =
 
 pub counts_tell : CountsTell
 counts_tell o xs p = (
-  ap (λ (v : Settings). v.resign && leb v.resign_moves (counted o xs).lost) (settings_kept o xs)
+  ap (λ (v : Settings). v.resign && leb v.resign_moves (score_counts o xs).lost) (settings_kept o xs)
       ∙ ap (λ n. o.resign && leb o.resign_moves n) (lost_is o xs)
       ∙ ap (λ b. o.resign && b) (run_tells (lost_bound o) o.resign_moves xs p.few_moves),
-  ap (λ (v : Settings). leb v.resign_moves (counted o xs).level) (settings_kept o xs)
+  ap (λ (v : Settings). leb v.resign_moves (score_counts o xs).level) (settings_kept o xs)
       ∙ ap (λ n. leb o.resign_moves n) (level_is o xs)
       ∙ run_tells (pos 0) o.resign_moves xs p.few_moves,
 )

@@ -53,9 +53,9 @@ after_shown counts score = record {
 }
 
 -- the counts that stand for a list of scores, of which the newest is first
-abbrev pub counted : Settings → List Score → Scores
-counted settings [] = no_scores settings
-counted settings (score ∷ scores) = after_shown (counted settings scores) score
+abbrev pub score_counts : Settings → List Score → Scores
+score_counts settings [] = no_scores settings
+score_counts settings (score ∷ scores) = after_shown (score_counts settings scores) score
 
 -- THE SAME AS TESTS
 
@@ -85,7 +85,7 @@ accepts_by counts = nat_le counts.settings.resign_moves counts.level
 abbrev pub CountsTell : Type 0
 CountsTell =
     (settings : Settings) (scores : List Score) → IsProper settings
-    → (resigns_by (counted settings scores) ≡ does_resign settings scores) × (accepts_by (counted settings scores) ≡ does_accept settings scores)
+    → (resigns_by (score_counts settings scores) ≡ does_resign settings scores) × (accepts_by (score_counts settings scores) ≡ does_accept settings scores)
 
 -- The tests on scores hold if and only if the policy says so.
 abbrev pub TestsTell : Type 0

@@ -2,7 +2,7 @@
 ghost use Rattle.std.specs.Prelude.{◌≡◌, ◌↔◌, IsTrue, List, [], ◌∷◌};
 ghost use Rattle.policy_rules.specs.declared.settings.Settings.{Settings as SomeSettings};
 ghost use Rattle.policy_rules.specs.Policy.{IsProper};
-ghost use Rattle.policy_rules.specs.Scores.{Score, Resigns, AcceptsDraw, lost_bound, is_at_most, run_after, no_scores, after_shown, counted, resigns_by, accepts_by};
+ghost use Rattle.policy_rules.specs.Scores.{Score, Resigns, AcceptsDraw, lost_bound, is_at_most, run_after, no_scores, after_shown, score_counts, resigns_by, accepts_by};
 
 use crate::settings::{MOST_MOVES, Settings};
 
@@ -40,7 +40,7 @@ fn run_after(passes: bool, run: u32) -> u32
 impl Scores {
     /// No scores.
     pub fn new(settings: &Settings) -> Scores
-        ensures { result ≡ counted settings.now [] }
+        ensures { result ≡ score_counts settings.now [] }
     {
         Scores {
             settings: *settings,
@@ -53,7 +53,8 @@ impl Scores {
     pub fn shown(&mut self, score: Option<i64>)
         ensures after { self.new ≡ after_shown self.old score }
         ensures counts { (settings : SomeSettings) (scores : List Score)
-            → self.old ≡ counted settings scores → self.new ≡ counted settings (score ∷ scores) }
+            → self.old ≡ score_counts settings scores
+            → self.new ≡ score_counts settings (score ∷ scores) }
     {
         let bound = -i64::from(self.settings.resign_score);
         self.lost = run_after(is_at_most(bound, score), self.lost);
@@ -64,7 +65,7 @@ impl Scores {
     pub fn clear(&mut self)
         ensures after { self.new ≡ no_scores self.old.settings }
         ensures counts { (settings : SomeSettings) (scores : List Score)
-            → self.old ≡ counted settings scores → self.new ≡ counted settings [] }
+            → self.old ≡ score_counts settings scores → self.new ≡ score_counts settings [] }
     {
         self.lost = 0;
         self.level = 0;
@@ -74,7 +75,7 @@ impl Scores {
     pub fn resigns(&self) -> bool
         ensures value { result ≡ resigns_by self.now }
         ensures exact { (settings : SomeSettings) (scores : List Score) → IsProper settings
-            → self.now ≡ counted settings scores → IsTrue result ↔ Resigns settings scores }
+            → self.now ≡ score_counts settings scores → IsTrue result ↔ Resigns settings scores }
     {
         self.settings.resign && self.lost >= self.settings.resign_moves
     }
@@ -83,7 +84,8 @@ impl Scores {
     pub fn accepts_draw(&self) -> bool
         ensures value { result ≡ accepts_by self.now }
         ensures exact { (settings : SomeSettings) (scores : List Score) → IsProper settings
-            → self.now ≡ counted settings scores → IsTrue result ↔ AcceptsDraw settings scores }
+            → self.now ≡ score_counts settings scores
+            → IsTrue result ↔ AcceptsDraw settings scores }
     {
         self.level >= self.settings.resign_moves
     }

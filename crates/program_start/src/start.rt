@@ -1,6 +1,6 @@
 // The standard streams of a program, and its host.
 ghost use Rattle.std.specs.Prelude.{◌≡◌, None, false, IfSome};
-ghost use Rattle.child_engine.specs.Hosts.{unused};
+ghost use Rattle.child_engine.specs.Hosts.{unused_books};
 ghost use Rattle.child_engine.specs.Real.{books_of};
 ghost use Rattle.program_edges.specs.Streams.{refusals};
 
@@ -25,7 +25,7 @@ impl<'r, R: Files<File = File>, I: Drop, O: Drop, D: Drop> ProgramStart<&'r R, I
     /// Over the standard streams of the runtime, before anything else is opened. There is no answer
     /// if the system gives no descriptors.
     pub fn new(rt: &'r R, input: I, output: O, diag: D) -> Option<ProgramStart<&'r R, I, O, D>>
-        ensures host { IfSome result (λ start. books_of start.host ≡ unused None false) }
+        ensures host { IfSome result (λ start. books_of start.host ≡ unused_books None false) }
         ensures refusals { IfSome result (λ start. (refusals start.interface.input ≡ 0)
             × (refusals start.interface.output ≡ 0) × (refusals start.diag ≡ 0)) }
     {

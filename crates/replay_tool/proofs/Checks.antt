@@ -186,7 +186,7 @@ module _ (o s : Settings) (proper : IsProperIn (Second s)) (t : List Step) (l : 
             let first : p ≡ number_piece = cc in
             (first, (n.event, n.may_come))
 
-  -- and behind that the mark of an event that may come
+  -- and after that the mark of an event that may come
   pub next_event : (p : Piece) → BeginBy o (Second s) ((before ++ number_piece ∷ []) ++ p ∷ []) → (e : Event) × (kind_of p ≡ Tells e) × (may (state s t).ends e ≡ true)
   next_event p b =
       let same' : lines_by (Second s) b.trace ≡ before ++ number_piece ∷ (p ∷ b.later) =
@@ -201,13 +201,13 @@ module _ (o s : Settings) (proper : IsProperIn (Second s)) (t : List Step) (l : 
             let first : p ≡ Whole (event_text n.event) = cc in
             (n.event, event_kind p n.event first shown.1, n.may_come)
 
--- the events of the lines behind which one is awaited
+-- the events of the lines after which one is awaited
 pub awaited_told : (o s : Settings) → IsProperIn (Second s) → (t : List Step) → Lawful s t → (over : Bool) → all_told_of (lines_before (Second s) over t) ≡ later_events t
 awaited_told o s proper t l true = tells o (Second s) proper t l
 awaited_told o s proper t l false =
     both_told (lines_by (Second s) t) (Whole (step_line (step_number (length t))) ∷ []) ∙ append-nil (all_told_of (lines_by (Second s) t)) ∙ tells o (Second s) proper t l
 
--- A number that stands behind the script of a trace: the script has all of its marks of events.
+-- A number that stands after the script of a trace: the script has all of its marks of events.
 module _ (o s : Settings) (proper : IsProperIn (Second s)) (t : List Step) (l : Lawful s t) (op : (state s t).ends.opened ≡ true) where
   numbered_told : (k : ℕ) → all_told_of (lines_by (Second s) t ++ Whole (step_line k) ∷ []) ≡ later_events t
   numbered_told k = both_told (lines_by (Second s) t) (Whole (step_line k) ∷ []) ∙ append-nil (all_told_of (lines_by (Second s) t)) ∙ tells o (Second s) proper t l

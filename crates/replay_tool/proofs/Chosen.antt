@@ -32,7 +32,7 @@ one_more s word words choice e f =
     chosen_first None = refl
     chosen_first (Some choices) = refl
 
--- the first word, and those behind it
+-- the first word, and those after it
 first_of : {Z : Type 0} (words : List (Vec ℕ Z)) (word : Vec ℕ Z) → 1 ≤ length words → word ≡ get_or words 0 word
     → texts words ≡ vec_items word ∷ texts (take (length words - 1) (drop 1 words))
 first_of [] word l e = absurd (omega (arith, l))

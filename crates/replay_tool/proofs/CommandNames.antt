@@ -6,7 +6,7 @@ use Rattle.std.specs.Option.{option_map}
 use Rattle.std.specs.Str.{bytes_eq}
 use Rattle.replay_tool.specs.declared.command.CommandName.{CommandName}
 use Rattle.replay_tool.specs.declared.command.CommandName.TheVariants as names
-use Rattle.replay_tool.specs.Commands.{Replay, Check, Migrate, Drive, Games, Positions, Moves, Asked, alone, command_by, command_named, drill_of, judge_of, revive_of}
+use Rattle.replay_tool.specs.Commands.{Replay, Check, Migrate, Drive, Games, Positions, Moves, ReplayRequest, alone, command_by, command_named, drill_of, judge_of, revive_of}
 use Rattle.replay_tool.specs.Moves.{fen_of}
 use Rattle.replay_tool.specs.Words.{settings_of}
 
@@ -16,7 +16,7 @@ found a b c d e f g h i j =
     (cond e (Some names.Revive) (cond f (Some names.Drive) (cond g (Some names.Games) (cond h (Some names.Positions)
     (cond i (Some names.Drill) (cond j (Some names.Moves) None)))))))))
 
-abbrev tested : (a b c d e f g h i j : Bool) → List (List ℕ) → Option Asked
+abbrev tested : (a b c d e f g h i j : Bool) → List (List ℕ) → Option ReplayRequest
 tested a b c d e f g h i j words =
     if a then option_map (λ s. Replay s) (settings_of words)
     else (if b then option_map (λ s. Check s) (settings_of words)

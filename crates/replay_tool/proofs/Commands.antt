@@ -3,7 +3,7 @@ use Rattle.std.proofs.Common.{◌≡◌, ℕ, List, Option, Some, None, sym, sub
 use Rattle.session_judge.specs.declared.listener.Listener.{Listener}
 use Rattle.policy_rules.specs.declared.settings.Settings.{Settings}
 use Rattle.replay_tool.specs.Checked.{Checked}
-use Rattle.replay_tool.specs.Commands.{Asked}
+use Rattle.replay_tool.specs.Commands.{ReplayRequest}
 use Rattle.replay_tool.specs.Commands as asked
 use Rattle.replay_tool.specs.Does.{Does}
 use Rattle.replay_tool.specs.Drilled.{Drilled}
@@ -27,56 +27,56 @@ use Rattle.replay_tool.proofs.OwnMigrations.{migrates_own}
 use Rattle.command_endings.proofs.Telling as told
 
 module _ (unread kept silent : Type 0) (start now : Streams) (code : ℕ) where
-  abbrev D : Option Asked → Type 0
+  abbrev D : Option ReplayRequest → Type 0
   D command = Does command unread kept silent start now code
 
-  pub is_done : (a b : Option Asked) → a ≡ b → D b → D a
+  pub is_done : (a b : Option ReplayRequest) → a ≡ b → D b → D a
   is_done a b e d = subst D (sym e) d
 
   -- the same with the code as a status has it
-  pub at_code : (command : Option Asked) (k : ℕ) → k ≡ code → D command → Does command unread kept silent start now k
+  pub at_code : (command : Option ReplayRequest) (k : ℕ) → k ≡ code → D command → Does command unread kept silent start now k
   at_code command k e d = subst (λ (x : ℕ). Does command unread kept silent start now x) (sym e) d
 
-  pub usage : (command : Option Asked) → D command → command ≡ None → Refused unread kept start now code
+  pub usage : (command : Option ReplayRequest) → D command → command ≡ None → Refused unread kept start now code
   usage command d e = subst D e d
 
-  pub replayed : (command : Option Asked) → D command → (o : Settings) → command ≡ Some (asked.Replay o) → Replayed o unread kept start now code
+  pub replayed : (command : Option ReplayRequest) → D command → (o : Settings) → command ≡ Some (asked.Replay o) → Replayed o unread kept start now code
   replayed command d o e = let x : D (Some (asked.Replay o)) = subst D e d in ran.replayed o unread kept start now code x.0 x.1
 
-  pub checked : (command : Option Asked) → D command → (o : Settings) → command ≡ Some (asked.Check o) → Checked o unread kept start now code
+  pub checked : (command : Option ReplayRequest) → D command → (o : Settings) → command ≡ Some (asked.Check o) → Checked o unread kept start now code
   checked command d o e = let x : D (Some (asked.Check o)) = subst D e d in checks.checked o unread kept start now x.0 code x.1
 
-  pub migrated : (command : Option Asked) → D command → (o : Settings) → command ≡ Some (asked.Migrate o) → Migrated o unread kept start now code
+  pub migrated : (command : Option ReplayRequest) → D command → (o : Settings) → command ≡ Some (asked.Migrate o) → Migrated o unread kept start now code
   migrated command d o e = subst D e d
 
-  pub migrated_own : (command : Option Asked) → D command → (o : Settings) → command ≡ Some (asked.Migrate o) → MigratesOwnScripts o start now code
+  pub migrated_own : (command : Option ReplayRequest) → D command → (o : Settings) → command ≡ Some (asked.Migrate o) → MigratesOwnScripts o start now code
   migrated_own command d o e = migrates_own o start now code (migrated command d o e).scripts
 
-  pub judged : (command : Option Asked) → D command → (listener : Listener) → command ≡ Some (asked.Judge listener) → Judged listener (unread × kept) start now code
+  pub judged : (command : Option ReplayRequest) → D command → (listener : Listener) → command ≡ Some (asked.Judge listener) → Judged listener (unread × kept) start now code
   judged command d listener e = subst D e d
 
-  pub judged_own : (command : Option Asked) → D command → (listener : Listener) → command ≡ Some (asked.Judge listener) → JudgesOwnTalk listener start now code
+  pub judged_own : (command : Option ReplayRequest) → D command → (listener : Listener) → command ≡ Some (asked.Judge listener) → JudgesOwnTalk listener start now code
   judged_own command d listener e = judges_own_talk listener (unread × kept) start now code (judged command d listener e)
 
-  pub revived : (command : Option Asked) → D command → (lives : ℕ) → command ≡ Some (asked.Revive lives) → Revived lives (unread × kept) start now code
+  pub revived : (command : Option ReplayRequest) → D command → (lives : ℕ) → command ≡ Some (asked.Revive lives) → Revived lives (unread × kept) start now code
   revived command d lives e = subst D e d
 
-  pub driven : (command : Option Asked) → D command → command ≡ Some asked.Drive → Driven (unread × kept) start now code
+  pub driven : (command : Option ReplayRequest) → D command → command ≡ Some asked.Drive → Driven (unread × kept) start now code
   driven command d e = subst D e d
 
-  pub games_written : (command : Option Asked) → D command → (o : Settings) → command ≡ Some (asked.Games o) → GamesWritten o unread kept start now code
+  pub games_written : (command : Option ReplayRequest) → D command → (o : Settings) → command ≡ Some (asked.Games o) → GamesWritten o unread kept start now code
   games_written command d o e = subst D e d
 
-  pub positions_written : (command : Option Asked) → D command → (o : Settings) → command ≡ Some (asked.Positions o) → PositionsWritten o unread kept start now code
+  pub positions_written : (command : Option ReplayRequest) → D command → (o : Settings) → command ≡ Some (asked.Positions o) → PositionsWritten o unread kept start now code
   positions_written command d o e = subst D e d
 
-  pub listed : (command : Option Asked) → D command → (text : List ℕ) → command ≡ Some (asked.Moves text) → Listed text unread kept silent start now code
+  pub listed : (command : Option ReplayRequest) → D command → (text : List ℕ) → command ≡ Some (asked.Moves text) → Listed text unread kept silent start now code
   listed command d text e = let x : D (Some (asked.Moves text)) = subst D e d in listing.listed text unread kept silent start now code x.0 x.1
 
-  pub drilled : (command : Option Asked) → D command → (number count : ℕ) → command ≡ Some (asked.Drill number count) → Drilled number count unread kept silent start now code
+  pub drilled : (command : Option ReplayRequest) → D command → (number count : ℕ) → command ≡ Some (asked.Drill number count) → Drilled number count unread kept silent start now code
   drilled command d number count e = let x : D (Some (asked.Drill number count)) = subst D e d in drilling.drilled number count unread kept silent start now code x.0 x.1
 
-  pub memory : (command : Option Asked) → D command → code ≡ 3 → unread × kept
+  pub memory : (command : Option ReplayRequest) → D command → code ≡ 3 → unread × kept
   memory None d z = absurd (told.no_told code start.diag now.diag 2 _ 3 (λ e. cc) (λ e. cc) d.told z)
   memory (Some (asked.Replay o)) d z = ran.memory o unread kept start now code d.1 z
   memory (Some (asked.Check o)) d z = checks.memory o unread kept start now d.0 code d.1 z

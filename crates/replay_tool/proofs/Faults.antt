@@ -1,4 +1,4 @@
--- Lines behind lines without a fault.
+-- Lines after lines without a fault.
 use Rattle.std.proofs.Common.{◌≡◌, ℕ, ◌+◌, List, [], ◌∷◌, ◌++◌, length, Bool, true, false, cond, ◌==◌, Option, Some, None, refl, ap, sym, subst, ◌∙◌, append-nil}
 use Rattle.line_io.specs.Event.{Event}
 use Rattle.line_io.specs.Lines.{Piece, Whole, TooLong}
@@ -16,7 +16,7 @@ use Rattle.command_endings.specs.declared.ending.Ending.TheVariants as endings
 use Rattle.script_player.specs.declared.stage.ScriptStage.{ScriptStage}
 use Rattle.script_player.specs.declared.stage.ScriptStage.TheVariants as stages
 use Rattle.replay_tool.specs.Check.{lines_by, BeginBy, BeginScript, AwaitBy, AwaitEvent, kind_in, kind_under}
-use Rattle.script_player.specs.Versions.{LineKind, Tells, Writes, Numbers, HasNone, kind_by, kind_of, Version, First, Second, version_by, version_in, behind_header, header_lines, settings_by, Place, LineSaid, Comes, Passes, Starts, HasNoMark, IsOutOfStep, Cannot, kind_says, line_says, place_said, place_over, stage_told, fault_said, or_later, first_fault, opened, beginning, fault_by, script_fault}
+use Rattle.script_player.specs.Versions.{LineKind, Tells, Writes, Numbers, HasNone, kind_by, kind_of, Version, First, Second, version_by, version_in, behind_header, header_lines, settings_by, ScriptPlace, LineSaid, Comes, Passes, Starts, HasNoMark, IsOutOfStep, Cannot, kind_says, line_says, place_said, place_over, stage_told, fault_said, or_later, first_fault, ends_once_open, beginning, fault_by, script_fault}
 use Rattle.replay_tool.specs.Replayed.{IsProperIn}
 use Rattle.script_player.proofs.VersionLines.{no_earlier, version_stays, behind_more}
 use Rattle.replay_tool.proofs.ProperHeaders.{header_spells}
@@ -49,8 +49,8 @@ version_before o [] line later never = version_stays line [] later ∙ by (versi
   by (Second s) e = absurd (never (header_begins o line s e))
 version_before o (l ∷ ls) line later never = version_stays l ls (line ∷ later)
 
--- no line behind is a fault
-front_free : (n : ℕ) (place : Place) (ls ms : List Piece) → first_fault n place (ls ++ ms) ≡ None → (first_fault n place ls ≡ None) × ((k : ℕ) × (first_fault k (place_over place ls) ms ≡ None))
+-- no line after is a fault
+front_free : (n : ℕ) (place : ScriptPlace) (ls ms : List Piece) → first_fault n place (ls ++ ms) ≡ None → (first_fault n place ls ≡ None) × ((k : ℕ) × (first_fault k (place_over place ls) ms ≡ None))
 front_free n place [] ms e = (refl, (n, e))
 front_free n place (l ∷ ls) ms e =
     let p = no_earlier (fault_said n (line_says place l)) (first_fault (n + 1) (place_said place (line_says place l)) (ls ++ ms)) e in
@@ -72,7 +72,7 @@ module _ (o : Settings) (before : List Piece) (line : Piece) (later : List Piece
       (f.0, (f.1.0, (no_earlier (fault_said f.1.0 (line_says (place_over (beginning v) (behind_header v before)) line)) _ f.1.1).0))
 
 -- in version 1 the stage stays
-plain_stays : (s : LineSaid) (place : Place) → place.stage ≡ stages.Plain → ((n : ℕ) → s ≡ Starts n → ⊥) → (place_said place s).stage ≡ stages.Plain
+plain_stays : (s : LineSaid) (place : ScriptPlace) → place.stage ≡ stages.Plain → ((n : ℕ) → s ≡ Starts n → ⊥) → (place_said place s).stage ≡ stages.Plain
 plain_stays (Comes e) place h never = ap stage_told h
 plain_stays (Starts n) place h never = absurd (never n refl)
 plain_stays Passes place h never = h
@@ -80,7 +80,7 @@ plain_stays HasNoMark place h never = h
 plain_stays IsOutOfStep place h never = h
 plain_stays Cannot place h never = h
 
-no_start : (place : Place) (k : LineKind) (n : ℕ) → place.stage ≡ stages.Plain → kind_says place.stage place.ends k ≡ Starts n → ⊥
+no_start : (place : ScriptPlace) (k : LineKind) (n : ℕ) → place.stage ≡ stages.Plain → kind_says place.stage place.ends k ≡ Starts n → ⊥
 no_start place k n h e = by k (ap (λ (x : ScriptStage). kind_says x place.ends k) (sym h) ∙ e) where
   by : (k : LineKind) → kind_says stages.Plain place.ends k ≡ Starts n → ⊥
   by (Tells x) e = may_by (may place.ends x) e where
@@ -91,7 +91,7 @@ no_start place k n h e = by k (ap (λ (x : ScriptStage). kind_says x place.ends 
   by (Numbers m) e = cc
   by HasNone e = cc
 
-plain_over : (ls : List Piece) (place : Place) → place.stage ≡ stages.Plain → (place_over place ls).stage ≡ stages.Plain
+plain_over : (ls : List Piece) (place : ScriptPlace) → place.stage ≡ stages.Plain → (place_over place ls).stage ≡ stages.Plain
 plain_over [] place h = h
 plain_over (l ∷ ls) place h = plain_over ls (place_said place (line_says place l)) (plain_stays (line_says place l) place h (λ n e. no_start place (kind_of l) n h e))
 
@@ -148,7 +148,7 @@ told_kind (Whole line) = by (mark_of line) (step_of line) where
   by None (Some n) = refl
   by None None = refl
 
-one_said : (n : ℕ) (place : Place) (k : LineKind) → fault_said n (kind_says place.stage place.ends k) ≡ None → (place_said place (kind_says place.stage place.ends k)).ends ≡ ends_along place.ends (kind_told k)
+one_said : (n : ℕ) (place : ScriptPlace) (k : LineKind) → fault_said n (kind_says place.stage place.ends k) ≡ None → (place_said place (kind_says place.stage place.ends k)).ends ≡ ends_along place.ends (kind_told k)
 one_said n place k = by place.stage k where
   may_by : (x : Event) (b : Bool) → fault_said n (cond b (Comes x) Cannot) ≡ None → (place_said place (cond b (Comes x) Cannot)).ends ≡ ends_after place.ends x
   may_by x true f = refl
@@ -167,7 +167,7 @@ one_said n place k = by place.stage k where
   by (stages.Numbered last) (Tells x) f = may_by x (may place.ends x) f
   by stage k f = cc
 
-over_told : (n : ℕ) (place : Place) (ls : List Piece) → first_fault n place ls ≡ None → (place_over place ls).ends ≡ ends_along place.ends (all_told_of ls)
+over_told : (n : ℕ) (place : ScriptPlace) (ls : List Piece) → first_fault n place ls ≡ None → (place_over place ls).ends ≡ ends_along place.ends (all_told_of ls)
 over_told n place [] e = refl
 over_told n place (l ∷ ls) e =
     let p = no_earlier (fault_said n (line_says place l)) (first_fault (n + 1) (place_said place (line_says place l)) ls) e in
@@ -215,6 +215,6 @@ may_behind o before line later e a never free k m =
     let place = place_over (beginning v) (behind_header v before) in
     let ends : place.ends ≡ (state q a.trace).ends =
     over_told (1 + header_lines v) (beginning v) (behind_header v before) b.0
-    ∙ ap (ends_along opened) (behind_told o before ∙ told_await o v (proper_in before) before a)
+    ∙ ap (ends_along ends_once_open) (behind_told o before ∙ told_await o v (proper_in before) before a)
     ∙ sym (along_state q a.trace ∙ ap (ends_along at_start) (events_later q a.trace a.lawful a.opened)) in
     says_cannot b.1.0 place.stage place.ends e (ap (λ (x : Ends). may x e) ends ∙ m) (ap (λ (x : LineKind). fault_said b.1.0 (kind_says place.stage place.ends x)) (sym k) ∙ b.1.1)

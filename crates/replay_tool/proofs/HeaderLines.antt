@@ -1,4 +1,4 @@
--- The version that a script tells, and its lines behind the header.
+-- The version that a script tells, and its lines after the header.
 use Rattle.std.proofs.Common.{◌≡◌, ℕ, ◌≤◌, List, [], ◌∷◌, ◌++◌, map, length, Bool, true, false, cond, nat_le, Some, refl, ap, sym, ◌∙◌, arith}
 use Rattle.line_io.specs.Event.{Event}
 use Rattle.line_io.specs.Event as events
@@ -85,7 +85,7 @@ without_header (Second s) ls = refl
 pub script_version : (v : Version) → IsProperIn v → (t : List Step) → AreTold t → version_in (items 131072 (script_by v t)) ≡ v
 script_version v p t a = ap version_in (script_pieces v p t a) ∙ header_version v p t
 
--- its lines behind the header
+-- its lines after the header
 pub script_behind : (v : Version) → IsProperIn v → (t : List Step) → AreTold t → behind_header v (items 131072 (script_by v t)) ≡ map (piece_of 131072) (lines_behind v t)
 script_behind v p t a = ap (behind_header v) (script_pieces v p t a) ∙ without_header v (map (piece_of 131072) (lines_behind v t))
 

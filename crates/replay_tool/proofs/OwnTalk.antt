@@ -26,8 +26,8 @@ use Rattle.session_judge.specs.declared.rule.Rule.{Rule}
 use Rattle.session_judge.specs.declared.talk.JudgedTalk.{JudgedTalk}
 use Rattle.session_judge.specs.Deeds.{deed_of}
 use Rattle.session_judge.specs.Talks.{opening}
-use Rattle.judge_report.specs.Texts.{searched, crossings_line, lawful_line}
-use Rattle.judge_report.specs.Reports.{Kind, Passes, HasNone, Course, kind_by, is_passed, of_deed, of_kind, with_outcome, read_on, over, report}
+use Rattle.judge_report.specs.Texts.{search_report, crossings_line, lawful_line}
+use Rattle.judge_report.specs.Reports.{LogLineKind, Passes, HasNone, Course, kind_by, is_passed, of_deed, of_kind, with_outcome, read_on, over, report}
 use Rattle.command_endings.specs.declared.ending.Ending.TheVariants as endings
 use Rattle.judge_report.specs.Judged.{AllJudged, FaultFound, Judged, whole_report}
 use Rattle.lawful_talk.specs.Scripts.{marks_told}
@@ -50,7 +50,7 @@ record GoesOn (c : Course) (lines : List (List ℕ)) : Type 0 where
   runs : Runs c.talk (marks_told lines) Apart
 
 -- and so once a line of this kind was read
-abbrev GoesOnBehind : Course → ℕ → List (List ℕ) → Kind → Type 0
+abbrev GoesOnBehind : Course → ℕ → List (List ℕ) → LogLineKind → Type 0
 GoesOnBehind c n lines kind = GoesOn (with_outcome c (of_kind c.talk n kind)) lines
 
 -- a line more
@@ -159,7 +159,7 @@ module _ (listener : Listener) (U : Type 0) (before after : Streams) (code : ℕ
     found a =
         let c = report listener (items 131072 x) in
         let all : x ≡ a.got = subst (λ (o : Option (List ℕ)). IfSome o (λ y. y ≡ a.got)) left a.all_read in
-        subst (λ (t : List ℕ). Appends before.output.taken after.output.taken t) (report_is c.text (searched c.talk.search) c.talk.crossings none.1)
+        subst (λ (t : List ℕ). Appends before.output.taken after.output.taken t) (report_is c.text (search_report c.talk.search) c.talk.crossings none.1)
         (subst (λ (y : List ℕ). Appends before.output.taken after.output.taken (whole_report listener (items 131072 y) endings.Done)) (sym all) a.written)
 
     completed : ((code ≡ 0) × AllJudged listener before after) ⊎ FaultFound listener before after code ⊎ (code ≡ 3) → (code ≡ 0) ⊎ (code ≡ 3)

@@ -24,57 +24,57 @@ use Rattle.session_script.proofs.Scripts.{goes_on, lines_added, later_event, lat
 use Rattle.command_endings.specs.declared.ending.Ending.{Ending}
 use Rattle.script_player.specs.declared.stage.ScriptStage.{ScriptStage}
 use Rattle.script_player.specs.declared.stage.ScriptStage.TheVariants as stages
-use Rattle.script_player.specs.Versions.{Tells, Writes, Numbers, kind_by, kind_of, Version, First, Second, header_lines, settings_by, Place, LineSaid, Comes, Passes, Starts, IsOutOfStep, Cannot, kind_says, line_says, place_said, place_over, fault_said, or_later, first_fault, events_said, events_of, opened, beginning}
+use Rattle.script_player.specs.Versions.{Tells, Writes, Numbers, kind_by, kind_of, Version, First, Second, header_lines, settings_by, ScriptPlace, LineSaid, Comes, Passes, Starts, IsOutOfStep, Cannot, kind_says, line_says, place_said, place_over, fault_said, or_later, first_fault, events_said, events_of, ends_once_open, beginning}
 use Rattle.script_player.proofs.VersionLines.{no_earlier, said_more}
 use Rattle.replay_tool.proofs.Checks.{more_in, event_kind, number_kind}
 
 -- LINES BEHIND LINES WITHOUT A FAULT
 
-over_both : (place : Place) (ls ms : List Piece) → place_over place (ls ++ ms) ≡ place_over (place_over place ls) ms
+over_both : (place : ScriptPlace) (ls ms : List Piece) → place_over place (ls ++ ms) ≡ place_over (place_over place ls) ms
 over_both place [] ms = refl
 over_both place (l ∷ ls) ms = over_both (place_said place (line_says place l)) ls ms
 
-fault_both : (n : ℕ) (place : Place) (ls ms : List Piece) → first_fault n place ls ≡ None → first_fault (n + length ls) (place_over place ls) ms ≡ None → first_fault n place (ls ++ ms) ≡ None
+fault_both : (n : ℕ) (place : ScriptPlace) (ls ms : List Piece) → first_fault n place ls ≡ None → first_fault (n + length ls) (place_over place ls) ms ≡ None → first_fault n place (ls ++ ms) ≡ None
 fault_both n place [] ms e f = subst (λ k. first_fault k place ms ≡ None) (let z : n + 0 ≡ n = omega arith in z) f
 fault_both n place (l ∷ ls) ms e f =
     let p = no_earlier (fault_said n (line_says place l)) (first_fault (n + 1) (place_said place (line_says place l)) ls) e in
     ap (λ a. or_later a (first_fault (n + 1) (place_said place (line_says place l)) (ls ++ ms))) p.0
     ∙ fault_both (n + 1) (place_said place (line_says place l)) ls ms p.1 (subst (λ k. first_fault k (place_over place (l ∷ ls)) ms ≡ None) (let z : n + suc (length ls) ≡ n + 1 + length ls = omega arith in z) f)
 
--- without the lines behind
-fault_front : (n : ℕ) (place : Place) (ls ms : List Piece) → first_fault n place (ls ++ ms) ≡ None → first_fault n place ls ≡ None
+-- without the lines after
+fault_front : (n : ℕ) (place : ScriptPlace) (ls ms : List Piece) → first_fault n place (ls ++ ms) ≡ None → first_fault n place ls ≡ None
 fault_front n place [] ms e = refl
 fault_front n place (l ∷ ls) ms e =
     let p = no_earlier (fault_said n (line_says place l)) (first_fault (n + 1) (place_said place (line_says place l)) (ls ++ ms)) e in
     ap (λ a. or_later a (first_fault (n + 1) (place_said place (line_says place l)) ls)) p.0
     ∙ fault_front (n + 1) (place_said place (line_says place l)) ls ms p.1
 
-events_both : (n : ℕ) (place : Place) (ls ms : List Piece) → first_fault n place ls ≡ None → events_of place (ls ++ ms) ≡ events_of place ls ++ events_of (place_over place ls) ms
+events_both : (n : ℕ) (place : ScriptPlace) (ls ms : List Piece) → first_fault n place ls ≡ None → events_of place (ls ++ ms) ≡ events_of place ls ++ events_of (place_over place ls) ms
 events_both n place [] ms e = refl
 events_both n place (l ∷ ls) ms e =
     let p = no_earlier (fault_said n (line_says place l)) (first_fault (n + 1) (place_said place (line_says place l)) ls) e in
     ap (events_said (line_says place l)) (events_both (n + 1) (place_said place (line_says place l)) ls ms p.1)
     ∙ said_more n (line_says place l) (events_of (place_said place (line_says place l)) ls) (events_of (place_over place (l ∷ ls)) ms) p.0
 
--- lines that were read without a fault: the events, and where the reading stands behind them
-pub record Fine (n : ℕ) (place : Place) (ls : List Piece) (es : List Event) (place' : Place) : Type 0 where
+-- lines that were read without a fault: the events, and where the reading stands after them
+pub record Fine (n : ℕ) (place : ScriptPlace) (ls : List Piece) (es : List Event) (place' : ScriptPlace) : Type 0 where
   pub faultless : first_fault n place ls ≡ None
   pub events_are : events_of place ls ≡ es
   pub place_is : place_over place ls ≡ place'
 
-fine_both : (n : ℕ) (place place' place'' : Place) (ls ms : List Piece) (es fs : List Event) → Fine n place ls es place' → Fine (n + length ls) place' ms fs place'' → Fine n place (ls ++ ms) (es ++ fs) place''
+fine_both : (n : ℕ) (place place' place'' : ScriptPlace) (ls ms : List Piece) (es fs : List Event) → Fine n place ls es place' → Fine (n + length ls) place' ms fs place'' → Fine n place (ls ++ ms) (es ++ fs) place''
 fine_both n place place' place'' ls ms es fs f g = record {
-  faultless = fault_both n place ls ms f.faultless (subst (λ (x : Place). first_fault (n + length ls) x ms ≡ None) (sym f.place_is) g.faultless);
-  events_are = events_both n place ls ms f.faultless ∙ ap (λ (xs : List Event). xs ++ events_of (place_over place ls) ms) f.events_are ∙ ap (λ (x : Place). es ++ events_of x ms) f.place_is ∙ ap (λ (xs : List Event). es ++ xs) g.events_are;
-  place_is = over_both place ls ms ∙ ap (λ (x : Place). place_over x ms) f.place_is ∙ g.place_is;
+  faultless = fault_both n place ls ms f.faultless (subst (λ (x : ScriptPlace). first_fault (n + length ls) x ms ≡ None) (sym f.place_is) g.faultless);
+  events_are = events_both n place ls ms f.faultless ∙ ap (λ (xs : List Event). xs ++ events_of (place_over place ls) ms) f.events_are ∙ ap (λ (x : ScriptPlace). es ++ events_of x ms) f.place_is ∙ ap (λ (xs : List Event). es ++ xs) g.events_are;
+  place_is = over_both place ls ms ∙ ap (λ (x : ScriptPlace). place_over x ms) f.place_is ∙ g.place_is;
 }
 
-none_fine : (n : ℕ) (place : Place) → Fine n place [] [] place
+none_fine : (n : ℕ) (place : ScriptPlace) → Fine n place [] [] place
 none_fine n place = record { faultless = refl; events_are = refl; place_is = refl }
 
 -- ONE LINE
 
-one_fine : (n : ℕ) (place : Place) (l : Piece) (s : LineSaid) (es : List Event) → line_says place l ≡ s → fault_said n s ≡ None → events_said s [] ≡ es → Fine n place (l ∷ []) es (place_said place s)
+one_fine : (n : ℕ) (place : ScriptPlace) (l : Piece) (s : LineSaid) (es : List Event) → line_says place l ≡ s → fault_said n s ≡ None → events_said s [] ≡ es → Fine n place (l ∷ []) es (place_said place s)
 one_fine n place l s es says f e = record {
   faultless = ap (λ (x : LineSaid). or_later (fault_said n x) None) says ∙ ap (λ (a : Option Ending). or_later a None) f;
   events_are = ap (λ (x : LineSaid). events_said x []) says ∙ e;
@@ -107,7 +107,7 @@ marks_of [] ms a = (tt, a)
 marks_of (l ∷ ls) ms a = let b = marks_of ls ms a.1 in ((a.0, b.0), b.1)
 
 -- where lines that were written are passed over
-abbrev Passing : Place → Type 0
+abbrev Passing : ScriptPlace → Type 0
 Passing place = kind_says place.stage place.ends Writes ≡ Passes
 
 iface_kind : (line : List ℕ) → is_some (mark_of (behind 88 line)) ≡ true → kind_of (Whole (behind 88 line)) ≡ Writes
@@ -122,16 +122,16 @@ engine_kind line h = by (is_written line) h where
   by true h = refl
   by false h = cc
 
-one_passes : (n : ℕ) (place : Place) → Passing place → (line : List ℕ) → is_some (mark_of line) ≡ true → kind_of (Whole line) ≡ Writes → Fine n place (piece_of 131072 line ∷ []) [] place
+one_passes : (n : ℕ) (place : ScriptPlace) → Passing place → (line : List ℕ) → is_some (mark_of line) ≡ true → kind_of (Whole line) ≡ Writes → Fine n place (piece_of 131072 line ∷ []) [] place
 one_passes n place pass line h k = one_fine n place (piece_of 131072 line) Passes [] (ap (line_says place) (marked_piece line h) ∙ ap (kind_says place.stage place.ends) k ∙ pass) refl refl
 
-iface_fine : (n : ℕ) (place : Place) → Passing place → (ps : List (List ℕ)) → HaveMarks (map (behind 88) ps) → Fine n place (pieces (map (behind 88) ps)) [] place
+iface_fine : (n : ℕ) (place : ScriptPlace) → Passing place → (ps : List (List ℕ)) → HaveMarks (map (behind 88) ps) → Fine n place (pieces (map (behind 88) ps)) [] place
 iface_fine n place pass [] a = none_fine n place
 iface_fine n place pass (p ∷ ps) a =
     fine_both n place place place (piece_of 131072 (behind 88 p) ∷ []) (pieces (map (behind 88) ps)) [] []
     (one_passes n place pass (behind 88 p) a.0 (iface_kind p a.0)) (iface_fine (n + 1) place pass ps a.1)
 
-engine_fine : (n : ℕ) (place : Place) → Passing place → (ps : List (List ℕ)) → HaveMarks (map (behind 85) ps) → Fine n place (pieces (map (behind 85) ps)) [] place
+engine_fine : (n : ℕ) (place : ScriptPlace) → Passing place → (ps : List (List ℕ)) → HaveMarks (map (behind 85) ps) → Fine n place (pieces (map (behind 85) ps)) [] place
 engine_fine n place pass [] a = none_fine n place
 engine_fine n place pass (p ∷ ps) a =
     fine_both n place place place (piece_of 131072 (behind 85 p) ∷ []) (pieces (map (behind 85) ps)) [] []
@@ -141,7 +141,7 @@ abbrev wrote : Step → List (List ℕ)
 wrote s = written_lines (iface_text s) (engine_text s)
 
 -- the lines that a step wrote are passed over
-wrote_fine : (n : ℕ) (place : Place) → Passing place → (s : Step) → HaveMarks (wrote s) → Fine n place (pieces (wrote s)) [] place
+wrote_fine : (n : ℕ) (place : ScriptPlace) → Passing place → (s : Step) → HaveMarks (wrote s) → Fine n place (pieces (wrote s)) [] place
 wrote_fine n place pass s a =
     let xs = map (behind 88) (parts (iface_text s)) in
     let ys = map (behind 85) (parts (engine_text s)) in
@@ -151,7 +151,7 @@ wrote_fine n place pass s a =
 
 -- THE LINES OF A SCRIPT
 
--- the lines behind the header
+-- the lines after the header
 abbrev pub lines_behind : Version → List Step → List (List ℕ)
 lines_behind First t = lines_of t
 lines_behind (Second s) t = numbered_lines t
@@ -173,12 +173,12 @@ both_behind : (v : Version) (newer t : List Step) → lines_behind v (newer ++ t
 both_behind First newer t = lines_added newer t
 both_behind (Second s) newer t = numbered_lines_added newer t
 
--- where the reading stands behind step k
+-- where the reading stands after step k
 abbrev stage_behind : Version → ℕ → ScriptStage
 stage_behind First k = stages.Plain
 stage_behind (Second s) k = stages.Told (step_number k)
 
-abbrev place_behind : Version → ℕ → Ends → Place
+abbrev place_behind : Version → ℕ → Ends → ScriptPlace
 place_behind v k ends = record { stage = stage_behind v k; ends = ends }
 
 pass_behind : (v : Version) (k : ℕ) (ends : Ends) → Passing (place_behind v k ends)
@@ -188,19 +188,19 @@ pass_behind (Second s) k ends = refl
 same_number : (x y : ℕ) → x ≡ y → (x == y) ≡ true
 same_number x y e = grind (arith, nat_tests)
 
-number_fine : (n : ℕ) (place : Place) (k : ℕ) → kind_says place.stage place.ends (Numbers (step_number k)) ≡ Starts (step_number k) → Fine n place (piece_of 131072 (number_line k) ∷ []) [] (place_said place (Starts (step_number k)))
+number_fine : (n : ℕ) (place : ScriptPlace) (k : ℕ) → kind_says place.stage place.ends (Numbers (step_number k)) ≡ Starts (step_number k) → Fine n place (piece_of 131072 (number_line k) ∷ []) [] (place_said place (Starts (step_number k)))
 number_fine n place k says =
     let l : length (number_line k) ≤ 131072 = let s = step_length (step_number k) (number_below k) in omega (arith, s) in
     one_fine n place (piece_of 131072 (number_line k)) (Starts (step_number k)) []
     (ap (line_says place) (short_whole (number_line k) l) ∙ ap (kind_says place.stage place.ends) (number_kind (Whole (number_line k)) k refl) ∙ says) refl refl
 
 -- Open has no mark
-first_head : (v : Version) (n : ℕ) → Fine n (beginning v) (pieces (head_lines v 0 Open)) [] (place_behind v 0 opened)
+first_head : (v : Version) (n : ℕ) → Fine n (beginning v) (pieces (head_lines v 0 Open)) [] (place_behind v 0 ends_once_open)
 first_head First n = none_fine n (beginning First)
 first_head (Second s) n = number_fine n (beginning (Second s)) 0 refl
 
 -- the mark of an event that may come
-event_fine : (n : ℕ) (place : Place) (e : Event) → event_lines e ≡ event_text e ∷ [] → mark_of (event_text e) ≡ Some (Happens e) → kind_says place.stage place.ends (Tells e) ≡ Comes e → Fine n place (pieces (event_lines e)) (e ∷ []) (place_said place (Comes e))
+event_fine : (n : ℕ) (place : ScriptPlace) (e : Event) → event_lines e ≡ event_text e ∷ [] → mark_of (event_text e) ≡ Some (Happens e) → kind_says place.stage place.ends (Tells e) ≡ Comes e → Fine n place (pieces (event_lines e)) (e ∷ []) (place_said place (Comes e))
 event_fine n place e lines m says =
     let w = marked_piece (event_text e) (ap is_some m) in
     subst (λ (ls : List (List ℕ)). Fine n place (pieces ls) (e ∷ []) (place_said place (Comes e))) (sym lines)
@@ -211,7 +211,7 @@ next_head : (v : Version) (n k : ℕ) (ends : Ends) (e : Event) → event_lines 
     → Fine n (place_behind v k ends) (pieces (head_lines v (suc k) e)) (e ∷ []) (place_behind v (suc k) (ends_after ends e))
 next_head First n k ends e lines m c = event_fine n (place_behind First k ends) e lines m (ap (λ (b : Bool). cond b (Comes e) Cannot) c)
 next_head (Second s) n k ends e lines m c =
-    let started : Place = record { stage = stages.Numbered (step_number (suc k)); ends = ends } in
+    let started : ScriptPlace = record { stage = stages.Numbered (step_number (suc k)); ends = ends } in
     let due : (step_number (suc k) == step_number (step_number k + 1)) ≡ true = same_number (step_number (suc k)) (step_number (step_number k + 1)) (sym (number_next (step_number k) k refl)) in
     fine_both n (place_behind (Second s) k ends) started (place_behind (Second s) (suc k) (ends_after ends e)) (piece_of 131072 (number_line (suc k)) ∷ []) (pieces (event_lines e)) [] (e ∷ [])
     (number_fine n (place_behind (Second s) k ends) (suc k) (ap (λ (b : Bool). cond b (Starts (step_number (suc k))) IsOutOfStep) due))
@@ -235,11 +235,11 @@ module _ (o : Settings) (v : Version) where
   first_reads : (s : Step) → s.event ≡ Open → HaveMarks (wrote s) → ReadsTo (s ∷ []) 0
   first_reads s e a =
       let h = head_lines v 0 Open in
-      let w = wrote_fine (first + length (pieces h)) (place_behind v 0 opened) (pass_behind v 0 opened) s a in
-      let f = fine_both first (beginning v) (place_behind v 0 opened) (place_behind v 0 opened) (pieces h) (pieces (wrote s)) [] [] (first_head v first) w in
+      let w = wrote_fine (first + length (pieces h)) (place_behind v 0 ends_once_open) (pass_behind v 0 ends_once_open) s a in
+      let f = fine_both first (beginning v) (place_behind v 0 ends_once_open) (place_behind v 0 ends_once_open) (pieces h) (pieces (wrote s)) [] [] (first_head v first) w in
       subst (λ (ls : List (List ℕ)). Fine first (beginning v) (pieces ls) (later_events (s ∷ [])) (place_behind v 0 (state q (s ∷ [])).ends)) (sym (first_behind v s))
       (subst (λ (x : Event). Fine first (beginning v) (pieces (head_lines v 0 x ++ wrote s)) (later_event x) (place_behind v 0 (ends_after at_start x))) (sym e)
-      (subst (λ (ls : List Piece). Fine first (beginning v) ls [] (place_behind v 0 opened)) (sym (pieces_both h (wrote s))) f))
+      (subst (λ (ls : List Piece). Fine first (beginning v) ls [] (place_behind v 0 ends_once_open)) (sym (pieces_both h (wrote s))) f))
 
   -- with the next step's number and event
   head_reads : (s r : Step) (t : List Step) → Lawful q (s ∷ r ∷ t) → ReadsTo (r ∷ t) (length t)

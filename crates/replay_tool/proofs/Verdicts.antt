@@ -248,7 +248,7 @@ module _ (o : Settings) (unread kept : Type 0) (start now : Streams) where
 
     -- WHERE NO LINE IS A FAULT
 
-    -- the line, and those before and behind it
+    -- the line, and those before and after it
     cut_at : (x : List ℕ) (ls : List Piece) (l : Piece) → AreFirst start.input.left (ls ++ l ∷ []) → start.input.left ≡ Some x → (ms : List Piece) × (items 131072 x ≡ ls ++ l ∷ ms)
     cut_at x ls l a e =
         let f = subst (λ (y : Option (List ℕ)). AreFirst y (ls ++ l ∷ [])) e a in

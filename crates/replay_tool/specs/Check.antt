@@ -37,7 +37,7 @@ pub record BeginBy (o : Settings) (version : Version) (lines : List Piece) : Typ
   pub later : List Piece
   pub goes_on : lines_by version trace ≡ lines ++ later
 
--- the lines behind which the event of the next step stands: in version 2 those with its number, but no number comes once both
+-- the lines after which the event of the next step stands: in version 2 those with its number, but no number comes once both
 -- sides have ended
 abbrev pub lines_before : Version → Bool → List Step → List Piece
 lines_before First over trace = lines_by First trace
@@ -45,7 +45,7 @@ lines_before (Second settings) true trace = lines_by (Second settings) trace
 lines_before (Second settings) false trace =
     lines_by (Second settings) trace ++ Whole (step_line (step_number (length trace))) ∷ []
 
--- Behind the lines of the script of a lawful trace the event of the next step stands, or would stand.
+-- After the lines of the script of a lawful trace the event of the next step stands, or would stand.
 pub record AwaitBy (o : Settings) (version : Version) (lines : List Piece) : Type 0 where
   pub trace : List Step
   pub lawful : Lawful (settings_by version o) trace
@@ -67,7 +67,7 @@ abbrev pub mark_in : Piece → Option Mark
 mark_in (Whole line) = mark_of line
 mark_in TooLong = None
 
--- a step line counts only behind a header
+-- a step line counts only after a header
 abbrev pub kind_under : Version → LineKind → LineKind
 kind_under First (Tells e) = Tells e
 kind_under First Writes = Writes
@@ -86,7 +86,7 @@ pub record Parts (o : Settings) (number : ℕ) (start now : Streams) : Type 0 wh
   pub begins : BeginScript o before
   pub differs : BeginScript o (before ++ line ∷ []) → ⊥
 
--- it has no mark, and behind a header it is also no step line
+-- it has no mark, and after a header it is also no step line
 pub record PartsUnmarked (o : Settings) (number : ℕ) (start now : Streams) : Type 0 where
   pub parts : Parts o number start now
   pub unmarked : kind_in (version_in parts.before) parts.line ≡ HasNone

@@ -18,54 +18,54 @@ use Rattle.drill.specs.declared.run.TheConstants.{MOST_ROUNDS}
 
 -- what is asked for: a replay, a check, a migration, the games or the positions with settings, a judgement of the log that this
 -- one wrote, a script played to an engine of so many lives or to a driver, a drill, or the moves of what a text spells
-pub data Asked : Type 0 where
-  Replay : (settings : Settings) → Asked
-  Check : (settings : Settings) → Asked
-  Migrate : (settings : Settings) → Asked
-  Judge : (listener : Listener) → Asked
-  Revive : (lives : ℕ) → Asked
-  Drive : Asked
-  Games : (settings : Settings) → Asked
-  Positions : (settings : Settings) → Asked
-  Drill : (number : ℕ) → (count : ℕ) → Asked
-  Moves : (text : List ℕ) → Asked
+pub data ReplayRequest : Type 0 where
+  Replay : (settings : Settings) → ReplayRequest
+  Check : (settings : Settings) → ReplayRequest
+  Migrate : (settings : Settings) → ReplayRequest
+  Judge : (listener : Listener) → ReplayRequest
+  Revive : (lives : ℕ) → ReplayRequest
+  Drive : ReplayRequest
+  Games : (settings : Settings) → ReplayRequest
+  Positions : (settings : Settings) → ReplayRequest
+  Drill : (number : ℕ) → (count : ℕ) → ReplayRequest
+  Moves : (text : List ℕ) → ReplayRequest
 
 -- the bytes of words
 abbrev pub texts : {Z : Type 0} → List (Vec ℕ Z) → List (List ℕ)
 texts words = map vec_items words
 
-abbrev pub drill_by : Option ℕ → Option ℕ → Option Asked
+abbrev pub drill_by : Option ℕ → Option ℕ → Option ReplayRequest
 drill_by (Some number) (Some count) = Some (Drill number count)
 drill_by number count = None
 
 -- a number of the generator and a count of rounds
-abbrev pub drill_of : List (List ℕ) → Option Asked
+abbrev pub drill_of : List (List ℕ) → Option ReplayRequest
 drill_of (number ∷ count ∷ []) = drill_by (number_in 10 0 (MODULUS - 1) number)
     (number_in 10 0 MOST_ROUNDS count)
 drill_of words = None
 
 -- how many lives may be begun: one digit from 1 to 9
-abbrev pub revive_of : List (List ℕ) → Option Asked
+abbrev pub revive_of : List (List ℕ) → Option ReplayRequest
 revive_of (lives ∷ []) = option_map (λ n. Revive n) (number_in 1 1 9 lives)
 revive_of words = None
 
 -- who wrote the log that is judged: the bridge, or a tap
-abbrev pub judge_of : List (List ℕ) → Option Asked
+abbrev pub judge_of : List (List ℕ) → Option ReplayRequest
 judge_of [] = Some (Judge listeners.Bridge)
 judge_of (word ∷ []) = if bytes_eq word (codes "tap") then Some (Judge listeners.Tap) else None
 judge_of words = None
 
 -- a command that takes no words
-abbrev pub alone : Asked → List (List ℕ) → Option Asked
+abbrev pub alone : ReplayRequest → List (List ℕ) → Option ReplayRequest
 alone command [] = Some command
 alone command (word ∷ words) = None
 
 -- the moves of what one or more words spell
-abbrev pub moves_of : List (List ℕ) → Option Asked
+abbrev pub moves_of : List (List ℕ) → Option ReplayRequest
 moves_of words = if nat_lt 0 (length words) then Some (Moves (fen_of words)) else None
 
 -- a command with these words, by which name it has
-abbrev pub command_by : Option CommandName → List (List ℕ) → Option Asked
+abbrev pub command_by : Option CommandName → List (List ℕ) → Option ReplayRequest
 command_by None words = None
 command_by (Some names.Replay) words = option_map (λ s. Replay s) (settings_of words)
 command_by (Some names.Check) words = option_map (λ s. Check s) (settings_of words)
@@ -78,10 +78,10 @@ command_by (Some names.Positions) words = option_map (λ s. Positions s) (settin
 command_by (Some names.Drill) words = drill_of words
 command_by (Some names.Moves) words = moves_of words
 
--- the command of this name with these words: settings stand behind `replay`, `check`,
--- `migrate`, `games` and `positions`, nothing or `tap` behind `judge`, nothing behind `drive`, one digit behind `revive`, one
--- or more words behind `moves`, and two numbers behind `drill`
-abbrev pub command_named : List ℕ → List (List ℕ) → Option Asked
+-- the command of this name with these words: settings stand after `replay`, `check`,
+-- `migrate`, `games` and `positions`, nothing or `tap` after `judge`, nothing after `drive`, one digit after `revive`, one
+-- or more words after `moves`, and two numbers after `drill`
+abbrev pub command_named : List ℕ → List (List ℕ) → Option ReplayRequest
 command_named name words =
     if bytes_eq name (codes "replay") then option_map (λ s. Replay s) (settings_of words)
     else (if bytes_eq name (codes "check") then option_map (λ s. Check s) (settings_of words)
@@ -96,22 +96,22 @@ command_named name words =
     (fen_of words)) else None)))))))))
 
 -- the command of the words, if they fit one
-abbrev pub command_of : List (List ℕ) → Option Asked
+abbrev pub command_of : List (List ℕ) → Option ReplayRequest
 command_of [] = None
 command_of (name ∷ words) = command_named name words
 
 -- what a command asks for
-abbrev pub asked : ReplayCommand → Asked
-asked (commands.Replay s) = Replay s
-asked (commands.Check s) = Check s
-asked (commands.Migrate s) = Migrate s
-asked (commands.Judge listener) = Judge listener
-asked (commands.Revive lives) = Revive lives
-asked commands.Drive = Drive
-asked (commands.Games s) = Games s
-asked (commands.Positions s) = Positions s
-asked (commands.Drill number count) = Drill number count
-asked (commands.Moves words) = Moves (fen_of (texts words.now))
+abbrev pub request_by_command : ReplayCommand → ReplayRequest
+request_by_command (commands.Replay s) = Replay s
+request_by_command (commands.Check s) = Check s
+request_by_command (commands.Migrate s) = Migrate s
+request_by_command (commands.Judge listener) = Judge listener
+request_by_command (commands.Revive lives) = Revive lives
+request_by_command commands.Drive = Drive
+request_by_command (commands.Games s) = Games s
+request_by_command (commands.Positions s) = Positions s
+request_by_command (commands.Drill number count) = Drill number count
+request_by_command (commands.Moves words) = Moves (fen_of (texts words.now))
 
 -- the settings and the count of a command are within their ranges
 abbrev pub HasProper : ReplayCommand → Type 0

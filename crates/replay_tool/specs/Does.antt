@@ -2,7 +2,7 @@
 use Rattle.std.specs.Prelude.{ℕ, Option, Some, None}
 use Rattle.fen_text.specs.Fen.{position_of}
 use Rattle.replay_tool.specs.Check.{ChecksAs}
-use Rattle.replay_tool.specs.Commands.{Asked}
+use Rattle.replay_tool.specs.Commands.{ReplayRequest}
 use Rattle.replay_tool.specs.Commands as asked
 use Rattle.replay_tool.specs.Drilled.{PlaysDrill}
 use Rattle.replay_tool.specs.Moves.{Lists}
@@ -17,7 +17,7 @@ use Rattle.driver_script.specs.Driven.{Driven}
 use Rattle.session_games.specs.GamesWritten.{GamesWritten}
 use Rattle.session_positions.specs.PositionsWritten.{PositionsWritten}
 
-abbrev pub Does : Option Asked → Type 0 → Type 0 → Type 0 → Streams → Streams → ℕ → Type 0
+abbrev pub Does : Option ReplayRequest → Type 0 → Type 0 → Type 0 → Streams → Streams → ℕ → Type 0
 Does None unread kept silent before after code = Refused unread kept before after code
 Does (Some (asked.Replay o)) unread kept silent before after code =
     HaveLaws o × Ran (λ e. EndsAs o (unread × kept) e before after) before after code

@@ -12,7 +12,7 @@ use Rattle.command_endings.specs.Diagnostics.{one_line, position_fault, tail_of}
 use Rattle.command_endings.specs.Told.{Told, Writes}
 use Rattle.peer_words.specs.Bytes.{blank}
 
--- each word behind a blank
+-- each word after a blank
 abbrev pub behind_blanks : List (List ℕ) → List ℕ
 behind_blanks [] = []
 behind_blanks (word ∷ words) = blank ∷ (word ++ behind_blanks words)

@@ -10,7 +10,7 @@ use Rattle.session_script.specs.Script.{script1, script2}
 use Rattle.command_endings.specs.Streams.{Streams, IsSteady}
 use Rattle.session_judge.specs.declared.listener.Listener.{Listener}
 use Rattle.judge_report.specs.Reports.{report}
-use Rattle.judge_report.specs.Texts.{lawful_line, searched}
+use Rattle.judge_report.specs.Texts.{lawful_line, search_report}
 use Rattle.script_player.specs.Versions.{Version, script_by, settings_by}
 use Rattle.replay_tool.specs.Replayed.{IsProperIn}
 
@@ -20,9 +20,9 @@ use Rattle.replay_tool.specs.Replayed.{IsProperIn}
 abbrev pub searches : Listener → List ℕ → List ℕ
 searches listener script =
     (report listener (items SCRIPT_LINE script)).text
-    ++ searched (report listener (items SCRIPT_LINE script)).talk.search
+    ++ search_report (report listener (items SCRIPT_LINE script)).talk.search
 
--- The output took the lines of the script's searches, and behind them `lawful talk`: no order crosses.
+-- The output took the lines of the script's searches, and after them `lawful talk`: no order crosses.
 abbrev pub FoundLawful : Listener → List ℕ → Streams → Streams → Type 0
 FoundLawful listener script before after =
     Appends before.output.taken after.output.taken (searches listener script ++ lawful_line)

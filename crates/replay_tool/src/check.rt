@@ -2,7 +2,7 @@
 ghost use Rattle.std.specs.Prelude.{◌≡◌, ◌≢◌, ◌<◌, [], IfOk, true};
 ghost use Rattle.line_io.specs.Causes.{Rose};
 ghost use Rattle.line_io.specs.Event.{event_of};
-ghost use Rattle.line_io.specs.Lines.{Whole, unread};
+ghost use Rattle.line_io.specs.Lines.{Whole, empty_reader};
 ghost use Rattle.script_player.specs.Versions.{kind_of};
 ghost use Rattle.script_lines.specs.Header.{header_of};
 ghost use Rattle.policy_rules.specs.Policy.{IsProper};
@@ -262,7 +262,7 @@ impl Audit {
     pub fn make(alloc: Global, settings: &Settings) -> Result<Audit, NoMemory>
         requires { IsProper settings.now }
         ensures checker { IfOk result (λ audit. IsUnread settings.now audit.checker) }
-        ensures lines { IfOk result (λ audit. audit.lines ≡ unread SCRIPT_LINE) }
+        ensures lines { IfOk result (λ audit. audit.lines ≡ empty_reader SCRIPT_LINE) }
     {
         Ok(Audit {
             checker: Checker::make(alloc, settings)?,
@@ -273,7 +273,7 @@ impl Audit {
     /// Compares the input with the lawful script of its events.
     pub fn go<I: Source>(&mut self, input: &mut I) -> Ending
         requires checker { IsUnread self.old.checker.core.settings self.old.checker }
-        requires lines { self.old.lines ≡ unread SCRIPT_LINE }
+        requires lines { self.old.lines ≡ empty_reader SCRIPT_LINE }
         ensures finds { (o : AnySettings) (start now : Streams) → IsUnread o self.old.checker
             → Finds o result
             (with_input start (I.state input.old)) (with_input now (I.state input.new)) }

@@ -1,7 +1,7 @@
 // The commands of the program.
 ghost use Rattle.std.specs.Prelude.{◌≡◌, IfSome};
 ghost use Rattle.std.specs.Option.{option_map};
-ghost use Rattle.replay_tool.specs.Commands.{Drive, HasProper, alone, asked, command_by, command_of, command_named, drill_of, judge_of, moves_of, revive_of, texts};
+ghost use Rattle.replay_tool.specs.Commands.{Drive, HasProper, alone, request_by_command, command_by, command_of, command_named, drill_of, judge_of, moves_of, revive_of, texts};
 
 use crate::settings::read_settings;
 use drill::{MODULUS, MOST_ROUNDS};
@@ -35,7 +35,7 @@ pub enum ReplayCommand<'a> {
 }
 
 fn read_drill(words: &[Vec<u8>]) -> Option<ReplayCommand>
-    ensures value { option_map asked result ≡ drill_of (texts words.now) }
+    ensures value { option_map request_by_command result ≡ drill_of (texts words.now) }
     ensures proper { IfSome result (λ command. HasProper command) }
 {
     let [number, count] = words else {
@@ -49,7 +49,7 @@ fn read_drill(words: &[Vec<u8>]) -> Option<ReplayCommand>
 
 /// The command `judge`, which takes no words, or `tap` for the log of a tap.
 fn read_judge<'a>(words: &[Vec<u8>]) -> Option<ReplayCommand<'a>>
-    ensures value { option_map asked result ≡ judge_of (texts words.now) }
+    ensures value { option_map request_by_command result ≡ judge_of (texts words.now) }
     ensures proper { IfSome result (λ command. HasProper command) }
 {
     match words {
@@ -61,7 +61,7 @@ fn read_judge<'a>(words: &[Vec<u8>]) -> Option<ReplayCommand<'a>>
 
 /// The command `drive`, which takes no words.
 fn read_drive<'a>(words: &[Vec<u8>]) -> Option<ReplayCommand<'a>>
-    ensures value { option_map asked result ≡ alone Drive (texts words.now) }
+    ensures value { option_map request_by_command result ≡ alone Drive (texts words.now) }
     ensures proper { IfSome result (λ command. HasProper command) }
 {
     match words {
@@ -71,7 +71,7 @@ fn read_drive<'a>(words: &[Vec<u8>]) -> Option<ReplayCommand<'a>>
 }
 
 fn read_revive(words: &[Vec<u8>]) -> Option<ReplayCommand>
-    ensures value { option_map asked result ≡ revive_of (texts words.now) }
+    ensures value { option_map request_by_command result ≡ revive_of (texts words.now) }
     ensures proper { IfSome result (λ command. HasProper command) }
 {
     let [lives] = words else {
@@ -112,7 +112,7 @@ static COMMAND_NAMES: [(&[u8], CommandName); 10] = [
 
 /// The command `moves`, which takes one word or more.
 fn read_moves(words: &[Vec<u8>]) -> Option<ReplayCommand>
-    ensures value { option_map asked result ≡ moves_of (texts words.now) }
+    ensures value { option_map request_by_command result ≡ moves_of (texts words.now) }
     ensures proper { IfSome result (λ command. HasProper command) }
 {
     if words.is_empty() {
@@ -123,7 +123,7 @@ fn read_moves(words: &[Vec<u8>]) -> Option<ReplayCommand>
 }
 
 fn read_by(name: Option<CommandName>, words: &[Vec<u8>]) -> Option<ReplayCommand>
-    ensures value { option_map asked result ≡ command_by name (texts words.now) }
+    ensures value { option_map request_by_command result ≡ command_by name (texts words.now) }
     ensures proper { IfSome result (λ command. HasProper command) }
 {
     match name? {
@@ -141,7 +141,8 @@ fn read_by(name: Option<CommandName>, words: &[Vec<u8>]) -> Option<ReplayCommand
 }
 
 fn read_named<'a>(name: &[u8], words: &'a [Vec<u8>]) -> Option<ReplayCommand<'a>>
-    ensures value { option_map asked result ≡ command_named name.now (texts words.now) }
+    ensures value { option_map request_by_command result
+        ≡ command_named name.now (texts words.now) }
     ensures proper { IfSome result (λ command. HasProper command) }
 {
     read_by(named(&COMMAND_NAMES, name), words)
@@ -149,7 +150,7 @@ fn read_named<'a>(name: &[u8], words: &'a [Vec<u8>]) -> Option<ReplayCommand<'a>
 
 /// The command of the words, which do not include the program's name.
 pub fn read_command(words: &[Vec<u8>]) -> Option<ReplayCommand>
-    ensures value { option_map asked result ≡ command_of (texts words.now) }
+    ensures value { option_map request_by_command result ≡ command_of (texts words.now) }
     ensures proper { IfSome result (λ command. HasProper command) }
 {
     let [name, rest @ ..] = words else {

@@ -33,7 +33,7 @@ fn join_words(alloc: Global, words: &[Vec<u8>]) -> Result<Vec<u8>, NoMemory>
 ghost use Rattle.std.specs.Prelude.{◌++◌};
 ghost use Rattle.replay_tool.specs.Moves.{behind_blanks};
 
-// Adds each word behind a blank.
+// Adds each word after a blank.
 fn add_words(words: &[Vec<u8>], text: &mut Vec<u8>) -> Result<(), NoMemory>
     ensures { IfOk result (λ _. text.new.items ≡ text.old.items ++ behind_blanks
         (texts words.now)) }

@@ -1,6 +1,6 @@
 // The program.
 ghost use Rattle.std.specs.Prelude.{◌≡◌, ℕ, List, Some, None, IfOk};
-ghost use Rattle.line_io.specs.Lines.{unread};
+ghost use Rattle.line_io.specs.Lines.{empty_reader};
 ghost use Rattle.line_io.specs.Out.{empty};
 ghost use Rattle.policy_rules.specs.Policy.{IsProper};
 ghost use Rattle.policy_rules.specs.declared.settings.Settings.{Settings as AnySettings};
@@ -78,7 +78,7 @@ fn run_replay<I: Source, O: Sink, D: Sink>(
 fn make_check(alloc: Global, settings: &Settings) -> Result<(Audit, Out), NoMemory>
     requires { IsProper settings.now }
     ensures checker { IfOk result (λ made. IsUnread settings.now made.0.checker) }
-    ensures lines { IfOk result (λ made. made.0.lines ≡ unread SCRIPT_LINE) }
+    ensures lines { IfOk result (λ made. made.0.lines ≡ empty_reader SCRIPT_LINE) }
     ensures room { IfOk result (λ made. made.1 ≡ empty 80) }
 {
     Ok((Audit::make(alloc, settings)?, Out::make(alloc, 80)?))
@@ -149,22 +149,22 @@ fn run_words<I: Source, O: Sink, D: Sink>(
 ///
 /// The word `replay` reads a script from the input, ignores its header, its step lines and the
 /// lines that were written, and writes the script of the session in the same version, with the
-/// settings of the header, or of the words NAME=VALUE behind it if there is no header.
+/// settings of the header, or of the words NAME=VALUE after it if there is no header.
 ///
-/// The word `check`, with the same words behind it, reads a log of any version and writes
+/// The word `check`, with the same words after it, reads a log of any version and writes
 /// `lawful` if its lines are the script of a lawful session, else the first line that differs, with
 /// status 1.
 ///
-/// The word `migrate`, with the same words behind it, reads a script of version 1 and writes it as
+/// The word `migrate`, with the same words after it, reads a script of version 1 and writes it as
 /// one with a header of the settings of the words. No core runs: the script need not be lawful.
 ///
-/// The word `games`, with the same words behind it, reads a script as `replay` does and writes the
+/// The word `games`, with the same words after it, reads a script as `replay` does and writes the
 /// games of the session, one a line, each when the interface begins another or the session ends: its
 /// movetext (PGN standard, section 8.2), and before it the `FEN` tag, if it has another beginning.
 ///
-/// The word `positions`, with the same words behind it, reads a script as `replay` does and writes
-/// the standard start behind the number 0, and each position that an event leaves and that has
-/// another text than the one before, behind the number of the event's line in the input.
+/// The word `positions`, with the same words after it, reads a script as `replay` does and writes
+/// the standard start after the number 0, and each position that an event leaves and that has
+/// another text than the one before, after the number of the event's line in the input.
 ///
 /// The word `revive` with one digit from 1 to 9 reads a script of version 1 and plays it to an
 /// engine of which so many lives may be begun; the word `drive` plays it to a driver between a UCI
@@ -172,10 +172,10 @@ fn run_words<I: Source, O: Sink, D: Sink>(
 /// them.
 ///
 /// The word `judge` reads the log of any bridge and writes the report of the judge, with status 1 if
-/// a mark breaks a rule. With the word `tap` behind it the log is that of a tap between the bridge and
+/// a mark breaks a rule. With the word `tap` after it the log is that of a tap between the bridge and
 /// its engine, in which an order may cross a line of the engine.
 ///
-/// The word `moves` joins the words behind it by blanks, as the text of a position (PGN standard,
+/// The word `moves` joins the words after it by blanks, as the text of a position (PGN standard,
 /// section 16.1), and writes its legal moves, one a line, in the byte order of their texts; it reads
 /// no input. The word `drill` with a number below 2^31 and a count up to 100,000 plays that many
 /// rounds of drawn moves in one session and writes a line with what it counted; it reads no input

@@ -1,6 +1,6 @@
 // A run of the command `replay`.
 ghost use Rattle.std.specs.Prelude.{◌≡◌, IfOk};
-ghost use Rattle.line_io.specs.Lines.{unread};
+ghost use Rattle.line_io.specs.Lines.{empty_reader};
 ghost use Rattle.line_io.specs.Source.{Received};
 ghost use Rattle.policy_rules.specs.Policy.{IsProper};
 ghost use Rattle.policy_rules.specs.declared.settings.Settings.{Settings as AnySettings};
@@ -31,7 +31,7 @@ impl ScriptRun {
     pub fn make(alloc: Global, settings: &Settings) -> Result<ScriptRun, NoMemory>
         requires { IsProper settings.now }
         ensures player { IfOk result (λ run. IsFresh settings.now run.player) }
-        ensures lines { IfOk result (λ run. run.lines ≡ unread SCRIPT_LINE) }
+        ensures lines { IfOk result (λ run. run.lines ≡ empty_reader SCRIPT_LINE) }
     {
         Ok(ScriptRun {
             player: Player::make(alloc, settings)?,
@@ -42,7 +42,7 @@ impl ScriptRun {
     /// Replays the input.
     pub fn go<I: Source, O: Sink>(&mut self, input: &mut I, output: &mut O) -> Ending
         requires player { IsFresh self.old.player.core.settings self.old.player }
-        requires lines { self.old.lines ≡ unread SCRIPT_LINE }
+        requires lines { self.old.lines ≡ empty_reader SCRIPT_LINE }
         ensures stopped { (o : AnySettings) (diag diag_now : Received) → IsFresh o self.old.player
             → Stopped o result
             (streams (I.state input.old) (O.state output.old) diag)

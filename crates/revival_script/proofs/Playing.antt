@@ -15,7 +15,7 @@ use Rattle.line_scribe.specs.Putting as scribe
 use Rattle.engine_revival.specs.declared.state.RevivalState.{RevivalState}
 use Rattle.engine_revival.specs.Steps.{opening}
 use Rattle.engine_revival.specs.Script.{AllMayHappen, event_text, may_happen, state_after, state_behind, texts_from}
-use Rattle.revival_script.specs.Played.{ArePlayed, IsFault, event_by, events_in, mark_in, revived, state_over}
+use Rattle.revival_script.specs.Played.{ArePlayed, IsFault, event_by, events_in, mark_in, revival_of_lines, state_over}
 use Rattle.revival_script.specs.Reviving.{Closes, HasPlayed, IsPlayed, IsPlayedAs, IsRefused, IsSame, Says, Takes, revives}
 
 -- ONE EVENT MORE
@@ -60,7 +60,7 @@ module _ (lives : ℕ) (lines : List Piece) (s : RevivalState) (text : List ℕ)
         state_is = after ∙ ap (λ (x : RevivalState). state_after x e) h.state_is ∙ sym (state_more (opening lives) events e) ∙ ap (λ (es : List Event). state_behind (opening lives) es) (sym all);
         text_is =
             ap (λ (t : List ℕ). t ++ event_text s e) h.text_is
-            ∙ ap (λ (x : RevivalState). revived lives lines ++ event_text x e) h.state_is
+            ∙ ap (λ (x : RevivalState). revival_of_lines lives lines ++ event_text x e) h.state_is
             ∙ sym (texts_more (opening lives) events e)
             ∙ ap (λ (es : List Event). texts_from (opening lives) es) (sym all);
       }

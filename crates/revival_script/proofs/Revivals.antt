@@ -25,7 +25,7 @@ use Rattle.engine_revival.specs.Steps.{opening}
 use Rattle.engine_revival.proofs.Talks.{talk_is_lawful}
 use Rattle.script_lines.specs.Marks.{Mark}
 use Rattle.engine_revival.specs.Script.{AllMayHappen, may_happen, revival_script, state_after, state_behind}
-use Rattle.revival_script.specs.Played.{ArePlayed, IsFault, IsReason, event_by, events_in, mark_in, revived, state_over}
+use Rattle.revival_script.specs.Played.{ArePlayed, IsFault, IsReason, event_by, events_in, mark_in, revival_of_lines, state_over}
 use Rattle.revival_script.specs.Revived.{AllRevived, CompletesRevival, FaultReported, FrontRevived, MuchRevived, PlaysAll, Revived, RevivesAgain, WholeRevived}
 use Rattle.revival_script.specs.Reviving.{Closes, Says, Stops, revives}
 use Rattle.revival_script.proofs.Again.{script_again}
@@ -120,7 +120,7 @@ module _ (lives : ℕ) (U : Type 0) (start now : Streams) (code : ℕ) (r : Ran 
   -- A FRONT
 
   abbrev Front : List ℕ → Type 0
-  Front text = (lines : List Piece) × AreRead start now lines × ArePlayed lives lines × (text ≡ revived lives lines)
+  Front text = (lines : List Piece) × AreRead start now lines × ArePlayed lives lines × (text ≡ revival_of_lines lives lines)
 
   of_stop : (lines : List Piece) (e : Ending) (text : List ℕ) → AreRead start now lines → Stops lives lines e text → Front text
   of_stop lines e text r s = (s.is_fault.before, read_front start now lines s.is_fault.before (s.is_fault.line ∷ []) s.is_fault.lines_are r, s.is_fault.played, s.text_is)
@@ -180,7 +180,7 @@ module _ (lives : ℕ) (U : Type 0) (start now : Streams) (code : ℕ) (r : Ran 
         let d = o.done z in
         let r = all_by d.0 d.1 in
         let same = all_of start.input.left r.got (revival_script lives events) r.all_read e in
-        inl (z, subst Wrote (ap (λ (t : List ℕ). revived lives (items 131072 t)) (sym same) ∙ ap (λ (es : List Event). revival_script lives es) (script_again lives events a m).1) r.written)
+        inl (z, subst Wrote (ap (λ (t : List ℕ). revival_of_lines lives (items 131072 t)) (sym same) ∙ ap (λ (es : List Event). revival_script lives es) (script_again lives events a m).1) r.written)
 
   pub revived_by : Revived lives U start now code
   revived_by = record {

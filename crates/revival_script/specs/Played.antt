@@ -34,8 +34,8 @@ pub record ArePlayed (lives : ℕ) (lines : List Piece) : Type 0 where
   pub may_come : AllMayHappen (opening lives) (events_in lines)
 
 -- What is written for lines: for each event its mark, and those of the lines that it brings.
-abbrev pub revived : ℕ → List Piece → List ℕ
-revived lives lines = revival_script lives (events_in lines)
+abbrev pub revival_of_lines : ℕ → List Piece → List ℕ
+revival_of_lines lives lines = revival_script lives (events_in lines)
 
 -- Why a line with this number is not played in this state: it has no mark, or its event may not come.
 abbrev pub IsReason : RevivalState → ℕ → Piece → Ending → Type 0

@@ -16,7 +16,7 @@ use Rattle.line_scribe.specs.Scribed.{EndsBy}
 use Rattle.engine_revival.specs.Script.{AllMayHappen, revival_script}
 use Rattle.engine_revival.specs.Steps.{opening}
 use Rattle.engine_revival.specs.Talk.{IsLawfulTalk}
-use Rattle.revival_script.specs.Played.{ArePlayed, IsFault, events_in, revived}
+use Rattle.revival_script.specs.Played.{ArePlayed, IsFault, events_in, revival_of_lines}
 use Rattle.revival_script.specs.Reviving.{revives}
 use Rattle.line_io.specs.declared.limits.TheConstants.{SCRIPT_LINE}
 
@@ -26,7 +26,7 @@ pub record AllRevived (lives : ℕ) (before after : Streams) : Type 0 where
   pub reads : Got before after got
   pub all_read : IsAll before.input.left got
   pub played : ArePlayed lives (items SCRIPT_LINE got)
-  pub written : Appends before.output.taken after.output.taken (revived lives (items SCRIPT_LINE got))
+  pub written : Appends before.output.taken after.output.taken (revival_of_lines lives (items SCRIPT_LINE got))
   pub no_failure : AreSame before after
 
 -- The first line that is not played was reported, and what is written for the lines before it was written.
@@ -35,7 +35,8 @@ pub record FaultReported (lives : ℕ) (before after : Streams) : Type 0 where
   pub lines : List Piece
   pub read : AreRead before after lines
   pub is_fault : IsFault lives lines fault
-  pub written : Appends before.output.taken after.output.taken (revived lives is_fault.before)
+  pub written : Appends before.output.taken after.output.taken
+      (revival_of_lines lives is_fault.before)
   pub told : Appends before.diag.taken after.diag.taken (diagnostic fault)
 
 -- All whole lines that were read were played, and what is written for them was written.
@@ -44,7 +45,7 @@ pub record WholeRevived (lives : ℕ) (before after : Streams) : Type 0 where
   pub reads : Got before after got
   pub first : AreFirst before.input.left (whole SCRIPT_LINE got)
   pub played : ArePlayed lives (whole SCRIPT_LINE got)
-  pub written : Appends before.output.taken after.output.taken (revived lives (whole SCRIPT_LINE got))
+  pub written : Appends before.output.taken after.output.taken (revival_of_lines lives (whole SCRIPT_LINE got))
 
 -- so it is if the input gave at least 2^32 bytes
 pub record MuchRevived (lives : ℕ) (before after : Streams) : Type 0 where
@@ -57,7 +58,8 @@ pub record FrontRevived (lives : ℕ) (before after : Streams) : Type 0 where
   pub read : AreRead before after lines
   pub played : ArePlayed lives lines
   pub front : ℕ
-  pub written : Appends before.output.taken after.output.taken (take front (revived lives lines))
+  pub written : Appends before.output.taken after.output.taken
+      (take front (revival_of_lines lives lines))
 
 -- An input of fewer than 2^32 bytes is played to its end or to the first line that is not played, or
 -- there was no memory.

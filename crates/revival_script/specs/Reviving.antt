@@ -10,7 +10,7 @@ use Rattle.line_scribe.specs.Putting.{Putting}
 use Rattle.engine_revival.specs.declared.state.RevivalState.{RevivalState}
 use Rattle.engine_revival.specs.Steps.{opening}
 use Rattle.engine_revival.specs.Script.{event_text, may_happen, state_after}
-use Rattle.revival_script.specs.Played.{ArePlayed, IsFault, revived, state_over}
+use Rattle.revival_script.specs.Played.{ArePlayed, IsFault, revival_of_lines, state_over}
 
 -- ONE LINE
 
@@ -56,17 +56,17 @@ Takes number None result s held s' held' = HasNoMark number result s held s' hel
 pub record HasPlayed (lives : ℕ) (lines : List Piece) (s : RevivalState) (text : List ℕ) : Type 0 where
   pub played : ArePlayed lives lines
   pub state_is : s ≡ state_over lives lines
-  pub text_is : text ≡ revived lives lines
+  pub text_is : text ≡ revival_of_lines lives lines
 
 -- the last of these lines is the first that is not played, and this is what is written for those before it
 pub record Stops (lives : ℕ) (lines : List Piece) (fault : Ending) (text : List ℕ) : Type 0 where
   pub is_fault : IsFault lives lines fault
-  pub text_is : text ≡ revived lives is_fault.before
+  pub text_is : text ≡ revival_of_lines lives is_fault.before
 
 -- there are no more lines, and this is what is written for all
 pub record Closes (lives : ℕ) (lines : List Piece) (text : List ℕ) : Type 0 where
   pub played : ArePlayed lives lines
-  pub text_is : text ≡ revived lives lines
+  pub text_is : text ≡ revival_of_lines lives lines
 
 abbrev pub Says : ℕ → List Piece → Ending → List ℕ → Type 0
 Says lives lines (endings.NoMark n) text = Stops lives lines (endings.NoMark n) text

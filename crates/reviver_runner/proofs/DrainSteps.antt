@@ -1,4 +1,4 @@
--- Behind the last life.
+-- After the last life.
 use Rattle.std.proofs.Common.{◌≡◌, ℕ, List, [], ◌∷◌, ◌++◌, map, codes, Bool, true, false, cond, not, ◌||◌, Option, Some, None, refl, sym, ap, subst, ◌∙◌, arith, append-nil, append_assoc}
 use Rattle.std.proofs.lemmas.List.{map-append}
 use Rattle.std.proofs.lemmas.List.Elements.{filter-append}
@@ -6,13 +6,13 @@ use Rattle.std.proofs.lemmas.List.Folds.{list_any-append}
 use Rattle.line_io.specs.Event.{Event, Iface, IfaceLong, IfaceEnd}
 use Rattle.cecp_lines.specs.Quit.{is_quit}
 use Rattle.engine_revival.specs.Orders.{RevivalOrder as AnyOrder}
-use Rattle.engine_revival.specs.Asked.{asked}
+use Rattle.engine_revival.specs.Asked.{order_of_line}
 use Rattle.engine_revival.specs.declared.state.RevivalState.{RevivalState}
 use Rattle.engine_revival.specs.declared.words.DialogueState.{DialogueState}
 use Rattle.engine_revival.specs.declared.words.LifeState.{LifeState}
 use Rattle.engine_revival.specs.declared.words.LifeState.TheVariants as life
 use Rattle.engine_revival.specs.Lists.{batch_text}
-use Rattle.engine_revival.specs.Steps.{is_ended, quit_to, read_at_once, accepted_at_once, accepted, at_once, due_to, due_orders, settled_orders, ordering, reading, accepting, with_quit, after_at_once}
+use Rattle.engine_revival.specs.Steps.{is_ended, quit_to, read_at_once, accepted_at_once, upper_if_accepted, at_once, due_to, due_orders, settled_orders, state_after_line, state_after_reading, state_if_accepted, with_quit, after_at_once}
 use Rattle.engine_revival.specs.Calls.{Order, after, child_of}
 use Rattle.engine_revival.specs.Script.{may_happen, state_after, state_behind, event_text}
 use Rattle.life_runner.specs.Looped.{Shown, PlayedUp}
@@ -53,34 +53,34 @@ once_over (Some up) order = refl
 
 read_over : (s : RevivalState) (order : Option AnyOrder) → s.life ≡ life.Over → read_at_once s order ≡ []
 read_over s None h = refl
-read_over s (Some order) h = ap (λ (l : LifeState). accepted_at_once (accepted s order) l order) h ∙ once_over (accepted s order) order
+read_over s (Some order) h = ap (λ (l : LifeState). accepted_at_once (upper_if_accepted s order) l order) h ∙ once_over (upper_if_accepted s order) order
 
 at_once_over : (s : RevivalState) (line : List ℕ) → s.life ≡ life.Over → at_once s line ≡ []
-at_once_over s line h = either_none (is_quit line) _ _ (ap (λ (l : LifeState). quit_to s.quit l) h ∙ quit_to_over s.quit) (read_over s (asked line) h)
+at_once_over s line h = either_none (is_quit line) _ _ (ap (λ (l : LifeState). quit_to s.quit l) h ∙ quit_to_over s.quit) (read_over s (order_of_line line) h)
 
 settled_none : (s : RevivalState) → s.life ≡ life.Over → settled_orders s ≡ []
 settled_none s h = ap (λ (l : LifeState). due_orders (due_to l s.quit s.upper) s.unsent s.search) h
 
-accepting_over : (up : Option DialogueState) (s : RevivalState) (order : AnyOrder) → s.life ≡ life.Over → (accepting up s order).life ≡ life.Over
+accepting_over : (up : Option DialogueState) (s : RevivalState) (order : AnyOrder) → s.life ≡ life.Over → (state_if_accepted up s order).life ≡ life.Over
 accepting_over None s order h = h
 accepting_over (Some up) s order h = ap (λ (l : LifeState). after_at_once l order) h
 
-reading_over : (s : RevivalState) (order : Option AnyOrder) → s.life ≡ life.Over → (reading s order).life ≡ life.Over
+reading_over : (s : RevivalState) (order : Option AnyOrder) → s.life ≡ life.Over → (state_after_reading s order).life ≡ life.Over
 reading_over s None h = h
-reading_over s (Some order) h = accepting_over (accepted s order) s order h
+reading_over s (Some order) h = accepting_over (upper_if_accepted s order) s order h
 
 either_over : (b : Bool) (s t : RevivalState) → s.life ≡ life.Over → t.life ≡ life.Over → (cond b s t).life ≡ life.Over
 either_over true s t h k = h
 either_over false s t h k = k
 
-ordering_over : (s : RevivalState) (line : List ℕ) → s.life ≡ life.Over → (ordering s line).life ≡ life.Over
-ordering_over s line h = either_over (is_quit line) (with_quit s) (reading s (asked line)) h (reading_over s (asked line) h)
+ordering_over : (s : RevivalState) (line : List ℕ) → s.life ≡ life.Over → (state_after_line s line).life ≡ life.Over
+ordering_over s line h = either_over (is_quit line) (with_quit s) (state_after_reading s (order_of_line line)) h (reading_over s (order_of_line line) h)
 
 order_child : (s : RevivalState) (line : List ℕ) → s.life ≡ life.Over → child_of s (Order line) ≡ []
-order_child s line h = ap batch_text (ap (λ (l : List AnyOrder). l ++ settled_orders (ordering s line)) (at_once_over s line h) ∙ settled_none (ordering s line) (ordering_over s line h))
+order_child s line h = ap batch_text (ap (λ (l : List AnyOrder). l ++ settled_orders (state_after_line s line)) (at_once_over s line h) ∙ settled_none (state_after_line s line) (ordering_over s line h))
 
 order_over : (s : RevivalState) (line : List ℕ) → s.life ≡ life.Over → (after s (Order line)).life ≡ life.Over
-order_over s line h = settled_over (ordering s line) (ordering_over s line h)
+order_over s line h = settled_over (state_after_line s line) (ordering_over s line h)
 
 event_child_over : (s : RevivalState) (e : Event) → is_order e ≡ true → s.life ≡ life.Over → event_child s e ≡ []
 event_child_over s (Iface line) o h = order_child s line h

@@ -8,12 +8,12 @@ use Rattle.line_io.specs.Source.{Supplied, Received}
 use Rattle.cecp_lines.specs.Quit.{is_quit}
 use Rattle.engine_revival.specs.Orders.{RevivalOrder as AnyOrder}
 use Rattle.engine_revival.specs.Orders as orders
-use Rattle.engine_revival.specs.Asked.{asked}
+use Rattle.engine_revival.specs.Asked.{order_of_line}
 use Rattle.engine_revival.specs.declared.state.RevivalState.{RevivalState}
 use Rattle.engine_revival.specs.declared.words.DialogueState.{DialogueState}
 use Rattle.engine_revival.specs.Dialogue.{said_in}
 use Rattle.engine_revival.specs.Lists.{can_join}
-use Rattle.engine_revival.specs.Steps.{opening, ending, beginning, closing, may_begin, keeping, with_value, with_button, accepting, accepted, reading, ordering, with_quit, hearing, settled}
+use Rattle.engine_revival.specs.Steps.{opening, state_once_ended, state_at_new_life, state_once_over, may_begin, state_with_kept, with_value, with_button, state_if_accepted, upper_if_accepted, state_after_reading, state_after_line, with_quit, state_once_heard, state_once_settled}
 use Rattle.engine_revival.specs.Calls.{Begin, Over, after}
 use Rattle.engine_revival.specs.Script.{AllMayHappen, state_after, state_behind, texts_from}
 use Rattle.engine_revival.proofs.Talks.{always_lawful}
@@ -21,7 +21,7 @@ use Rattle.event_pipe.specs.declared.message.Peer.TheVariants as peers
 use Rattle.event_pipe.specs.declared.reader.ReadEnd.{ReadEnd}
 use Rattle.event_pipe.specs.declared.reader.ReadEnd.TheVariants as read_ends
 use Rattle.event_pipe.specs.Message.{is_end}
-use Rattle.event_pipe.specs.Rule.{of, ended}
+use Rattle.event_pipe.specs.Rule.{of, has_last_event}
 use Rattle.event_pipe.specs.Ends.{Came}
 use Rattle.event_pipe.specs.Arrivals.{Arrived, line_limit}
 use Rattle.event_pipe.proofs.Keeps.{of-append}
@@ -136,7 +136,7 @@ iface_told (Iface line ∷ es) = ap (λ (l : List Event). Iface line ∷ l) (ifa
 iface_told (IfaceEnd ∷ es) = ap (λ (l : List Event). IfaceEnd ∷ l) (iface_told es)
 iface_told (x ∷ es) = iface_told es
 
-pub ended_told : (es : List Event) → ended (told_of es) ≡ ended es
+pub ended_told : (es : List Event) → has_last_event (told_of es) ≡ has_last_event es
 ended_told [] = refl
 ended_told (Iface line ∷ es) = ap (λ (b : Bool). is_quit line || b) (ended_told es)
 ended_told (IfaceEnd ∷ es) = refl
@@ -153,18 +153,18 @@ button_quit : (b : Bool) (s : RevivalState) (order : AnyOrder) → (with_button 
 button_quit true s order = refl
 button_quit false s order = refl
 
-keeping_quit : (s : RevivalState) (order : AnyOrder) → (keeping s order).quit ≡ s.quit
+keeping_quit : (s : RevivalState) (order : AnyOrder) → (state_with_kept s order).quit ≡ s.quit
 keeping_quit s (orders.Value name line) = value_quit (can_join s.kept (orders.Value name line) && can_join s.unsent (orders.Value name line)) s (orders.Value name line)
 keeping_quit s (orders.Button name line) = button_quit (can_join s.unsent (orders.Button name line)) s (orders.Button name line)
 keeping_quit s order = refl
 
-accepting_quit : (up : Option DialogueState) (s : RevivalState) (order : AnyOrder) → (accepting up s order).quit ≡ s.quit
+accepting_quit : (up : Option DialogueState) (s : RevivalState) (order : AnyOrder) → (state_if_accepted up s order).quit ≡ s.quit
 accepting_quit None s order = refl
 accepting_quit (Some up) s order = keeping_quit s order
 
-reading_quit : (s : RevivalState) (order : Option AnyOrder) → (reading s order).quit ≡ s.quit
+reading_quit : (s : RevivalState) (order : Option AnyOrder) → (state_after_reading s order).quit ≡ s.quit
 reading_quit s None = refl
-reading_quit s (Some order) = accepting_quit (accepted s order) s order
+reading_quit s (Some order) = accepting_quit (upper_if_accepted s order) s order
 
 or_assoc : (a b c : Bool) → ((a || b) || c) ≡ (a || (b || c))
 or_assoc true b c = refl
@@ -174,28 +174,28 @@ either_quit : (b : Bool) (s t : RevivalState) → t.quit ≡ s.quit → (cond b 
 either_quit true s t h = sym (or-true s.quit)
 either_quit false s t h = h ∙ sym (or-false s.quit)
 
-order_quit : (s : RevivalState) (line : List ℕ) → (settled (ordering s line)).quit ≡ (s.quit || (is_quit line || false))
-order_quit s line = settled_quit (ordering s line) ∙ either_quit (is_quit line) s (reading s (asked line)) (reading_quit s (asked line))
+order_quit : (s : RevivalState) (line : List ℕ) → (state_once_settled (state_after_line s line)).quit ≡ (s.quit || (is_quit line || false))
+order_quit s line = settled_quit (state_after_line s line) ∙ either_quit (is_quit line) s (state_after_reading s (order_of_line line)) (reading_quit s (order_of_line line))
 
 over_quit : (s : RevivalState) → (after s Over).quit ≡ (s.quit || false)
-over_quit s = settled_quit (closing s) ∙ sym (or-false s.quit)
+over_quit s = settled_quit (state_once_over s) ∙ sym (or-false s.quit)
 
-next_quit : (b : Bool) (s : RevivalState) → (after (ending s) (cond b Begin Over)).quit ≡ (s.quit || false)
-next_quit true s = settled_quit (beginning (ending s)) ∙ sym (or-false s.quit)
-next_quit false s = settled_quit (closing (ending s)) ∙ sym (or-false s.quit)
+next_quit : (b : Bool) (s : RevivalState) → (after (state_once_ended s) (cond b Begin Over)).quit ≡ (s.quit || false)
+next_quit true s = settled_quit (state_at_new_life (state_once_ended s)) ∙ sym (or-false s.quit)
+next_quit false s = settled_quit (state_once_over (state_once_ended s)) ∙ sym (or-false s.quit)
 
-event_quit : (s : RevivalState) (e : Event) → (state_after s e).quit ≡ (s.quit || ended (of 1 (e ∷ [])))
+event_quit : (s : RevivalState) (e : Event) → (state_after s e).quit ≡ (s.quit || has_last_event (of 1 (e ∷ [])))
 event_quit s (Iface line) = order_quit s line
 event_quit s IfaceEnd = order_quit s (codes "quit")
-event_quit s (Engine line) = settled_quit (hearing s (said_in line)) ∙ sym (or-false s.quit)
+event_quit s (Engine line) = settled_quit (state_once_heard s (said_in line)) ∙ sym (or-false s.quit)
 event_quit s EngineLong = next_quit (may_begin s) s
 event_quit s e = over_quit s
 
-quit_behind : (s : RevivalState) (es : List Event) → (state_behind s es).quit ≡ (s.quit || ended (of 1 es))
+quit_behind : (s : RevivalState) (es : List Event) → (state_behind s es).quit ≡ (s.quit || has_last_event (of 1 es))
 quit_behind s [] = sym (or-false s.quit)
 quit_behind s (e ∷ es) =
-    quit_behind (state_after s e) es ∙ ap (λ (b : Bool). b || ended (of 1 es)) (event_quit s e) ∙ or_assoc s.quit (ended (of 1 (e ∷ []))) (ended (of 1 es))
-    ∙ ap (λ (b : Bool). s.quit || b) (sym (any_append is_end (of 1 (e ∷ [])) (of 1 es)) ∙ ap ended (sym (of-append 1 (e ∷ []) es)))
+    quit_behind (state_after s e) es ∙ ap (λ (b : Bool). b || has_last_event (of 1 es)) (event_quit s e) ∙ or_assoc s.quit (has_last_event (of 1 (e ∷ []))) (has_last_event (of 1 es))
+    ∙ ap (λ (b : Bool). s.quit || b) (sym (any_append is_end (of 1 (e ∷ [])) (of 1 es)) ∙ ap has_last_event (sym (of-append 1 (e ∷ []) es)))
 
 -- BOTH SIDES HAVE ENDED
 
@@ -241,8 +241,8 @@ module _ (number : ℕ) (says : Option (List ℕ)) (tells : Bool) (es : List Eve
   told_up : of 1 lived.events ≡ told_of (of 1 b.events)
   told_up = sym (iface_marks lived.events) ∙ ap (λ (x : List Event). of 1 x) lived.taken_are ∙ iface_told b.events
 
-  over : ended (of 1 b.events) ≡ true
-  over = sym (ended_told (of 1 b.events)) ∙ ap ended (sym told_up) ∙ sym (quit_behind (opening number) lived.events) ∙ ap (λ (x : RevivalState). x.quit) (sym lived.played.state_is) ∙ quit
+  over : has_last_event (of 1 b.events) ≡ true
+  over = sym (ended_told (of 1 b.events)) ∙ ap has_last_event (sym told_up) ∙ sym (quit_behind (opening number) lived.events) ∙ ap (λ (x : RevivalState). x.quit) (sym lived.played.state_is) ∙ quit
 
   pub orders_are : of 1 lived.events ≡ told_of sent_up
   orders_are = told_up ∙ ap told_of (sym (up.front ∙ ap (λ (x : List Event). of 1 b.events ++ x) (up.whole over) ∙ append-nil (of 1 b.events)))

@@ -1,4 +1,4 @@
--- One more life among those that have ended, and what is heard behind the last.
+-- One more life among those that have ended, and what is heard after the last.
 use Rattle.std.proofs.Common.{◌≡◌, ◌∙◌, ℕ, ◌+◌, List, [], ◌∷◌, ◌++◌, map, length, Bool, true, false, ◌||◌, Option, refl, sym, ap, subst, arith, append-nil, append_assoc}
 use Rattle.std.proofs.lemmas.List.{map-append, length-append}
 use Rattle.std.proofs.lemmas.List.Elements.{filter-append}
@@ -13,7 +13,7 @@ use Rattle.child_engine.specs.Hosts.{fresh_source, fresh_sink}
 use Rattle.child_engine.specs.declared.host.HostFault.{HostFault}
 use Rattle.engine_revival.specs.declared.state.RevivalState.{RevivalState}
 use Rattle.engine_revival.specs.Script.{state_after, state_behind}
-use Rattle.event_pipe.specs.Arrivals.{failed}
+use Rattle.event_pipe.specs.Arrivals.{is_read_fault}
 use Rattle.event_pipe.specs.declared.reader.ReadEnd.{ReadEnd}
 use Rattle.host_run.specs.Readers.{lacked_memory}
 use Rattle.sink_offers.specs.Streams.{Offered}
@@ -145,7 +145,7 @@ module _ {S K : Type 0} (source : S → Supplied) (sink : K → Received) (says 
   lives_stay : c.state.lives ≡ a.state.lives
   lives_stay = follows_lives b.state c.state next over.follows ∙ ap (λ (y : RevivalState). y.lives) looped.played.up.state_is ∙ (events_stay a.state looped.events).lives
 
-  pub lives_on : runs' ≡ runs ++ last ∷ [] → tally'.engine_read ≡ (tally.engine_read || failed end) → tally'.engine_write ≡ (tally.engine_write || b.failed.engine) → tally'.memory ≡ (tally.memory || lacked_memory end)
+  pub lives_on : runs' ≡ runs ++ last ∷ [] → tally'.engine_read ≡ (tally.engine_read || is_read_fault end) → tally'.engine_write ≡ (tally.engine_write || b.failed.engine) → tally'.memory ≡ (tally.memory || lacked_memory end)
       → LivesOn source sink says tells a c sent sent' runs runs' tally tally' run next
   lives_on more reads writes memory = record {
     events = heard_of looped.events;
@@ -260,7 +260,7 @@ module _ {S K : Type 0} (source : S → Supplied) (sink : K → Received) (says 
   }
 
   tallied_next : AreTallied source sink runs' tally'
-  tallied_next = tallied_more source sink runs runs' more.last tally tally' (failed more.end) more.broken more.runs_are lines_now.count (offered_all.count refl) more.reads more.writes goes.lived.tallied
+  tallied_next = tallied_more source sink runs runs' more.last tally tally' (is_read_fault more.end) more.broken more.runs_are lines_now.count (offered_all.count refl) more.reads more.writes goes.lived.tallied
 
   pub has_lived_next : HasLived source sink says tells a c sent' runs' tally' next_text (is_refused next)
   has_lived_next = record {
@@ -269,7 +269,7 @@ module _ {S K : Type 0} (source : S → Supplied) (sink : K → Received) (says 
         ap (told_of_runs source sink) more.runs_are ∙ map-append _ runs (more.last ∷ [])
         ∙ ap (λ (x : List _). x ++ told_of_runs source sink (more.last ∷ [])) goes.lived.told ∙ sym (map-append _ lives (life_now ∷ []));
     tallies = record {
-      reads = more.reads ∙ ap (λ (x : Bool). x || failed more.end) goes.lived.tallies.reads ∙ sym (any_last (λ (x : Life). failed x.end) lives life_now);
+      reads = more.reads ∙ ap (λ (x : Bool). x || is_read_fault more.end) goes.lived.tallies.reads ∙ sym (any_last (λ (x : Life). is_read_fault x.end) lives life_now);
       writes = more.writes ∙ ap (λ (x : Bool). x || more.broken) goes.lived.tallies.writes ∙ sym (any_last (λ (x : Life). x.broken) lives life_now);
       memory = more.memory ∙ ap (λ (x : Bool). x || lacked_memory more.end) goes.lived.tallies.memory ∙ sym (any_last (λ (x : Life). lacked_memory x.end) lives life_now);
     };

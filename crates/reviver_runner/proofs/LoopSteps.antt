@@ -10,9 +10,9 @@ use Rattle.child_engine.specs.declared.host.HostFault.{HostFault}
 use Rattle.engine_revival.specs.declared.state.RevivalState.{RevivalState}
 use Rattle.engine_revival.specs.Steps.{opening}
 use Rattle.event_pipe.specs.Counts.{Tells}
-use Rattle.event_pipe.specs.Ends.{IsSender, KeepsSender, sent}
+use Rattle.event_pipe.specs.Ends.{IsSender, KeepsSender, events_sent}
 use Rattle.event_pipe.specs.declared.pipe.PipeSend.{PipeSend}
-use Rattle.event_pipe.specs.Rule.{ended}
+use Rattle.event_pipe.specs.Rule.{has_last_event}
 use Rattle.host_run.specs.Asked.{StartsEngines}
 use Rattle.host_run.specs.Logs.{is_failed}
 use Rattle.host_run.proofs.Asked.{starts_none, starts_both}
@@ -46,14 +46,14 @@ keeps_both a b c x y = record {
   processes = y.processes ∙ x.processes;
 }
 
--- behind the last life nothing is sent
+-- after the last life nothing is sent
 pub keeps_drained : {L P : Type 0} (a b c : ReviverParts L P) → KeepsEnds a b → c.to ≡ b.to → KeepsLoop b.looping c.looping → deque_capacity c.processes ≡ deque_capacity b.processes → KeepsEnds a c
 keeps_drained a b c k to looping room = record {
   ready = record {
     looping = ready_still b.looping c.looping k.ready.looping looping;
     sender = subst IsSender (sym to) k.ready.sender;
     engine = ap (λ (s : PipeSend). s.peer) to ∙ k.ready.engine;
-    going = ap (λ (s : PipeSend). ended (sent s)) to ∙ k.ready.going;
+    going = ap (λ (s : PipeSend). has_last_event (events_sent s)) to ∙ k.ready.going;
   };
   sender = subst (λ (s : PipeSend). KeepsSender a.to s) (sym to) k.sender;
   looping = loop_both a.looping b.looping c.looping k.looping looping;
@@ -183,7 +183,7 @@ pub lives_as : {S K : Type 0} (source : S → Supplied) (sink : K → Received) 
     → b ≡ record b0 { runs_out = n } → LivesOn source sink b.says b.tells a c sent sent' runs runs' tally tally' run next → LivesOn source sink b0.says b0.tells a c sent sent' runs runs' tally tally' run next
 lives_as source sink b0 b a c sent sent' runs runs' tally tally' run next n e x = subst (λ (y : Books). LivesOn source sink y.says y.tells a c sent sent' runs runs' tally tally' run next) e x
 
--- what one turn of the loop leaves, behind what stood before it
+-- what one turn of the loop leaves, after what stood before it
 module _ {S K : Type 0} (source : S → Supplied) (sink : K → Received) (words words' : List (List ℕ)) (h h1 h2 : HostShown) (a b c : Shown) (sent sent' : List Event) (runs runs' : List (LifeRun S K)) (tally tally' : LivesTally)
     (run : LifeRun S K) (next : NextLife S K) (d d' : ℕ)
     (same : words' ≡ words) (was : HostGoes words h h1 d) (going : GoesOn source sink h.books.says h.books.tells a b sent runs tally run) (goes : Goes b.state d) (lives : b.state.lives ≡ a.state.lives) (len : d ≡ length runs) (len' : d' ≡ length runs')

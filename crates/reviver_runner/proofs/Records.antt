@@ -9,7 +9,7 @@ use Rattle.line_io.specs.Lines.{items}
 use Rattle.event_pipe.specs.declared.message.Peer.TheVariants as peers
 use Rattle.event_pipe.specs.declared.reader.ReadEnd.{ReadEnd}
 use Rattle.event_pipe.specs.declared.reader.ReadEnd.TheVariants as read_ends
-use Rattle.event_pipe.specs.Arrivals.{Arrived, failed, line_limit}
+use Rattle.event_pipe.specs.Arrivals.{Arrived, is_read_fault, line_limit}
 use Rattle.child_engine.specs.Hosts.{Books, Told, fresh_source, told_by}
 use Rattle.engine_revival.specs.Script.{revival_script}
 use Rattle.host_run.specs.declared.failures.Failures.{Failures}
@@ -56,10 +56,10 @@ gave_whole bytes l lines done =
     }
 
 all_gave : (says : Option (List ℕ)) (tells : Bool) (bytes : List ℕ) (lives : List Life) → says ≡ Some bytes → AreLives says tells lives
-    → list_any (λ l. failed l.end) lives ≡ false → list_any (λ l. lacked_memory l.end) lives ≡ false → AllByRecursion (GaveAll bytes) lives
+    → list_any (λ l. is_read_fault l.end) lives ≡ false → list_any (λ l. lacked_memory l.end) lives ≡ false → AllByRecursion (GaveAll bytes) lives
 all_gave says tells bytes [] e a f m = tt
 all_gave says tells bytes (l ∷ lives) e a f m =
-    let fine = or_parts (failed l.end) (list_any (λ (x : Life). failed x.end) lives) f in
+    let fine = or_parts (is_read_fault l.end) (list_any (λ (x : Life). is_read_fault x.end) lives) f in
     let some = or_parts (lacked_memory l.end) (list_any (λ (x : Life). lacked_memory x.end) lives) m in
     (gave_whole bytes l (subst (λ (x : Option (List ℕ)). LinesOf (fresh_source x) l.read l.lines l.end) e a.0.lines) (is_done l.end fine.0 some.0), all_gave says tells bytes lives e a.1 fine.1 some.1)
 

@@ -2,7 +2,7 @@
 use Rattle.std.proofs.Common.{◌≡◌, ◌∙◌, ℕ, true, false, refl, sym, ap, List, [], ◌∷◌}
 use Rattle.line_io.specs.Event.{Event, Iface, IfaceEnd, Engine, EngineLong, EngineEnd}
 use Rattle.event_pipe.specs.declared.message.Peer.TheVariants as peers
-use Rattle.event_pipe.specs.Rule.{sent_by, ended}
+use Rattle.event_pipe.specs.Rule.{sent_by, has_last_event}
 use Rattle.engine_revival.specs.declared.state.RevivalState.{RevivalState}
 use Rattle.engine_revival.specs.Script.{AllMayHappen, texts_from, revival_script}
 use Rattle.engine_revival.specs.Steps.{opening}
@@ -26,7 +26,7 @@ some_mark s (event ∷ events) may e = let never : false ≡ true = may.0 in cc
 pub no_empty_log : HasNoEmptyLog
 no_empty_log number bytes before after run e =
     let none = some_mark (opening number) run.events run.may (one_log (revival_script number run.events) [] after.books.logs run.log e) in
-    let over = sym (ended_told run.arrived) ∙ ap ended (sym run.orders ∙ ap (λ (es : List Event). sent_by peers.Iface es) none) in
+    let over = sym (ended_told run.arrived) ∙ ap has_last_event (sym run.orders ∙ ap (λ (es : List Event). sent_by peers.Iface es) none) in
     let ends : false ≡ true = sym over ∙ run.iface.over in
     cc
 

@@ -6,7 +6,7 @@ use Rattle.engine_revival.specs.declared.words.DialogueState.{DialogueState}
 use Rattle.engine_revival.specs.declared.words.DialogueState.TheVariants as upper
 use Rattle.engine_revival.specs.declared.words.LifeState.{LifeState}
 use Rattle.engine_revival.specs.declared.words.LifeState.TheVariants as life
-use Rattle.engine_revival.specs.Steps.{due_to, after_due, answer_to, after_answer, due_of, settled}
+use Rattle.engine_revival.specs.Steps.{due_to, after_due, answer_to, after_answer, due_of, state_once_settled}
 
 record Same (s s' : RevivalState) : Type 0 where
   life : s'.life ≡ s.life
@@ -21,11 +21,11 @@ due_quit : (l : LifeState) (q : Bool) (u : DialogueState) (s : RevivalState) →
 due_quit life.Idle false upper.Before s = refl
 due_quit l q u s = refl
 
-pub settled_quit : (s : RevivalState) → (settled s).quit ≡ s.quit
+pub settled_quit : (s : RevivalState) → (state_once_settled s).quit ≡ s.quit
 settled_quit s = (answered s.life s.upper (after_due (due_of s) s)).quit ∙ due_quit s.life s.quit s.upper s
 
 due_over : (s : RevivalState) → s.life ≡ life.Over → (after_due (due_of s) s).life ≡ life.Over
 due_over s h = ap (λ (l : LifeState). (after_due (due_to l s.quit s.upper) s).life) h ∙ h
 
-pub settled_over : (s : RevivalState) → s.life ≡ life.Over → (settled s).life ≡ life.Over
+pub settled_over : (s : RevivalState) → s.life ≡ life.Over → (state_once_settled s).life ≡ life.Over
 settled_over s h = (answered s.life s.upper (after_due (due_of s) s)).life ∙ due_over s h

@@ -6,8 +6,8 @@ use Rattle.engine_revival.specs.declared.state.RevivalState.{RevivalState}
 use Rattle.engine_revival.specs.Steps.{may_begin, is_alive}
 use Rattle.engine_revival.specs.Script.{state_behind}
 use Rattle.std.specs.VecDeque.{deque_capacity}
-use Rattle.event_pipe.specs.Ends.{KeepsSender, KeepsTaker, sent}
-use Rattle.event_pipe.specs.Rule.{ended}
+use Rattle.event_pipe.specs.Ends.{KeepsSender, KeepsTaker, events_sent}
+use Rattle.event_pipe.specs.Rule.{has_last_event}
 use Rattle.event_pipe.specs.declared.pipe.PipeTake.{PipeTake}
 use Rattle.life_runner.specs.declared.looping.RevivalLoop.{RevivalLoop}
 use Rattle.life_runner.specs.Looped.{KeepsLoop, KeepsMarks}
@@ -48,8 +48,8 @@ continues n n' s s' s'' es (nexts.Refused fault) m g e h =
     let same = h.1 in
     (omega (arith, same, begun, first, m), h.2)
 
--- the ends of the channel behind a life and what follows of it
-pub keeps_turn : {L P : Type 0} (old new : ReviverParts L P) (mid : RevivalLoop L) → AreReady old → KeepsSender old.to new.to → ended (sent new.to) ≡ false → KeepsLoop old.looping mid → new.looping.from ≡ mid.from
+-- the ends of the channel after a life and what follows of it
+pub keeps_turn : {L P : Type 0} (old new : ReviverParts L P) (mid : RevivalLoop L) → AreReady old → KeepsSender old.to new.to → has_last_event (events_sent new.to) ≡ false → KeepsLoop old.looping mid → new.looping.from ≡ mid.from
     → KeepsMarks mid.marks new.looping.marks → deque_capacity new.processes ≡ deque_capacity old.processes → KeepsEnds old new
 keeps_turn old new mid ready sender going keeps from marks room =
     let looping : KeepsLoop old.looping new.looping = record {

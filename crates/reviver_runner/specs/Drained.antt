@@ -1,4 +1,4 @@
--- What is heard behind the last life.
+-- What is heard after the last life.
 use Rattle.std.specs.Prelude.{◌≡◌, List, [], ◌++◌, map, false}
 use Rattle.line_io.specs.Event.{Event}
 use Rattle.engine_revival.specs.declared.words.LifeState.TheVariants as life

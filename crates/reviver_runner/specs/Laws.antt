@@ -9,7 +9,7 @@ abbrev pub HasNoEmptyLog : Type 0
 HasNoEmptyLog = (number : ℕ) (bytes : List ℕ) (before after : Outside) → IsWhole number bytes before after
     → after.books.logs ≡ Some [] ∷ [] → ⊥
 
--- a log with a byte behind its script
+-- a log with a byte after its script
 abbrev pub HasNoLongerLog : Type 0
 HasNoLongerLog = (number : ℕ) (bytes : List ℕ) (before after : Outside)
     (run : IsWhole number bytes before after) (byte : ℕ) (more : List ℕ)

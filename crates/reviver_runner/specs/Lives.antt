@@ -4,7 +4,7 @@ use Rattle.std.specs.List.{AllByRecursion, flat_map, list_any}
 use Rattle.line_io.specs.Event.{Event, EngineLong, EngineEnd}
 use Rattle.line_io.specs.Source.{Supplied, Received}
 use Rattle.event_pipe.specs.declared.reader.ReadEnd.{ReadEnd}
-use Rattle.event_pipe.specs.Arrivals.{failed as failed_of}
+use Rattle.event_pipe.specs.Arrivals.{is_read_fault as failed_of}
 use Rattle.event_pipe.specs.Counts.{Tells}
 use Rattle.child_engine.specs.Asked.{Asked}
 use Rattle.child_engine.specs.Hosts.{Books, Told, fresh_source, fresh_sink, told_by, with_run}
@@ -47,7 +47,7 @@ pub record AreTallied {S K : Type 0} (source : S → Supplied) (sink : K → Rec
 
 -- A LIFE THAT HAS ENDED
 
--- What a life shows: its streams behind it, the lines that were sent of it, the text that it was offered, how its reader
+-- What a life shows: its streams after it, the lines that were sent of it, the text that it was offered, how its reader
 -- ended, and whether a write to it failed.
 pub record Life : Type 0 where
   pub read : Supplied
@@ -85,7 +85,7 @@ pub record Tallies (lives : List Life) (tally : LivesTally) : Type 0 where
 
 -- WHAT IS WRITTEN TO EACH LIFE
 
--- the text to each life that has ended, in their order, and to the life behind them
+-- the text to each life that has ended, in their order, and to the life after them
 pub record ToLives : Type 0 where
   pub ended : List (List ℕ)
   pub present : List ℕ
@@ -93,7 +93,7 @@ pub record ToLives : Type 0 where
 abbrev pub to_none : ToLives
 to_none = record { ended = []; present = [] }
 
--- Behind a mark of an engine's end it is the next life that is written to.
+-- After a mark of an engine's end it is the next life that is written to.
 abbrev pub to_next : Bool → ToLives → List ℕ → ToLives
 to_next true to text = record { ended = to.ended ++ to.present ∷ []; present = text }
 to_next false to text = record { ended = to.ended; present = to.present ++ text }

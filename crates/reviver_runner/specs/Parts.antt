@@ -4,8 +4,8 @@ use Rattle.std.specs.VecDeque.{deque_capacity}
 use Rattle.engine_revival.specs.declared.script.TheConstants.{EVENT_ROOM}
 use Rattle.engine_revival.specs.Steps.{opening}
 use Rattle.event_pipe.specs.declared.message.Peer.TheVariants as peers
-use Rattle.event_pipe.specs.Ends.{IsSender, IsFreshSender, IsFreshTaker, KeepsSender, AreOne, sent}
-use Rattle.event_pipe.specs.Rule.{ended}
+use Rattle.event_pipe.specs.Ends.{IsSender, IsFreshSender, IsFreshTaker, KeepsSender, AreOne, events_sent}
+use Rattle.event_pipe.specs.Rule.{has_last_event}
 use Rattle.life_runner.specs.Looped.{IsReadyLoop, KeepsLoop}
 use Rattle.reviver_runner.specs.declared.parts.MadeParts.{MadeParts}
 use Rattle.reviver_runner.specs.declared.parts.ReviverParts.{ReviverParts}
@@ -24,7 +24,7 @@ pub record AreReady {L P : Type 0} (parts : ReviverParts L P) : Type 0 where
   pub looping : IsReadyLoop parts.looping
   pub sender : IsSender parts.to
   pub engine : parts.to.peer ≡ peers.Engine
-  pub going : ended (sent parts.to) ≡ false
+  pub going : has_last_event (events_sent parts.to) ≡ false
 
 -- the ends of the channel, the log and its room are those of before, and there is as much room for processes
 pub record KeepsEnds {L P : Type 0} (old new : ReviverParts L P) : Type 0 where

@@ -6,9 +6,9 @@ use Rattle.line_io.specs.Event.{Event}
 use Rattle.line_io.specs.Source.{Supplied, Received}
 use Rattle.event_pipe.specs.declared.message.Peer.TheVariants as peers
 use Rattle.event_pipe.specs.declared.reader.ReadEnd.{ReadEnd}
-use Rattle.event_pipe.specs.Arrivals.{Arrived, failed}
+use Rattle.event_pipe.specs.Arrivals.{Arrived, is_read_fault}
 use Rattle.event_pipe.specs.Counts.{Tells}
-use Rattle.event_pipe.specs.Ends.{sent, taken}
+use Rattle.event_pipe.specs.Ends.{events_sent, events_taken}
 use Rattle.event_pipe.specs.Rule.{sent_by}
 use Rattle.child_engine.specs.Hosts.{Books}
 use Rattle.child_engine.specs.declared.host.Faults.{Faults}
@@ -69,8 +69,8 @@ pub record MayGo {L P : Type 0} (lives : ℕ) (parts : ReviverParts L P) : Type 
   pub few : lives ≤ 9
   pub begins : parts.looping.revival.state ≡ opening lives
   pub ready : AreReady parts
-  pub unsent : sent parts.to ≡ []
-  pub untaken : taken parts.looping.from ≡ []
+  pub unsent : events_sent parts.to ≡ []
+  pub untaken : events_taken parts.looping.from ≡ []
   pub unfailed : parts.looping.failed ≡ none_failed
   pub process : deque_len parts.processes ≡ 1
   pub room : 10 ≤ deque_capacity parts.processes
@@ -86,8 +86,8 @@ pub record RanLives {S K : Type 0} (source : S → Supplied) (sink : K → Recei
 
 -- why there was no memory: a reader of a life or of the interface had none, or a log or a life was not opened
 pub record TellsRun (upper : ReadEnd) (lives : List Life) (failures : Failures) : Type 0 where
-  pub iface_read : failures.iface_read ≡ failed upper
-  pub engine_read : failures.engine_read ≡ list_any (λ l. failed l.end) lives
+  pub iface_read : failures.iface_read ≡ is_read_fault upper
+  pub engine_read : failures.engine_read ≡ list_any (λ l. is_read_fault l.end) lives
   pub engine_write : failures.engine_write ≡ list_any (λ l. l.broken) lives
   pub iface_memory : failures.memory ≡ false → lacked_memory upper ≡ false
   pub life_memory : failures.memory ≡ false → list_any (λ l. lacked_memory l.end) lives ≡ false
@@ -102,7 +102,7 @@ pub record Heard (lives : ℕ) (input input' : Supplied) (upper : ReadEnd) (runs
   pub did_arrive : Arrived peers.Iface input input' arrived upper
   pub orders : sent_by peers.Iface events ≡ told_of arrived
   pub marks : map as_long (sent_by peers.Engine events) ≡ life_events runs
-  -- what is written to each life, and behind the last one nothing is
+  -- what is written to each life, and after the last one nothing is
   pub texts : to_lives to_none (opening lives) events ≡ record { ended = map (λ l. l.text) runs; present = [] }
   pub begun : (state_behind (opening lives) events).begun ≡ length runs
 

@@ -13,12 +13,12 @@ use std::collections::VecDeque;
 fn close_all<H: Host>(
     host: &mut H,
     runs: VecDeque<LifeRun<H::EngineSource, H::EngineSink>>,
-    processes: VecDeque<H::ChildProcess>,
+    processes: VecDeque<H::EngineProcess>,
 ) -> bool
 where
     H::EngineSource: Drop,
     H::EngineSink: Drop,
-    H::ChildProcess: Drop,
+    H::EngineProcess: Drop,
     requires processes { length processes.items ≡ length runs.items }
     requires out { length (H.books host.old).runs + length runs.items ≡ (H.books host.old).runs_out }
     ensures books { HasClosed (H.books host.old) (H.books host.new)
@@ -51,13 +51,13 @@ where
 pub(crate) fn close_everything<H: Host>(
     host: &mut H,
     runs: VecDeque<LifeRun<H::EngineSource, H::EngineSink>>,
-    processes: VecDeque<H::ChildProcess>,
+    processes: VecDeque<H::EngineProcess>,
     log: Option<H::Log>,
 ) -> bool
 where
     H::EngineSource: Drop,
     H::EngineSink: Drop,
-    H::ChildProcess: Drop,
+    H::EngineProcess: Drop,
     requires processes { length processes.items ≡ length runs.items }
     requires out { length (H.books host.old).runs + length runs.items ≡ (H.books host.old).runs_out }
     requires logs { length (H.books host.old).logs + log_count log ≡ (H.books host.old).logs_out }

@@ -1,8 +1,8 @@
-// Behind the last life.
+// After the last life.
 ghost use Rattle.std.specs.Prelude.{◌≡◌, true};
 ghost use Rattle.line_io.specs.Event.{event_of};
 ghost use Rattle.engine_revival.specs.declared.words.LifeState.TheVariants as life;
-ghost use Rattle.life_runner.specs.Looped.{IsReadyLoop, KeepsLoop, shown};
+ghost use Rattle.life_runner.specs.Looped.{IsReadyLoop, KeepsLoop, loop_reports};
 ghost use Rattle.life_runner.specs.Played.{is_order};
 ghost use Rattle.reviver_runner.specs.Drained.{Drained};
 
@@ -22,8 +22,8 @@ fn drain_next<O: Sink, L: Sink, R: Wait>(rt: &R, looping: &mut RevivalLoop<L>, o
     requires over { looping.old.revival.state.life ≡ life.Over }
     requires ready { IsReadyLoop looping.old }
     ensures keeps { KeepsLoop looping.old looping.new }
-    ensures drained { Drained (shown O.state L.state looping.old output.old)
-        (shown O.state L.state looping.new output.new) }
+    ensures drained { Drained (loop_reports O.state L.state looping.old output.old)
+        (loop_reports O.state L.state looping.new output.new) }
 {
     let RevivalLoop {
         revival,
@@ -50,8 +50,8 @@ pub(crate) fn drain<O: Sink, L: Sink, R: Wait>(rt: &R, looping: &mut RevivalLoop
     requires ready { IsReadyLoop looping.old }
     ensures keeps { KeepsLoop looping.old looping.new }
     ensures quit { looping.new.revival.state.quit ≡ true }
-    ensures drained { Drained (shown O.state L.state looping.old output.old)
-        (shown O.state L.state looping.new output.new) }
+    ensures drained { Drained (loop_reports O.state L.state looping.old output.old)
+        (loop_reports O.state L.state looping.new output.new) }
 {
     for _ in rt.forever() {
         if looping.revival.has_quit() {

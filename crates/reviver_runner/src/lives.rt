@@ -1,6 +1,6 @@
 // The lives that have ended.
 ghost use Rattle.std.specs.Prelude.{◌≡◌, ◌||◌};
-ghost use Rattle.event_pipe.specs.Arrivals.{failed};
+ghost use Rattle.event_pipe.specs.Arrivals.{is_read_fault};
 ghost use Rattle.host_run.specs.Readers.{lacked_memory};
 ghost use Rattle.reviver_runner.specs.Lives.{empty_tally};
 
@@ -31,7 +31,7 @@ impl LivesTally {
 
     /// With one more life.
     pub(crate) fn with(self, end: ReadEnd, write_failed: bool) -> LivesTally
-        ensures read { result.engine_read ≡ (self.engine_read || failed end) }
+        ensures read { result.engine_read ≡ (self.engine_read || is_read_fault end) }
         ensures write { result.engine_write ≡ (self.engine_write || write_failed) }
         ensures memory { result.memory ≡ (self.memory || lacked_memory end) }
     {

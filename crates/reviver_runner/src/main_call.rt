@@ -31,7 +31,7 @@ fn end_of<I: Source + Send, O: Sink + Send, H: Host + Send, R: Threads + Wait + 
 where
     H::EngineSource: Drop,
     H::EngineSink: LetGo + Drop,
-    H::ChildProcess: Drop + Send,
+    H::EngineProcess: Drop + Send,
     requires { IsUnused (H.books host.old) }
     ensures ends { Ends (AreTaken (bytes_of words.now)) (LeavesFor (bytes_of words.now)
         (outside_of I.state O.state H.faults H.books interface.old host.old)
@@ -87,7 +87,7 @@ pub fn revive_main<
 where
     H::EngineSource: Drop,
     H::EngineSink: LetGo + Drop,
-    H::ChildProcess: Drop + Send,
+    H::EngineProcess: Drop + Send,
     requires { IsUnused (H.books host.old) }
     ensures answers { Answers program (AreTaken (bytes_of words.now)) (LeavesFor (bytes_of words.now)
         (outside_of I.state O.state H.faults H.books interface.old host.old)

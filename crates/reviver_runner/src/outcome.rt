@@ -3,9 +3,9 @@ ghost use Rattle.std.specs.Prelude.{◌≡◌, ◌≤◌, [], length, map, strin
 ghost use Rattle.std.specs.VecDeque.{deque_len, deque_capacity};
 ghost use Rattle.engine_revival.specs.declared.words.LifeState.TheVariants as life;
 ghost use Rattle.event_pipe.specs.Arrivals.{Arrived};
-ghost use Rattle.event_pipe.specs.Ends.{IsFreshSender, KeepsSender, KeepsTaker, sent};
+ghost use Rattle.event_pipe.specs.Ends.{IsFreshSender, KeepsSender, KeepsTaker, events_sent};
 ghost use Rattle.event_pipe.specs.declared.message.Peer.TheVariants as peers;
-ghost use Rattle.life_runner.specs.Looped.{shown};
+ghost use Rattle.life_runner.specs.Looped.{loop_reports};
 ghost use Rattle.sink_offers.specs.Streams.{log_state};
 ghost use Rattle.reviver_runner.specs.Lives.{IsBegun, host_shown};
 ghost use Rattle.reviver_runner.specs.Parts.{IsMade, KeepsEnds};
@@ -37,7 +37,7 @@ pub(crate) struct LivesEnd {
 }
 
 /// A run of all lives whose runs and log are not closed yet.
-pub(crate) struct Outcome<S, K, P, L> {
+pub(crate) struct LivesOutcome<S, K, P, L> {
     pub end: LivesEnd,
     pub ended: VecDeque<LifeRun<S, K>>,
     pub processes: VecDeque<P>,
@@ -50,13 +50,13 @@ fn run_lives<O: Sink + Send, H: Host, R: Threads + Wait + Sync>(
     host: &mut H,
     first: LifeRun<H::EngineSource, H::EngineSink>,
     runs: &mut AllRuns<H::EngineSource, H::EngineSink>,
-    parts: &mut ReviverParts<H::Log, H::ChildProcess>,
+    parts: &mut ReviverParts<H::Log, H::EngineProcess>,
     output: &mut O,
 ) -> Option<HostFault>
 where
     H::EngineSource: Drop,
     H::EngineSink: LetGo + Drop,
-    H::ChildProcess: Drop,
+    H::EngineProcess: Drop,
     requires runs { MayGoOn (H.books host.old) runs.old }
     requires parts { MayGo parts.old.looping.revival.state.lives parts.old }
     requires begun { IsBegun (H.books host.old).says (H.books host.old).tells
@@ -67,9 +67,9 @@ where
     ensures ran { RanLives H.EngineSource.state H.EngineSink.state
         (map string_bytes runs.old.words.items)
         (host_shown H.books H.faults H.asked host.old) (host_shown H.books H.faults H.asked host.new)
-        (shown O.state H.Log.state parts.old.looping output.old)
-        (shown O.state H.Log.state parts.new.looping output.new)
-        (sent parts.new.to) runs.new.ended.items runs.new.tally result }
+        (loop_reports O.state H.Log.state parts.old.looping output.old)
+        (loop_reports O.state H.Log.state parts.new.looping output.new)
+        (events_sent parts.new.to) runs.new.ended.items runs.new.tally result }
 {
     let mut run = first;
     for _ in rt.forever() {
@@ -87,13 +87,13 @@ fn run_all<O: Sink + Send, H: Host, R: Threads + Wait + Sync>(
     rt: &R,
     host: &mut H,
     runs: &mut AllRuns<H::EngineSource, H::EngineSink>,
-    parts: &mut ReviverParts<H::Log, H::ChildProcess>,
+    parts: &mut ReviverParts<H::Log, H::EngineProcess>,
     output: &mut O,
 ) -> Option<HostFault>
 where
     H::EngineSource: Drop,
     H::EngineSink: LetGo + Drop,
-    H::ChildProcess: Drop,
+    H::EngineProcess: Drop,
     requires runs { MayRun H.EngineSource.state H.EngineSink.state (H.books host.old) runs.old }
     requires parts { MayGo parts.old.looping.revival.state.lives parts.old }
     ensures sender { KeepsSender parts.old.to parts.new.to }
@@ -104,9 +104,9 @@ where
     ensures ran { RanLives H.EngineSource.state H.EngineSink.state
         (map string_bytes runs.old.words.items)
         (host_shown H.books H.faults H.asked host.old) (host_shown H.books H.faults H.asked host.new)
-        (shown O.state H.Log.state parts.old.looping output.old)
-        (shown O.state H.Log.state parts.new.looping output.new)
-        (sent parts.new.to) runs.new.ended.items runs.new.tally result }
+        (loop_reports O.state H.Log.state parts.old.looping output.old)
+        (loop_reports O.state H.Log.state parts.new.looping output.new)
+        (events_sent parts.new.to) runs.new.ended.items runs.new.tally result }
 {
     let Some(first) = runs.first.take() else {
         unreachable!()
@@ -121,20 +121,20 @@ fn run_beside<I: Source + Send, O: Sink + Send, H: Host + Send, R: Threads + Wai
     rt: &R,
     host: &mut H,
     runs: &mut AllRuns<H::EngineSource, H::EngineSink>,
-    parts: &mut ReviverParts<H::Log, H::ChildProcess>,
+    parts: &mut ReviverParts<H::Log, H::EngineProcess>,
     reader: &mut UpperReader,
     interface: &mut Interface<I, O>,
 ) -> (ReadEnd, Option<HostFault>)
 where
     H::EngineSource: Drop,
     H::EngineSink: LetGo + Drop,
-    H::ChildProcess: Drop + Send,
+    H::EngineProcess: Drop + Send,
     requires iface { IsFreshSender reader.old.iface peers.Iface }
     requires runs { MayRun H.EngineSource.state H.EngineSink.state (H.books host.old) runs.old }
     requires parts { MayGo parts.old.looping.revival.state.lives parts.old }
     ensures iface { KeepsSender reader.old.iface reader.new.iface }
     ensures arrived { Arrived peers.Iface
-        (I.state interface.old.input) (I.state interface.new.input) (sent reader.new.iface) result.0 }
+        (I.state interface.old.input) (I.state interface.new.input) (events_sent reader.new.iface) result.0 }
     ensures sender { KeepsSender parts.old.to parts.new.to }
     ensures taker { KeepsTaker parts.old.looping.from parts.new.looping.from }
     ensures kept { is_some parts.new.looping.marks.log ≡ is_some parts.old.looping.marks.log }
@@ -143,9 +143,9 @@ where
     ensures ran { RanLives H.EngineSource.state H.EngineSink.state
         (map string_bytes runs.old.words.items)
         (host_shown H.books H.faults H.asked host.old) (host_shown H.books H.faults H.asked host.new)
-        (shown O.state H.Log.state parts.old.looping interface.old.output)
-        (shown O.state H.Log.state parts.new.looping interface.new.output)
-        (sent parts.new.to) runs.new.ended.items runs.new.tally result.1 }
+        (loop_reports O.state H.Log.state parts.old.looping interface.old.output)
+        (loop_reports O.state H.Log.state parts.new.looping interface.new.output)
+        (events_sent parts.new.to) runs.new.ended.items runs.new.tally result.1 }
 {
     let Interface { input, output } = interface;
     join_mut(
@@ -170,15 +170,15 @@ pub(crate) fn run_opened<
 >(
     rt: &R,
     alloc: Global,
-    ready: ReadyLives<H::EngineSource, H::EngineSink, H::ChildProcess>,
+    ready: ReadyLives<H::EngineSource, H::EngineSink, H::EngineProcess>,
     log: Option<H::Log>,
     interface: &mut Interface<I, O>,
     host: &mut H,
-) -> Outcome<H::EngineSource, H::EngineSink, H::ChildProcess, H::Log>
+) -> LivesOutcome<H::EngineSource, H::EngineSink, H::EngineProcess, H::Log>
 where
     H::EngineSource: Drop,
     H::EngineSink: LetGo + Drop,
-    H::ChildProcess: Drop + Send,
+    H::EngineProcess: Drop + Send,
     requires made { IsMade ready.made.revival.state.lives ready.made }
     requires some { 1 ≤ ready.made.revival.state.lives }
     requires few { ready.made.revival.state.lives ≤ 9 }
@@ -244,7 +244,7 @@ where
         ended,
         tally,
     } = runs;
-    Outcome {
+    LivesOutcome {
         end: LivesEnd {
             upper,
             tally,

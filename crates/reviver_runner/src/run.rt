@@ -8,7 +8,7 @@ ghost use Rattle.reviver_runner.specs.Parts.{IsMade};
 ghost use Rattle.reviver_runner.specs.Ran.{MayRun, Leaves};
 
 use crate::closing::close_everything;
-use crate::outcome::{Outcome, run_opened};
+use crate::outcome::{LivesOutcome, run_opened};
 use crate::starting::{ReadyLives, start};
 use child_engine::{Host, LetGo};
 use host_run::{
@@ -26,7 +26,7 @@ use std::thread::Threads;
 fn run_started<I: Source + Send, O: Sink + Send, H: Host + Send, R: Threads + Wait + Sync>(
     rt: &R,
     alloc: Global,
-    ready: ReadyLives<H::EngineSource, H::EngineSink, H::ChildProcess>,
+    ready: ReadyLives<H::EngineSource, H::EngineSink, H::EngineProcess>,
     log_name: &str,
     interface: &mut Interface<I, O>,
     host: &mut H,
@@ -34,7 +34,7 @@ fn run_started<I: Source + Send, O: Sink + Send, H: Host + Send, R: Threads + Wa
 where
     H::EngineSource: Drop,
     H::EngineSink: LetGo + Drop,
-    H::ChildProcess: Drop + Send,
+    H::EngineProcess: Drop + Send,
     requires made { IsMade ready.made.revival.state.lives ready.made }
     requires some { 1 ≤ ready.made.revival.state.lives }
     requires few { ready.made.revival.state.lives ≤ 9 }
@@ -50,7 +50,7 @@ where
         (H.asked host.old) (H.asked host.new) (H.books host.old) (H.books host.new) result }
 {
     let Opened { log, fault } = open_log(host, alloc, log_name);
-    let Outcome {
+    let LivesOutcome {
         end,
         ended,
         processes,
@@ -88,7 +88,7 @@ pub fn revive_run<I: Source + Send, O: Sink + Send, H: Host + Send, R: Threads +
 where
     H::EngineSource: Drop,
     H::EngineSink: LetGo + Drop,
-    H::ChildProcess: Drop + Send,
+    H::EngineProcess: Drop + Send,
     requires words { 0 < length request.engine.items }
     requires some { 1 ≤ lives }
     requires few { lives ≤ 9 }

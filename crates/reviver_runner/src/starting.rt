@@ -60,11 +60,11 @@ pub(crate) fn start<H: Host, R: Threads>(
     lives: u32,
     words: Vec<String>,
     host: &mut H,
-) -> Result<ReadyLives<H::EngineSource, H::EngineSink, H::ChildProcess>, Failures>
+) -> Result<ReadyLives<H::EngineSource, H::EngineSink, H::EngineProcess>, Failures>
 where
     H::EngineSource: Drop,
     H::EngineSink: LetGo + Drop,
-    H::ChildProcess: Drop,
+    H::EngineProcess: Drop,
     requires words { 0 < length words.items }
     requires unused { IsUnused (H.books host.old) }
     ensures made { IfOk result (λ ready. IsMade lives ready.made) }

@@ -6,12 +6,12 @@ ghost use Rattle.engine_revival.specs.Calls as calls;
 ghost use Rattle.engine_revival.specs.Calls.{may, after, up_of, child_of};
 ghost use Rattle.engine_revival.specs.Steps.{is_alive};
 ghost use Rattle.engine_revival.specs.declared.script.TheConstants.{EVENT_ROOM};
-ghost use Rattle.event_pipe.specs.Ends.{sent};
+ghost use Rattle.event_pipe.specs.Ends.{events_sent};
 ghost use Rattle.event_pipe.specs.Message.{is_good};
 ghost use Rattle.host_run.specs.Asked.{StartsEngines};
 ghost use Rattle.script_lines.specs.StepText.{step_marks};
 ghost use Rattle.sink_offers.specs.Streams.{sinks, log_state, Offered};
-ghost use Rattle.life_runner.specs.Looped.{KeepsMarks, Offers, shown};
+ghost use Rattle.life_runner.specs.Looped.{KeepsMarks, Offers, loop_reports};
 ghost use Rattle.reviver_runner.specs.Lives.{Goes, Ended, LivesOn, Continues, Hands, host_shown, is_failed_start, lives_in};
 ghost use Rattle.reviver_runner.specs.Parts.{AreReady, KeepsEnds};
 
@@ -100,7 +100,7 @@ fn after_life<O: Sink, H: Host>(
     alloc: Global,
     words: &[String],
     host: &mut H,
-    processes: &mut VecDeque<H::ChildProcess>,
+    processes: &mut VecDeque<H::EngineProcess>,
     looping: &mut RevivalLoop<H::Log>,
     output: &mut O,
 ) -> NextLife<H::EngineSource, H::EngineSink>
@@ -115,8 +115,8 @@ fn after_life<O: Sink, H: Host>(
     ensures marks { KeepsMarks looping.old.marks looping.new.marks }
     ensures ended { Ended H.EngineSource.state H.EngineSink.state
         (H.books host.old).says (H.books host.old).tells
-        (shown O.state H.Log.state looping.old output.old)
-        (shown O.state H.Log.state looping.new output.new) result }
+        (loop_reports O.state H.Log.state looping.old output.old)
+        (loop_reports O.state H.Log.state looping.new output.new) result }
     ensures host { Hands (host_shown H.books H.faults H.asked host.old)
         (host_shown H.books H.faults H.asked host.new) result }
     ensures asked { StartsEngines (map string_bytes words.now) (H.asked host.old) (H.asked host.new)
@@ -150,13 +150,13 @@ pub(crate) fn life_turn<O: Sink + Send, H: Host, R: Threads + Wait + Sync>(
     host: &mut H,
     run: LifeRun<H::EngineSource, H::EngineSink>,
     runs: &mut AllRuns<H::EngineSource, H::EngineSink>,
-    parts: &mut ReviverParts<H::Log, H::ChildProcess>,
+    parts: &mut ReviverParts<H::Log, H::EngineProcess>,
     output: &mut O,
 ) -> NextLife<H::EngineSource, H::EngineSink>
 where
     H::EngineSource: Drop,
     H::EngineSink: LetGo + Drop,
-    H::ChildProcess: Drop,
+    H::EngineProcess: Drop,
     requires words { 0 < length runs.old.words.items }
     requires few { (H.books host.old).runs_out < 10 }
     requires space { deque_len runs.old.ended < deque_capacity runs.old.ended }
@@ -170,9 +170,10 @@ where
     ensures space { deque_capacity runs.new.ended ≡ deque_capacity runs.old.ended }
     ensures lived { LivesOn H.EngineSource.state H.EngineSink.state
         (H.books host.old).says (H.books host.old).tells
-        (shown O.state H.Log.state parts.old.looping output.old)
-        (shown O.state H.Log.state parts.new.looping output.new)
-        (sent parts.old.to) (sent parts.new.to) runs.old.ended.items runs.new.ended.items
+        (loop_reports O.state H.Log.state parts.old.looping output.old)
+        (loop_reports O.state H.Log.state parts.new.looping output.new)
+        (events_sent parts.old.to) (events_sent parts.new.to) runs.old.ended.items
+        runs.new.ended.items
         runs.old.tally runs.new.tally run result }
     ensures next { Continues parts.new.looping.revival.state (deque_len runs.new.ended) result }
     ensures host { Hands (host_shown H.books H.faults H.asked host.old)

@@ -1,6 +1,6 @@
 // A host whose engines end in mid-search.
 ghost use Rattle.std.specs.Prelude.{◌≡◌, None, false};
-ghost use Rattle.child_engine.specs.Hosts.{RisesBy, unused};
+ghost use Rattle.child_engine.specs.Hosts.{RisesBy, unused_books};
 ghost use Rattle.reviver_tests.specs.Waiting.{books_with};
 
 use crate::talk::{FIRST, SECOND, Telling, Waiting};
@@ -26,7 +26,7 @@ impl<'a> DyingHost<'a> {
     /// A host that has handed out nothing.
     pub fn new(alloc: Global, pieces: &'a AtomicU64, starts: u8) -> DyingHost<'a>
         ensures { books_with result.runs_out result.logs_out result.runs_closed result.logs_closed
-            ≡ unused None false }
+            ≡ unused_books None false }
     {
         DyingHost {
             pieces,
@@ -69,7 +69,7 @@ impl<'a> Host for DyingHost<'a> {
 
     type Log = Telling<'a>;
 
-    type ChildProcess = ();
+    type EngineProcess = ();
 
     ghost faults = { λ h. h.faults };
 

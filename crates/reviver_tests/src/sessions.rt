@@ -7,7 +7,7 @@ use engine_revival::{MOST_LINE, Revival, RevivalStep};
 use std::alloc::Global;
 use std::process::Abort;
 
-/// What comes, the lines up, and the lines to the engine. An order comes behind `x`, a line of the
+/// What comes, the lines up, and the lines to the engine. An order comes after `x`, a line of the
 /// engine behind `u`; at `u!` the life ends and another one begins, and at `u.` it ends and none
 /// follows.
 type Row = (&'static str, &'static str, &'static str);

@@ -13,7 +13,7 @@ use Rattle.chess_board.specs.Laws.{IsLegal}
 use Rattle.chess_board.specs.Position.{Position}
 use Rattle.chess_board.specs.Text.{ComesBefore, text_of}
 use Rattle.san_text.specs.Fit.{agrees, AgreesText, IsRead, IsSpelled}
-use Rattle.san_text.specs.Spelling.{SanSpelling, spelled}
+use Rattle.san_text.specs.Spelling.{SanSpelling, spelling_of_san}
 use Rattle.san_text.specs.declared.fault.SanFault.TheVariants.{NoFit, Ambiguous}
 use Rattle.chess_board.specs.declared.board.Move.{Move}
 
@@ -83,7 +83,7 @@ pub all_found : (p : Move → Bool) (xs : List Move) (i : ℕ) (found : Option M
 all_found p xs i found l e = ap (λ (ys : List Move). filter p ys) (sym (take_all i xs l)) ∙ e
 
 -- what is read at the end
-pub read_end : (p : Position) (text : List ℕ) (s : SanSpelling) (xs : List Move) (found : Option Move) → spelled text ≡ Some s → ((m : Move) → Contains xs m ↔ IsLegal p m.from.index m.to.index m.promotion) → filter (agrees p s) xs ≡ found_list found → IsRead p text (ok_or found NoFit)
+pub read_end : (p : Position) (text : List ℕ) (s : SanSpelling) (xs : List Move) (found : Option Move) → spelling_of_san text ≡ Some s → ((m : Move) → Contains xs m ↔ IsLegal p m.from.index m.to.index m.promotion) → filter (agrees p s) xs ≡ found_list found → IsRead p text (ok_or found NoFit)
 read_end p text s xs None e each f = (
   subst (λ (o : Option SanSpelling). IsSpelled o) (sym e) tt,
   λ n h. let c = passes_stay (agrees p s) xs n ((each n).1 h.0) (subst (λ (o : Option SanSpelling). AgreesText p o n) e h.1) in
@@ -96,9 +96,9 @@ read_end p text s xs (Some a) e each f =
     )
 
 -- two that fit
-pub read_two : (p : Position) (text : List ℕ) (s : SanSpelling) (xs : List Move) (i : ℕ) (m : Move) (found : Option Move) → spelled text ≡ Some s → ((m : Move) → Contains xs m ↔ IsLegal p m.from.index m.to.index m.promotion) → AllPairs ComesBefore xs
+pub read_two : (p : Position) (text : List ℕ) (s : SanSpelling) (xs : List Move) (i : ℕ) (m : Move) (found : Option Move) → spelling_of_san text ≡ Some s → ((m : Move) → Contains xs m ↔ IsLegal p m.from.index m.to.index m.promotion) → AllPairs ComesBefore xs
     → i < length xs → m ≡ get_or xs i m → agrees p s m ≡ true → filter (agrees p s) (take i xs) ≡ found_list found → is_some found ≡ true → IsRead p text (Err Ambiguous)
 read_two p text s xs i m found e each ordered l g t inv some =
     let two = two_found (agrees p s) xs i m found l g t inv some ordered in
-    let fits : (n : Move) → agrees p s n ≡ true → AgreesText p (spelled text) n = λ n h. subst (λ (o : Option SanSpelling). AgreesText p o n) (sym e) h in
+    let fits : (n : Move) → agrees p s n ≡ true → AgreesText p (spelling_of_san text) n = λ n h. subst (λ (o : Option SanSpelling). AgreesText p o n) (sym e) h in
     (two.0, (m, (((each two.0).0 two.1.0, fits two.0 two.1.1.0), ((each m).0 (i, l, sym g), fits m t), two.1.1.1)))

@@ -9,7 +9,7 @@ use Rattle.chess_board.specs.Laws.{IsLegal, Promotes}
 use Rattle.chess_board.specs.Place.{has_any_way}
 use Rattle.chess_board.specs.Position.{Position}
 use Rattle.san_text.specs.declared.men.RivalSquares.TheVariants.{Board, File, Rank}
-use Rattle.san_text.specs.Writing.{kind_at, castles_short, castles_long, is_capture, has_rival, file_letter, rank_digit, letter, origin, promotion_letters, target, taking, body, after, sign, san, AreShort}
+use Rattle.san_text.specs.Writing.{kind_at, castles_short, castles_long, is_capture, has_rival, file_letter, rank_digit, letter, origin, promotion_letters, target, capture_text, body, after, sign, san, AreShort}
 use Rattle.san_text.proofs.Alone.{kind_of_move}
 
 sign_by : (checked moves : Bool) → length {A = ℕ} (cond checked (cond moves (43 ∷ []) (35 ∷ [])) []) ≤ 1
@@ -68,7 +68,7 @@ promotion_by : (p : Position) (m : Move) → IsLegal p m.from.index m.to.index m
 promotion_by p m h e = promotion_none (kind_at p m.from.index) p m.to.index m.promotion e (subst (λ (k : Kind). Promotes p.side k m.to.index m.promotion) (sym (kind_of_move p m.from.index m.to.index m.promotion h)) h.promoted)
 
 man_by : (p : Position) (m : Move) (pawn : Bool) → is_pawn_kind (kind_at p m.from.index) ≡ pawn → IsLegal p m.from.index m.to.index m.promotion
-    → length (letter (kind_at p m.from.index)) + (length (cond pawn (cond (is_capture p m) (file_letter m.from.index ∷ []) []) (cond (not (has_rival p m Board)) [] (cond (not (has_rival p m File)) (file_letter m.from.index ∷ []) (cond (not (has_rival p m Rank)) (rank_digit m.from.index ∷ []) (file_letter m.from.index ∷ rank_digit m.from.index ∷ []))))) + (length (taking p m) + length (target m))) ≤ 6
+    → length (letter (kind_at p m.from.index)) + (length (cond pawn (cond (is_capture p m) (file_letter m.from.index ∷ []) []) (cond (not (has_rival p m Board)) [] (cond (not (has_rival p m File)) (file_letter m.from.index ∷ []) (cond (not (has_rival p m Rank)) (rank_digit m.from.index ∷ []) (file_letter m.from.index ∷ rank_digit m.from.index ∷ []))))) + (length (capture_text p m) + length (target m))) ≤ 6
 man_by p m true e h = omega (arith, pawn_letter (kind_at p m.from.index) e, file_short (is_capture p m) (file_letter m.from.index), takes_short (is_capture p m), promotion_short m.promotion)
 man_by p m false e h =
     let none = ap (λ (o : Option Kind). length (promotion_letters o)) (promotion_by p m h e) in
@@ -81,15 +81,15 @@ man_by p m false e h =
     )
 
 body_by : (p : Position) (m : Move) (short long : Bool) → IsLegal p m.from.index m.to.index m.promotion
-    → length (cond short (79 ∷ 45 ∷ 79 ∷ []) (cond long (79 ∷ 45 ∷ 79 ∷ 45 ∷ 79 ∷ []) (letter (kind_at p m.from.index) ++ (origin p m ++ (taking p m ++ target m))))) ≤ 6
+    → length (cond short (79 ∷ 45 ∷ 79 ∷ []) (cond long (79 ∷ 45 ∷ 79 ∷ 45 ∷ 79 ∷ []) (letter (kind_at p m.from.index) ++ (origin p m ++ (capture_text p m ++ target m))))) ≤ 6
 body_by p m true long h = omega arith
 body_by p m false true h = omega arith
 body_by p m false false h = omega (
   arith,
   man_by p m (is_pawn_kind (kind_at p m.from.index)) refl h,
-  length-append (letter (kind_at p m.from.index)) (origin p m ++ (taking p m ++ target m)),
-  length-append (origin p m) (taking p m ++ target m),
-  length-append (taking p m) (target m),
+  length-append (letter (kind_at p m.from.index)) (origin p m ++ (capture_text p m ++ target m)),
+  length-append (origin p m) (capture_text p m ++ target m),
+  length-append (capture_text p m) (target m),
 )
 
 pub short : AreShort

@@ -12,7 +12,7 @@ use Rattle.san_text.specs.declared.men.RivalSquares.TheVariants.{Board, File, Ra
 use Rattle.san_text.specs.declared.fault.SanFault.{SanFault}
 use Rattle.san_text.specs.declared.fault.SanFault.TheVariants.{BadSan, NoFit, Ambiguous}
 use Rattle.san_text.specs.Writing.{kind_at, castles_short, castles_long, is_capture, has_rival, letter, promotion_letters, origin, body, after, IsMark, IsSan}
-use Rattle.san_text.specs.Spelling.{SanSpelling, Short, Long, Goes, is_mark, unmarked, places_read, read_unmarked, spelled}
+use Rattle.san_text.specs.Spelling.{SanSpelling, Short, Long, Goes, is_mark, unmarked, places_read, read_unmarked, spelling_of_san}
 use Rattle.san_text.specs.Fit.{agrees, AgreesText, Fits, FitsAlone, IsRead, IsReadBack, TextsDiffer}
 use Rattle.san_text.proofs.Texts.{file_small, rank_small, square_again, place_text, tail, Below, places_are, EndsPlain, ends_behind, tail_plain, mark_dropped}
 use Rattle.san_text.proofs.Alone.{file_by, rank_by, is_pawn_move, given_file, given_rank, spelling_of, alone, agrees_self}
@@ -85,7 +85,7 @@ abbrev man_text : Position → Move → List ℕ
 man_text p m = letter (kind_at p m.from.index) ++ places (given_file p m) (given_rank p m) (is_capture p m) (file_of m.to.index) (rank_of m.to.index) m.promotion
 
 body_by : (short long : Bool) (p : Position) (m : Move) (mark : List ℕ) → castles_short p m ≡ short → castles_long p m ≡ long → IsLegal p m.from.index m.to.index m.promotion → (mark ≡ []) ⊎ ((c : ℕ) × ((mark ≡ c ∷ []) × (is_mark c ≡ true)))
-    → spelled (cond short (79 ∷ 45 ∷ 79 ∷ []) (cond long (79 ∷ 45 ∷ 79 ∷ 45 ∷ 79 ∷ []) (man_text p m)) ++ mark)
+    → spelling_of_san (cond short (79 ∷ 45 ∷ 79 ∷ []) (cond long (79 ∷ 45 ∷ 79 ∷ 45 ∷ 79 ∷ []) (man_text p m)) ++ mark)
     ≡ Some (cond short Short (cond long Long (Goes (kind_at p m.from.index) (given_file p m) (given_rank p m) (record { to = m.to.index; promotion = m.promotion }))))
 body_by true long p m mark s l h sign = ap read_unmarked (mark_dropped (79 ∷ 45 ∷ 79 ∷ []) (79 ∷ 45 ∷ [], (79, (refl, refl))) mark sign)
 body_by false true p m mark s l h sign = ap read_unmarked (mark_dropped (79 ∷ 45 ∷ 79 ∷ 45 ∷ 79 ∷ []) (79 ∷ 45 ∷ 79 ∷ 45 ∷ [], (79, (refl, refl))) mark sign)
@@ -102,9 +102,9 @@ text_is : (p : Position) (m : Move) → body p m ≡ cond (castles_short p m) (7
 text_is p m = ap (λ o. cond (castles_short p m) (79 ∷ 45 ∷ 79 ∷ []) (cond (castles_long p m) (79 ∷ 45 ∷ 79 ∷ 45 ∷ 79 ∷ []) (letter (kind_at p m.from.index) ++ (o ++ tail (is_capture p m) (file_of m.to.index) (rank_of m.to.index) m.promotion)))) (origin_is p m)
 
 -- what is written is read as the move's spelling
-pub spelled_is : (p : Position) (m : Move) (text : List ℕ) → IsLegal p m.from.index m.to.index m.promotion → IsSan p m text → spelled text ≡ Some (spelling_of p m)
+pub spelled_is : (p : Position) (m : Move) (text : List ℕ) → IsLegal p m.from.index m.to.index m.promotion → IsSan p m text → spelling_of_san text ≡ Some (spelling_of p m)
 spelled_is p m text h w =
-    ap spelled (w.whole ∙ ap (λ b. b ++ w.mark) (text_is p m)) ∙ body_by (castles_short p m) (castles_long p m) p m w.mark refl refl h (mark_is (after p m) w.mark w.fits)
+    ap spelling_of_san (w.whole ∙ ap (λ b. b ++ w.mark) (text_is p m)) ∙ body_by (castles_short p m) (castles_long p m) p m w.mark refl refl h (mark_is (after p m) w.mark w.fits)
 
 pub read_back : IsReadBack
 read_back p m text h w =

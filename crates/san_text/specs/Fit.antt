@@ -7,7 +7,7 @@ use Rattle.chess_board.specs.Board.{file_of, rank_of}
 use Rattle.chess_board.specs.Position.{Position}
 use Rattle.chess_board.specs.Laws.{IsLegal}
 use Rattle.san_text.specs.Writing.{same_kind, kind_at, castles_short, castles_long, IsSan}
-use Rattle.san_text.specs.Spelling.{SanSpelling, Short, Long, Goes, Target, spelled}
+use Rattle.san_text.specs.Spelling.{SanSpelling, Short, Long, Goes, Target, spelling_of_san}
 use Rattle.san_text.specs.declared.fault.SanFault.{SanFault}
 use Rattle.san_text.specs.declared.fault.SanFault.TheVariants.{BadSan, NoFit, Ambiguous}
 
@@ -35,7 +35,8 @@ AgreesText p (Some s) m = IsTrue (agrees p s m)
 
 -- a legal move that agrees with what the text spells
 abbrev pub Fits : Position → List ℕ → Move → Type 0
-Fits p text m = IsLegal p m.from.index m.to.index m.promotion × AgreesText p (spelled text) m
+Fits p text m =
+    IsLegal p m.from.index m.to.index m.promotion × AgreesText p (spelling_of_san text) m
 
 abbrev pub IsSpelled : Option SanSpelling → Type 0
 IsSpelled None = ⊥
@@ -49,8 +50,8 @@ FitsAlone p text m = Fits p text m × ((n : Move) → Fits p text n → n ≡ m)
 -- one and no legal move fits, Ambiguous if two or more fit.
 abbrev pub IsRead : Position → List ℕ → Result Move SanFault → Type 0
 IsRead p text (Ok m) = FitsAlone p text m
-IsRead p text (Err BadSan) = spelled text ≡ None
-IsRead p text (Err NoFit) = IsSpelled (spelled text) × ((n : Move) → Fits p text n → ⊥)
+IsRead p text (Err BadSan) = spelling_of_san text ≡ None
+IsRead p text (Err NoFit) = IsSpelled (spelling_of_san text) × ((n : Move) → Fits p text n → ⊥)
 IsRead p text (Err Ambiguous) = (a : Move) × ((b : Move) × (Fits p text a × Fits p text b × (a ≢ b)))
 
 -- what is written of a legal move fits it alone, so reading it gives the move back

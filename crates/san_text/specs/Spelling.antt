@@ -128,8 +128,8 @@ abbrev pub read_unmarked : List ℕ → Option SanSpelling
 read_unmarked text = if is_short text then Some Short else (if is_long text then Some Long else man_read text)
 
 -- what the text spells
-abbrev pub spelled : List ℕ → Option SanSpelling
-spelled text = read_unmarked (unmarked text)
+abbrev pub spelling_of_san : List ℕ → Option SanSpelling
+spelling_of_san text = read_unmarked (unmarked text)
 
 abbrev pub plain_target : arrival.Target → Target
 plain_target t = record { to = t.to.index; promotion = t.promotion }

@@ -83,15 +83,15 @@ promotion_letters (Some kind) = codes "=" ++ letter kind
 abbrev pub target : Move → List ℕ
 target m = file_letter m.to.index ∷ rank_digit m.to.index ∷ promotion_letters m.promotion
 
-abbrev pub taking : Position → Move → List ℕ
-taking p m = if is_capture p m then codes "x" else []
+abbrev pub capture_text : Position → Move → List ℕ
+capture_text p m = if is_capture p m then codes "x" else []
 
 -- the text without a sign of check or mate
 abbrev pub body : Position → Move → List ℕ
 body p m =
     if castles_short p m then codes "O-O"
     else (if castles_long p m then codes "O-O-O"
-    else letter (kind_at p m.from.index) ++ (origin p m ++ (taking p m ++ target m)))
+    else letter (kind_at p m.from.index) ++ (origin p m ++ (capture_text p m ++ target m)))
 
 abbrev pub after : Position → Move → Position
 after p m = position_after p m.from.index m.to.index m.promotion

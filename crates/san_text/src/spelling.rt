@@ -1,6 +1,6 @@
 // How a text is read, whatever is on the board.
 ghost use Rattle.std.specs.Prelude.{◌≡◌, IfSome, ◌<◌};
-ghost use Rattle.san_text.specs.Spelling.{unmarked, is_mark, file_named, rank_named, kind_named, promoted, promotion_read, square_read, target_read, rank_read, file_read, places_read, man_read, spelled, plain_targets, plains, goes};
+ghost use Rattle.san_text.specs.Spelling.{unmarked, is_mark, file_named, rank_named, kind_named, promoted, promotion_read, square_read, target_read, rank_read, file_read, places_read, man_read, spelling_of_san, plain_targets, plains, goes};
 
 use chess_board::{Kind, Square};
 
@@ -210,7 +210,7 @@ fn read_man(text: &[u8]) -> Option<SanSpelling>
 /// `0-0-0`; or an optional letter of `KQRBN`, an optional file, an optional rank, an optional `x`,
 /// a square, and optionally one of `QRBN`, with or without `=` before it.
 pub fn read_spelling(text: &[u8]) -> Option<SanSpelling>
-    ensures { plains result ≡ spelled text.now }
+    ensures { plains result ≡ spelling_of_san text.now }
 {
     let text = unmarked(text);
     if text == b"O-O".as_slice() || text == b"0-0".as_slice() {

@@ -5,7 +5,7 @@ use Rattle.std.proofs.lemmas.Bool.Decides.{nat_tests}
 use Rattle.std.proofs.lemmas.Bool.{and_parts}
 use Rattle.std.proofs.lemmas.Option.{same_Some}
 use Rattle.line_io.specs.Event.{Event, Open, Iface, IfaceLong, IfaceEnd, IfaceLost, Engine, EngineLong, EngineEnd, EngineLost, is_line}
-use Rattle.script_lines.specs.Marks.{Mark, Happens, ToIface, ToEngine, is_written, is_empty, iface_event, engine_event, happens, mark_of, mark_text, event_text, marked, plain, IsSpelled, SpellsMark, SpellsNone}
+use Rattle.script_lines.specs.Marks.{Mark, Happens, ToIface, ToEngine, is_written, is_empty, iface_event, engine_event, happens, mark_of, mark_text, event_text, mark_if_read, plain, IsSpelled, SpellsMark, SpellsNone}
 use Rattle.script_lines.specs.declared.marks.Mark as code
 use Rattle.script_lines.specs.declared.marks.BadMark.{BadMark}
 
@@ -125,10 +125,10 @@ spelled_read (ToEngine line) s = rw s refl
 pub read_of : (line : List ℕ) (mark : Mark) → SpellsMark line mark → mark_of line ≡ Some mark
 read_of line mark s = ap mark_of s.1 ∙ spelled_read mark s.0
 
-pub read_ok : (line : List ℕ) (r : Result code.Mark BadMark) → marked r ≡ mark_of line → IfOk r (λ m. SpellsMark line (plain m))
+pub read_ok : (line : List ℕ) (r : Result code.Mark BadMark) → mark_if_read r ≡ mark_of line → IfOk r (λ m. SpellsMark line (plain m))
 read_ok line (Ok m) e = read_spelled line (plain m) (sym e)
 read_ok line (Err bad) e = tt
 
-pub read_none : (line : List ℕ) (r : Result code.Mark BadMark) → marked r ≡ mark_of line → OnErr r (SpellsNone line)
+pub read_none : (line : List ℕ) (r : Result code.Mark BadMark) → mark_if_read r ≡ mark_of line → OnErr r (SpellsNone line)
 read_none line (Ok m) e = tt
 read_none line (Err bad) e = λ mark s. none_some (e ∙ read_of line mark s)

@@ -21,13 +21,13 @@ plain (marks.ToIface line) = ToIface line.now
 plain (marks.ToEngine line) = ToEngine line.now
 
 -- what a reading of a mark answers
-abbrev pub marked : Result code.Mark BadMark → Option Mark
-marked (Ok m) = Some (plain m)
-marked (Err e) = None
+abbrev pub mark_if_read : Result code.Mark BadMark → Option Mark
+mark_if_read (Ok m) = Some (plain m)
+mark_if_read (Err e) = None
 
-abbrev pub told : Option event.Event → Option Event
-told (Some e) = Some (event_of e)
-told None = None
+abbrev pub event_if_read : Option event.Event → Option Event
+event_if_read (Some e) = Some (event_of e)
+event_if_read None = None
 
 -- a line that was written, and whose mark is a line of a script
 abbrev pub is_written : List ℕ → Bool

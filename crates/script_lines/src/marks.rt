@@ -1,7 +1,7 @@
 // Marks: the lines of a script.
 ghost use Rattle.std.specs.Prelude.{◌≡◌, ◌+◌, ◌++◌, ◌≤◌, length, Some, IfOk, OnErr};
 ghost use Rattle.line_io.specs.Event.{is_line};
-ghost use Rattle.script_lines.specs.Marks.{IsSpelled, SpellsMark, SpellsNone, is_written, iface_event, engine_event, told, plain, marked, mark_of, mark_text, line_end, mark_line};
+ghost use Rattle.script_lines.specs.Marks.{IsSpelled, SpellsMark, SpellsNone, is_written, iface_event, engine_event, event_if_read, plain, mark_if_read, mark_of, mark_text, line_end, mark_line};
 ghost use Rattle.line_io.specs.Out.{with};
 
 use line_io::{Event, Out, PEER_LINE, SCRIPT_LINE};
@@ -37,7 +37,7 @@ fn is_written(line: &[u8]) -> bool
 }
 
 fn iface_event(sign: u8, rest: &[u8]) -> Option<Event<'_>>
-    ensures { told result ≡ iface_event sign rest.now }
+    ensures { event_if_read result ≡ iface_event sign rest.now }
 {
     match sign {
         b' ' if is_line(rest) => Some(Event::Iface(rest)),
@@ -49,7 +49,7 @@ fn iface_event(sign: u8, rest: &[u8]) -> Option<Event<'_>>
 }
 
 fn engine_event(sign: u8, rest: &[u8]) -> Option<Event<'_>>
-    ensures { told result ≡ engine_event sign rest.now }
+    ensures { event_if_read result ≡ engine_event sign rest.now }
 {
     match sign {
         b' ' if is_line(rest) => Some(Event::Engine(rest)),
@@ -62,7 +62,7 @@ fn engine_event(sign: u8, rest: &[u8]) -> Option<Event<'_>>
 
 /// The mark that a line spells, without its line feed.
 pub fn read_mark(line: &[u8]) -> Result<Mark<'_>, BadMark>
-    ensures exact { marked result ≡ mark_of line.now }
+    ensures exact { mark_if_read result ≡ mark_of line.now }
     ensures spelled { IfOk result (λ mark. SpellsMark line.now (plain mark)) }
     ensures bad { OnErr result (SpellsNone line.now) }
 {
@@ -70,7 +70,7 @@ pub fn read_mark(line: &[u8]) -> Result<Mark<'_>, BadMark>
 }
 
 fn mark_in(line: &[u8]) -> Result<Mark<'_>, BadMark>
-    ensures { marked result ≡ mark_of line.now }
+    ensures { mark_if_read result ≡ mark_of line.now }
 {
     let [letter, sign, rest @ ..] = line else {
         return Err(BadMark);

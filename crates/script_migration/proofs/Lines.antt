@@ -12,7 +12,7 @@ use Rattle.command_endings.specs.declared.ending.Ending.TheVariants as endings
 use Rattle.line_scribe.specs.Putting.{IsOfLine}
 use Rattle.script_migration.specs.declared.migration.Migration.{Migration}
 use Rattle.script_migration.specs.Begun.{Begins, Migrates, PutFor, IsReason, IsSound, IsNumber, beginning_by, number_by}
-use Rattle.script_migration.specs.Migration.{AreMarked, beginning, line_migrated, line_text, lines_migrated, mark_in, migrated, steps_after, steps_over, text_in}
+use Rattle.script_migration.specs.Migration.{AreMarked, beginning, line_migrated, line_text, lines_migrated, mark_in, script_with_header, steps_after, steps_over, text_in}
 
 pub steps_more : (steps : ℕ) (lines : List Piece) (p : Piece) → steps_over steps (lines ++ p ∷ []) ≡ steps_after (steps_over steps lines) (mark_in p)
 steps_more steps [] p = refl
@@ -29,13 +29,13 @@ marked_more : (lines : List Piece) (p : Piece) → AreMarked lines → is_some (
 marked_more [] p a e = (e, tt)
 marked_more (l ∷ ls) p a e = (a.0, marked_more ls p a.1 e)
 
-migrated_more : (settings : Settings) (lines : List Piece) (p : Piece) → migrated settings (lines ++ p ∷ []) ≡ migrated settings lines ++ line_migrated (steps_over 1 lines) (mark_in p) (text_in p)
+migrated_more : (settings : Settings) (lines : List Piece) (p : Piece) → script_with_header settings (lines ++ p ∷ []) ≡ script_with_header settings lines ++ line_migrated (steps_over 1 lines) (mark_in p) (text_in p)
 migrated_more settings lines p =
     let one = line_migrated (steps_over 1 lines) (mark_in p) (text_in p) in
     ap (λ t. beginning settings ++ t) (lines_more 1 lines (p ∷ []) ∙ ap (λ t. lines_migrated 1 lines ++ t) (append-nil one))
     ∙ sym (append_assoc (beginning settings) (lines_migrated 1 lines) one)
 
-begun_text : (settings : Settings) (lines : List Piece) (last : Option ℕ) (text : List ℕ) → PutFor settings lines last text → text ++ beginning_by last settings ≡ migrated settings lines
+begun_text : (settings : Settings) (lines : List Piece) (last : Option ℕ) (text : List ℕ) → PutFor settings lines last text → text ++ beginning_by last settings ≡ script_with_header settings lines
 begun_text settings [] last text p =
     ap (λ t. t ++ beginning_by last settings) p.1 ∙ ap (λ (o : Option ℕ). beginning_by o settings) p.0 ∙ sym (append-nil (beginning settings))
 begun_text settings (l ∷ ls) last text p = ap (λ (o : Option ℕ). text ++ beginning_by o settings) p.0.2 ∙ append-nil text ∙ p.1
@@ -44,7 +44,7 @@ begun_count : (settings : Settings) (lines : List Piece) (last : Option ℕ) (te
 begun_count settings [] last text p = (0, refl, ap number_by p.0)
 begun_count settings (l ∷ ls) last text p = (p.0.0, p.0.1, ap number_by p.0.2)
 
-put_more : (settings : Settings) (lines : List Piece) (p : Piece) (last : Option ℕ) (text : List ℕ) → (count : ℕ) → steps_over 1 (lines ++ p ∷ []) ≡ suc count → last ≡ Some (step_number count) → text ≡ migrated settings (lines ++ p ∷ [])
+put_more : (settings : Settings) (lines : List Piece) (p : Piece) (last : Option ℕ) (text : List ℕ) → (count : ℕ) → steps_over 1 (lines ++ p ∷ []) ≡ suc count → last ≡ Some (step_number count) → text ≡ script_with_header settings (lines ++ p ∷ [])
     → PutFor settings (lines ++ p ∷ []) last text
 put_more settings [] p last text count s l t = ((count, s, l), t)
 put_more settings (x ∷ xs) p last text count s l t = ((count, s, l), t)
@@ -53,7 +53,7 @@ module _ (s0 s : Migration) (lines : List Piece) (front : List ℕ) (m : Migrate
   pub count_is : (count : ℕ) × (steps_over 1 lines ≡ suc count) × (number_by s.last ≡ step_number count)
   count_is = begun_count s0.settings lines s.last front m.put
 
-  text_is : front ++ beginning_by s.last s.settings ≡ migrated s0.settings lines
+  text_is : front ++ beginning_by s.last s.settings ≡ script_with_header s0.settings lines
   text_is = ap (λ (o : Settings). front ++ beginning_by s.last o) m.settings ∙ begun_text s0.settings lines s.last front m.put
 
   -- a line with a mark
@@ -63,19 +63,19 @@ module _ (s0 s : Migration) (lines : List Piece) (front : List ℕ) (m : Migrate
     settings = e ∙ m.settings;
     marked = marked_more lines p m.marked is;
     put = put_more s0.settings lines p new.last (front ++ (beginning_by s.last s.settings ++ more)) count (steps_more 1 lines p ∙ steps) last
-        (sym (append_assoc front (beginning_by s.last s.settings) more) ∙ ap (λ x. x ++ more) text_is ∙ ap (λ x. migrated s0.settings lines ++ x) (sym t) ∙ sym (migrated_more s0.settings lines p));
+        (sym (append_assoc front (beginning_by s.last s.settings) more) ∙ ap (λ x. x ++ more) text_is ∙ ap (λ x. script_with_header s0.settings lines ++ x) (sym t) ∙ sym (migrated_more s0.settings lines p));
   }
 
   -- a line without one
   pub unmarked_put : (p : Piece) (number : ℕ) → mark_in p ≡ None → number ≡ length lines + 1
-      → IsReason (lines ++ p ∷ []) (endings.NoMark number) × (front ++ beginning_by s.last s.settings ≡ migrated s0.settings (lines ++ p ∷ []))
+      → IsReason (lines ++ p ∷ []) (endings.NoMark number) × (front ++ beginning_by s.last s.settings ≡ script_with_header s0.settings (lines ++ p ∷ []))
   unmarked_put p number none n = (
     record { before = lines; line = p; lines_are = refl; marked = m.marked; no_mark = none; number_is = n },
-    text_is ∙ sym (migrated_more s0.settings lines p ∙ ap (λ (x : Option Mark). migrated s0.settings lines ++ line_migrated (steps_over 1 lines) x (text_in p)) none ∙ append-nil (migrated s0.settings lines)),
+    text_is ∙ sym (migrated_more s0.settings lines p ∙ ap (λ (x : Option Mark). script_with_header s0.settings lines ++ line_migrated (steps_over 1 lines) x (text_in p)) none ∙ append-nil (script_with_header s0.settings lines)),
   )
 
   -- no more lines
-  pub finished_put : (ending : Ending) → (IsOfLine ending → ⊥) → IsReason lines ending × (front ++ beginning_by s.last s.settings ≡ migrated s0.settings lines)
+  pub finished_put : (ending : Ending) → (IsOfLine ending → ⊥) → IsReason lines ending × (front ++ beginning_by s.last s.settings ≡ script_with_header s0.settings lines)
   finished_put ending i = (reason ending i, text_is) where
     reason : (e : Ending) → (IsOfLine e → ⊥) → IsReason lines e
     reason (endings.NoMark n) i = absurd (i tt)

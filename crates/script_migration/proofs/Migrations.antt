@@ -19,7 +19,7 @@ use Rattle.line_scribe.specs.Putting.{IsOfLine}
 use Rattle.line_scribe.specs.Scribed.{EndsBy, IsText, WroteFront, WroteAll, WroteWhole}
 use Rattle.script_migration.specs.declared.migration.Migration.{Migration}
 use Rattle.script_migration.specs.Begun.{IsReason, Migrates, PutFor, fresh, migrates}
-use Rattle.script_migration.specs.Migration.{AreMarked, IsUnmarked, mark_in, migrated}
+use Rattle.script_migration.specs.Migration.{AreMarked, IsUnmarked, mark_in, script_with_header}
 use Rattle.script_migration.specs.Migrated.{AllMigrated, CompletesMigration, FrontMigrated, Migrated, MigratesScripts, ReportsUnmarked, UnmarkedReported, WholeMigrated}
 use Rattle.script_migration.proofs.Traces.{trace_migrated}
 
@@ -55,15 +55,15 @@ same_number n k lines ls more ms all e f u v =
 
 -- WHAT WAS PUT
 
-put_text : (settings : Settings) (lines : List Piece) (last : Option ℕ) (text : List ℕ) → PutFor settings lines last text → 0 < length text → text ≡ migrated settings lines
+put_text : (settings : Settings) (lines : List Piece) (last : Option ℕ) (text : List ℕ) → PutFor settings lines last text → 0 < length text → text ≡ script_with_header settings lines
 put_text settings [] last text p some = let n = ap length p.1 in absurd (let z : ⊥ = omega (arith, n, some) in z)
 put_text settings (l ∷ ls) last text p some = p.1
 
 module _ (settings : Settings) (s0 : Migration) (same : s0.settings ≡ settings) (Unread Kept : Type 0) (start now : Streams) (code : ℕ) (ran : Ran (λ e. EndsBy migrates (fresh settings) (Unread × Kept) e start now) start now code) (o : Outcome migrates s0 (Unread × Kept) start now code) where
-  text_is : (lines : List Piece) (text : List ℕ) → text ≡ migrated s0.settings lines → text ≡ migrated settings lines
-  text_is lines text e = e ∙ ap (λ (x : Settings). migrated x lines) same
+  text_is : (lines : List Piece) (text : List ℕ) → text ≡ script_with_header s0.settings lines → text ≡ script_with_header settings lines
+  text_is lines text e = e ∙ ap (λ (x : Settings). script_with_header x lines) same
 
-  wrote_as : (lines : List Piece) (text : List ℕ) → text ≡ migrated s0.settings lines → Appends start.output.taken now.output.taken text → Appends start.output.taken now.output.taken (migrated settings lines)
+  wrote_as : (lines : List Piece) (text : List ℕ) → text ≡ script_with_header s0.settings lines → Appends start.output.taken now.output.taken text → Appends start.output.taken now.output.taken (script_with_header settings lines)
   wrote_as lines text e a = subst (Appends start.output.taken now.output.taken) (text_is lines text e) a
 
   all_by : WroteAll migrates s0 start now → AreSame start now → AllMigrated settings start now
@@ -116,7 +116,7 @@ module _ (settings : Settings) (s0 : Migration) (same : s0.settings ≡ settings
 
   front_by : WroteFront migrates s0 start now ⊎ WroteLast migrates s0 start now → FrontMigrated settings start now
   front_by (inl w) = of w.is_text where
-    by : w.text ≡ migrated settings w.lines → FrontMigrated settings start now
+    by : w.text ≡ script_with_header settings w.lines → FrontMigrated settings start now
     by e = record { lines = w.lines; read = w.read; front = w.front; written = subst (λ l. Appends start.output.taken now.output.taken (take w.front l)) e w.written }
 
     of : IsText migrates s0 w.lines w.text → FrontMigrated settings start now
@@ -125,8 +125,8 @@ module _ (settings : Settings) (s0 : Migration) (same : s0.settings ≡ settings
   front_by (inr w) = record {
     lines = w.lines;
     read = w.read;
-    front = length (migrated settings w.lines);
-    written = subst (Appends start.output.taken now.output.taken) (text_is w.lines w.text w.says.1 ∙ sym (take-length (migrated settings w.lines))) w.written;
+    front = length (script_with_header settings w.lines);
+    written = subst (Appends start.output.taken now.output.taken) (text_is w.lines w.text w.says.1 ∙ sym (take-length (script_with_header settings w.lines))) w.written;
   }
 
   writing : (Unread × Kept) ⊎ WroteFront migrates s0 start now ⊎ WroteLast migrates s0 start now → (Unread × Kept) ⊎ FrontMigrated settings start now
@@ -153,7 +153,7 @@ module _ (settings : Settings) (s0 : Migration) (same : s0.settings ≡ settings
   scripts : MigratesScripts settings start now code
   scripts t m e z =
       let a = all_migrated z in
-      subst (Appends start.output.taken now.output.taken) (ap (λ x. migrated settings (items 131072 x)) (sym (all_of start.input.left a.got (script1 t) a.all_read e)) ∙ trace_migrated settings t m) a.written
+      subst (Appends start.output.taken now.output.taken) (ap (λ x. script_with_header settings (items 131072 x)) (sym (all_of start.input.left a.got (script1 t) a.all_read e)) ∙ trace_migrated settings t m) a.written
 
   pub migrated_by : Migrated settings Unread Kept start now code
   migrated_by = record {

@@ -16,7 +16,7 @@ use Rattle.script_lines.proofs.Scripts.{has_short_lines}
 use Rattle.script_lines.proofs.Spelled.{spelled_read}
 use Rattle.adapter_core.specs.Trace.{Step, iface_text, engine_text}
 use Rattle.session_script.specs.Script.{script1, script2, numbered_text, numbered_texts, step_text}
-use Rattle.script_migration.specs.Migration.{line_migrated, line_text, lines_migrated, mark_in, migrated, steps_after, steps_over}
+use Rattle.script_migration.specs.Migration.{line_migrated, line_text, lines_migrated, mark_in, script_with_header, steps_after, steps_over}
 use Rattle.script_migration.specs.Traces.{AreEventsMarked, IsMarked, IsWrittenMarked}
 use Rattle.script_migration.proofs.Lines.{lines_more}
 
@@ -154,7 +154,7 @@ written_quiet k s w =
     let q = quiet k (written s) (written_spelled s w) (quiet_append (map (λ line. ToIface line) (parts (iface_text s))) (map (λ line. ToEngine line) (parts (engine_text s))) (iface_quiet (parts (iface_text s))) (engine_quiet (parts (engine_text s)))) in
     (q.0 ∙ written_script s, q.1)
 
--- a step's text behind its number
+-- a step's text after its number
 numbered : (number text said marked : List ℕ) → marked ≡ text → (line_text number ++ text) ++ said ≡ number ++ 10 ∷ (marked ++ said)
 numbered number text said marked e = append_assoc (line_text number) text said ∙ fed number (text ++ said) ∙ ap (λ t. number ++ 10 ∷ (t ++ said)) (sym e)
 
@@ -209,11 +209,11 @@ traced (s ∷ r ∷ t) e w =
     )
 
 -- the law
-pub trace_migrated : (settings : Settings) (t : List Step) → IsMarked t → migrated settings (items 131072 (script1 t)) ≡ script2 settings t
+pub trace_migrated : (settings : Settings) (t : List Step) → IsMarked t → script_with_header settings (items 131072 (script1 t)) ≡ script2 settings t
 trace_migrated settings t m =
     let ms = marks_of t in
     let lines : items 131072 (script1 t) ≡ map line_of ms = ap (items 131072) (sym (trace_script t)) ∙ has_short_lines ms (trace_spelled t m.events m.written) in
-    ap (migrated settings) lines
+    ap (script_with_header settings) lines
     ∙ append_assoc (line_text (header_text settings)) (line_text (step_line 0)) (lines_migrated 1 (map line_of ms))
     ∙ ap (λ x. line_text (header_text settings) ++ x) (traced t m.events m.written).0
     ∙ fed (header_text settings) (numbered_texts t)

@@ -9,7 +9,7 @@ use Rattle.command_endings.specs.declared.ending.Ending.{Ending}
 use Rattle.command_endings.specs.declared.ending.Ending.TheVariants as endings
 use Rattle.line_scribe.specs.Putting.{Putting}
 use Rattle.script_migration.specs.declared.migration.Migration.{Migration}
-use Rattle.script_migration.specs.Migration.{AreMarked, IsUnmarked, beginning, migrated, steps_over}
+use Rattle.script_migration.specs.Migration.{AreMarked, IsUnmarked, beginning, script_with_header, steps_over}
 
 -- what stands before the first mark, if it was not put
 abbrev pub beginning_by : Option ℕ → Settings → List ℕ
@@ -43,7 +43,7 @@ pub record IsSound (migration : Migration) : Type 0 where
 abbrev pub PutFor : Settings → List Piece → Option ℕ → List ℕ → Type 0
 PutFor settings [] last text = (last ≡ None) × (text ≡ [])
 PutFor settings (line ∷ lines) last text =
-    ((count : ℕ) × (steps_over 1 (line ∷ lines) ≡ suc count) × (last ≡ Some (step_number count))) × (text ≡ migrated settings (line ∷ lines))
+    ((count : ℕ) × (steps_over 1 (line ∷ lines) ≡ suc count) × (last ≡ Some (step_number count))) × (text ≡ script_with_header settings (line ∷ lines))
 
 -- the lines were migrated
 pub record Migrates (old : Migration) (lines : List Piece) (new : Migration) (text : List ℕ) : Type 0 where
@@ -63,6 +63,7 @@ IsReason lines ending = AreMarked lines
 abbrev pub migrates : Putting Migration
 migrates = record {
   put = λ old lines new text. Migrates old lines new text;
-  says = λ old lines ending text. IsReason lines ending × (text ≡ migrated old.settings lines);
+  says = λ old lines ending text. IsReason lines ending
+      × (text ≡ script_with_header old.settings lines);
   may = λ migration. IsSound migration;
 }

@@ -14,7 +14,7 @@ use Rattle.command_endings.specs.Reads.{AreFirst, AreRead, Got, IsAll}
 use Rattle.command_endings.specs.Streams.{Streams, AreSame, IsSteady}
 use Rattle.line_scribe.specs.Scribed.{EndsBy}
 use Rattle.script_migration.specs.Begun.{fresh, migrates}
-use Rattle.script_migration.specs.Migration.{AreMarked, IsUnmarked, migrated}
+use Rattle.script_migration.specs.Migration.{AreMarked, IsUnmarked, script_with_header}
 use Rattle.script_migration.specs.Traces.{IsMarked}
 use Rattle.line_io.specs.declared.limits.TheConstants.{SCRIPT_LINE}
 
@@ -24,7 +24,7 @@ pub record AllMigrated (settings : Settings) (before after : Streams) : Type 0 w
   pub reads : Got before after got
   pub all_read : IsAll before.input.left got
   pub marked : AreMarked (items SCRIPT_LINE got)
-  pub written : Appends before.output.taken after.output.taken (migrated settings (items SCRIPT_LINE got))
+  pub written : Appends before.output.taken after.output.taken (script_with_header settings (items SCRIPT_LINE got))
   pub no_failure : AreSame before after
 
 -- The first line without a mark was reported, and what is due for the lines before it was written.
@@ -33,7 +33,7 @@ pub record UnmarkedReported (settings : Settings) (before after : Streams) : Typ
   pub lines : List Piece
   pub read : AreRead before after lines
   pub unmarked : IsUnmarked number lines
-  pub written : Appends before.output.taken after.output.taken (migrated settings lines)
+  pub written : Appends before.output.taken after.output.taken (script_with_header settings lines)
   pub told : Appends before.diag.taken after.diag.taken (diagnostic (endings.NoMark number))
 
 -- All whole lines that were read have marks, and what is due for them was written.
@@ -42,7 +42,7 @@ pub record WholeMigrated (settings : Settings) (before after : Streams) : Type 0
   pub reads : Got before after got
   pub first : AreFirst before.input.left (whole SCRIPT_LINE got)
   pub marked : AreMarked (whole SCRIPT_LINE got)
-  pub written : Appends before.output.taken after.output.taken (migrated settings (whole SCRIPT_LINE got))
+  pub written : Appends before.output.taken after.output.taken (script_with_header settings (whole SCRIPT_LINE got))
 
 -- so it is if the input gave at least 2^32 bytes
 pub record MuchMigrated (settings : Settings) (before after : Streams) : Type 0 where
@@ -54,7 +54,7 @@ pub record FrontMigrated (settings : Settings) (before after : Streams) : Type 0
   pub lines : List Piece
   pub read : AreRead before after lines
   pub front : ℕ
-  pub written : Appends before.output.taken after.output.taken (take front (migrated settings lines))
+  pub written : Appends before.output.taken after.output.taken (take front (script_with_header settings lines))
 
 -- An input of fewer than 2^32 bytes whose lines all have marks is migrated, or there was no memory.
 abbrev pub CompletesMigration : Streams → Streams → ℕ → Type 0

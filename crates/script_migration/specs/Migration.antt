@@ -20,7 +20,7 @@ abbrev pub text_in : Piece → List ℕ
 text_in (Whole line) = line_text line
 text_in TooLong = []
 
--- A line behind so many steps is copied. The mark of an event begins the next step, whose number stands before it.
+-- A line after so many steps is copied. The mark of an event begins the next step, whose number stands before it.
 abbrev pub line_migrated : ℕ → Option Mark → List ℕ → List ℕ
 line_migrated steps (Some (Happens event)) text = line_text (step_line (step_number steps)) ++ text
 line_migrated steps (Some mark) text = text
@@ -40,10 +40,10 @@ abbrev pub beginning : Settings → List ℕ
 beginning settings = line_text (header_text settings) ++ line_text (step_line 0)
 
 -- the script of version 2 or 3 with these settings, for the lines of one of version 1
-abbrev pub migrated : Settings → List Piece → List ℕ
-migrated settings lines = beginning settings ++ lines_migrated 1 lines
+abbrev pub script_with_header : Settings → List Piece → List ℕ
+script_with_header settings lines = beginning settings ++ lines_migrated 1 lines
 
--- how many steps lines have behind so many
+-- how many steps lines have after so many
 abbrev pub steps_over : ℕ → List Piece → ℕ
 steps_over steps [] = steps
 steps_over steps (line ∷ lines) = steps_over (steps_after steps (mark_in line)) lines

@@ -22,13 +22,13 @@ use Rattle.command_endings.specs.declared.ending.Ending.{Ending}
 use Rattle.command_endings.specs.declared.ending.Ending.TheVariants as endings
 use Rattle.script_player.specs.declared.stage.ScriptStage.{ScriptStage}
 use Rattle.script_player.specs.declared.stage.ScriptStage.TheVariants as stages
-use Rattle.script_player.specs.Versions.{LineKind, Tells, Numbers, kind_of, Version, First, Second, version_by, version_in, behind_header, header_lines, settings_by, script_by, LineSaid, Comes, Passes, Starts, HasNoMark, IsOutOfStep, Cannot, event_says, number_says, kind_says, line_says, stage_started, stage_told, Place, place_said, place_over, fault_said, first_fault, events_said, events_of, opened, beginning, fault_by, events_by, script_fault, script_events}
+use Rattle.script_player.specs.Versions.{LineKind, Tells, Numbers, kind_of, Version, First, Second, version_by, version_in, behind_header, header_lines, settings_by, script_by, LineSaid, Comes, Passes, Starts, HasNoMark, IsOutOfStep, Cannot, event_says, number_says, kind_says, line_says, stage_started, stage_told, ScriptPlace, place_said, place_over, fault_said, first_fault, events_said, events_of, ends_once_open, beginning, fault_by, events_by, script_fault, script_events}
 use Rattle.script_player.specs.Playing.{Steps, Takes, text_at, CountIs, Playing, Scripted, Played}
 use Rattle.script_player.proofs.VersionLines.{place_more, fault_more, events_more, behind_more, behind_length}
 
 -- WHAT A STAGE LETS COME
 
--- an event comes in version 1, or behind the number of its step
+-- an event comes in version 1, or after the number of its step
 pub data Fits (v : Version) (stage : ScriptStage) (count : ℕ) : Type 0 where
   AtPlain : v ≡ First → stage ≡ stages.Plain → Fits v stage count
   AtNumber : (settings : Settings) (number : ℕ) → v ≡ Second settings → stage ≡ stages.Numbered number → number ≡ step_number count → Fits v stage count
@@ -109,7 +109,7 @@ module _ (o : Settings) (lines : List Piece) (core : CoreParts) (stage : ScriptS
   abbrev more : List Piece
   more = lines ++ piece ∷ []
 
-  abbrev here : Place
+  abbrev here : ScriptPlace
   here = record { stage = stage; ends = core.ends }
 
   abbrev said : LineSaid
@@ -119,7 +119,7 @@ module _ (o : Settings) (lines : List Piece) (core : CoreParts) (stage : ScriptS
   behind = behind_more v lines (piece ∷ []) refl
 
   said_is : line_says (place_over (beginning v) body) piece ≡ said
-  said_is = ap (λ (x : Place). line_says x piece) p.place
+  said_is = ap (λ (x : ScriptPlace). line_says x piece) p.place
 
   fault_is : script_fault more ≡ fault_said number said
   fault_is =
@@ -141,7 +141,7 @@ module _ (o : Settings) (lines : List Piece) (core : CoreParts) (stage : ScriptS
       ap (λ (x : Version). place_over (beginning x) (behind_header x more)) same
       ∙ ap (place_over (beginning v)) behind
       ∙ place_more (beginning v) body piece
-      ∙ ap (λ (x : Place). place_said x (line_says x piece)) p.place
+      ∙ ap (λ (x : ScriptPlace). place_said x (line_says x piece)) p.place
 
   lawful_on : (t : List Step) → Lawful (settings_by v o) t → Lawful (settings_by (version_in more) o) t
   lawful_on t l = subst (λ (x : Version). Lawful (settings_by x o) t) (sym same) l
@@ -185,7 +185,7 @@ module _ (o : Settings) (lines : List Piece) (core : CoreParts) (stage : ScriptS
       let fits = comes_at v stage (length p.trace) core.ends (kind_of piece) e p.count is in
       record {
         fine = fault_is ∙ ap (fault_said number) is;
-        place = place_on ∙ ap (place_said here) is ∙ ap (λ (x : Ends). let y : Place = record { stage = stage_told stage; ends = x } in y) (sym (core_ends (settings_by v o) core core' p.trace s.step e s.adds.event p.stands next.1));
+        place = place_on ∙ ap (place_said here) is ∙ ap (λ (x : Ends). let y : ScriptPlace = record { stage = stage_told stage; ends = x } in y) (sym (core_ends (settings_by v o) core core' p.trace s.step e s.adds.event p.stands next.1));
         trace = s.step ∷ p.trace;
         count = subst (λ (x : Version). CountIs x (stage_told stage) (suc (length p.trace))) (sym same) (told_at v stage (length p.trace) fits);
         lawful = lawful_on (s.step ∷ p.trace) next.0;
@@ -243,7 +243,7 @@ begun_plain o core core' stage' old new before after st empty a s is_plain = sub
     let next = s.adds.extends o [] tt st in
     record {
       fine = refl;
-      place = ap (λ (x : Ends). let y : Place = record { stage = stages.Plain; ends = x } in y) (sym (ends_are next.1));
+      place = ap (λ (x : Ends). let y : ScriptPlace = record { stage = stages.Plain; ends = x } in y) (sym (ends_are next.1));
       trace = s.step ∷ [];
       count = tt;
       lawful = next.0;
@@ -254,7 +254,7 @@ begun_plain o core core' stage' old new before after st empty a s is_plain = sub
       appended = a;
       script_is = ap (λ (t : Text). t.text) s.put ∙ ap (λ l. l ++ step_text s.step) empty;
     }) where
-      ends_are : Stands o core' (s.step ∷ []) → core'.ends ≡ opened
+      ends_are : Stands o core' (s.step ∷ []) → core'.ends ≡ ends_once_open
       ends_are st' = core_ends o core core' [] s.step Open s.adds.event st st' ∙ ap (λ (x : Ends). ends_after x Open) (ap (λ (v : CoreParts). v.ends) st.0)
 
 -- a session of version 2 was opened by its header
@@ -265,7 +265,7 @@ begun_numbered o settings line set core' stage' old new before after is_header s
     let is : version_in (Whole line ∷ []) ≡ Second settings = ap version_by is_header in
     record {
       fine = ap (λ (x : Version). fault_by x (Whole line ∷ [])) is;
-      place = ap (λ (x : Version). place_over (beginning x) (behind_header x (Whole line ∷ []))) is ∙ ap (λ (x : Ends). let y : Place = record { stage = stages.Headed; ends = x } in y) (sym (ends_are next.1));
+      place = ap (λ (x : Version). place_over (beginning x) (behind_header x (Whole line ∷ []))) is ∙ ap (λ (x : Ends). let y : ScriptPlace = record { stage = stages.Headed; ends = x } in y) (sym (ends_are next.1));
       trace = s.step ∷ [];
       count = subst (λ (x : Version). CountIs x stages.Headed 1) (sym is) refl;
       lawful = subst (λ (x : Version). Lawful (settings_by x o) (s.step ∷ [])) (sym is) next.0;
@@ -278,7 +278,7 @@ begun_numbered o settings line set core' stage' old new before after is_header s
           ∙ append_assoc (header_text settings) (10 ∷ []) (numbered_marks 0 s.step.event (iface_text s.step) (engine_text s.step))
           ∙ ap (λ (x : Version). script_by x (s.step ∷ [])) (sym is);
     }) where
-      ends_are : Stands settings core' (s.step ∷ []) → core'.ends ≡ opened
+      ends_are : Stands settings core' (s.step ∷ []) → core'.ends ≡ ends_once_open
       ends_are st' = core_ends settings set core' [] s.step Open s.adds.event st st' ∙ ap (λ (x : Ends). ends_after x Open) (ap (λ (v : CoreParts). v.ends) st.0)
 
 -- WHAT THE CODE NEEDS OF A STAGE

@@ -4,13 +4,13 @@ use Rattle.line_io.specs.Event.{Event}
 use Rattle.line_io.specs.Lines.{Piece, Whole, TooLong, items}
 use Rattle.command_endings.specs.declared.ending.Ending.{Ending}
 use Rattle.command_endings.specs.Reads.{AreFirst, IsAll}
-use Rattle.script_player.specs.Versions.{Version, First, Second, version_in, behind_header, header_lines, Place, LineSaid, Comes, Passes, Starts, HasNoMark, IsOutOfStep, Cannot, line_says, place_said, place_over, fault_said, or_later, first_fault, events_said, events_of, beginning, fault_by, script_fault}
+use Rattle.script_player.specs.Versions.{Version, First, Second, version_in, behind_header, header_lines, ScriptPlace, LineSaid, Comes, Passes, Starts, HasNoMark, IsOutOfStep, Cannot, line_says, place_said, place_over, fault_said, or_later, first_fault, events_said, events_of, beginning, fault_by, script_fault}
 
 pub no_earlier : (a b : Option Ending) → or_later a b ≡ None → (a ≡ None) × (b ≡ None)
 no_earlier None b e = (refl, e)
 no_earlier (Some x) b e = cc
 
-pub place_more : (place : Place) (ls : List Piece) (l : Piece) → place_over place (ls ++ l ∷ []) ≡ place_said (place_over place ls) (line_says (place_over place ls) l)
+pub place_more : (place : ScriptPlace) (ls : List Piece) (l : Piece) → place_over place (ls ++ l ∷ []) ≡ place_said (place_over place ls) (line_says (place_over place ls) l)
 place_more place [] l = refl
 place_more place (x ∷ ls) l = place_more (place_said place (line_says place x)) ls l
 
@@ -19,7 +19,7 @@ or_none None = refl
 or_none (Some x) = refl
 
 -- where none of the lines is a fault, the next line may be one
-pub fault_more : (n : ℕ) (place : Place) (ls : List Piece) (l : Piece) → first_fault n place ls ≡ None → first_fault n place (ls ++ l ∷ []) ≡ fault_said (n + length ls) (line_says (place_over place ls) l)
+pub fault_more : (n : ℕ) (place : ScriptPlace) (ls : List Piece) (l : Piece) → first_fault n place ls ≡ None → first_fault n place (ls ++ l ∷ []) ≡ fault_said (n + length ls) (line_says (place_over place ls) l)
 fault_more n place [] l e = or_none (fault_said n (line_says place l)) ∙ ap (λ k. fault_said k (line_says place l)) (let z : n ≡ n + 0 = omega arith in z)
 fault_more n place (x ∷ ls) l e =
     let f = no_earlier (fault_said n (line_says place x)) (first_fault (n + 1) (place_said place (line_says place x)) ls) e in
@@ -35,7 +35,7 @@ said_more n HasNoMark es fs f = cc
 said_more n IsOutOfStep es fs f = cc
 said_more n Cannot es fs f = cc
 
-pub events_more : (n : ℕ) (place : Place) (ls : List Piece) (l : Piece) → first_fault n place ls ≡ None → events_of place (ls ++ l ∷ []) ≡ events_of place ls ++ events_said (line_says (place_over place ls) l) []
+pub events_more : (n : ℕ) (place : ScriptPlace) (ls : List Piece) (l : Piece) → first_fault n place ls ≡ None → events_of place (ls ++ l ∷ []) ≡ events_of place ls ++ events_said (line_says (place_over place ls) l) []
 events_more n place [] l e = refl
 events_more n place (x ∷ ls) l e =
     let f = no_earlier (fault_said n (line_says place x)) (first_fault (n + 1) (place_said place (line_says place x)) ls) e in
@@ -43,7 +43,7 @@ events_more n place (x ∷ ls) l e =
     ∙ said_more n (line_says place x) (events_of (place_said place (line_says place x)) ls) (events_said (line_says (place_over place (x ∷ ls)) l) []) f.0
 
 -- a first fault stays the first, whatever lines follow
-pub fault_stays : (n : ℕ) (place : Place) (ls ms : List Piece) (f : Ending) → first_fault n place ls ≡ Some f → first_fault n place (ls ++ ms) ≡ Some f
+pub fault_stays : (n : ℕ) (place : ScriptPlace) (ls ms : List Piece) (f : Ending) → first_fault n place ls ≡ Some f → first_fault n place (ls ++ ms) ≡ Some f
 fault_stays n place [] ms f e = cc
 fault_stays n place (x ∷ ls) ms f e = stays (fault_said n (line_says place x)) (first_fault (n + 1) (place_said place (line_says place x)) ls) (first_fault (n + 1) (place_said place (line_says place x)) (ls ++ ms)) e (fault_stays (n + 1) (place_said place (line_says place x)) ls ms f) where
   stays : (a b c : Option Ending) → or_later a b ≡ Some f → (b ≡ Some f → c ≡ Some f) → or_later a c ≡ Some f
@@ -57,7 +57,7 @@ pub version_stays : (l : Piece) (ls ms : List Piece) → version_in ((l ∷ ls) 
 version_stays (Whole line) ls ms = refl
 version_stays TooLong ls ms = refl
 
--- lines with a header behind which others stand
+-- lines with a header after which others stand
 pub behind_more : (v : Version) (ls ms : List Piece) → version_in ls ≡ v → behind_header v (ls ++ ms) ≡ behind_header v ls ++ ms
 behind_more First ls ms e = refl
 behind_more (Second settings) [] ms e = cc

@@ -25,7 +25,7 @@ pub record Adds (old new : CoreParts) (e : Event) (step : Step) : Type 0 where
   pub event : step.event ≡ e
   pub extends : (o : Settings) (t : List Step) → Lawful o t → Stands o old t → Lawful o (step ∷ t) × Stands o new (step ∷ t)
 
--- the text of a step, behind its number if it has one
+-- the text of a step, after its number if it has one
 abbrev pub text_by : Option ℕ → Step → List ℕ
 text_by (Some number) step = numbered_marks number step.event (iface_text step) (engine_text step)
 text_by None step = step_text step

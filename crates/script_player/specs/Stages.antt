@@ -16,13 +16,13 @@ kind kinds.Writes = reading.Writes
 kind (kinds.Numbers number) = reading.Numbers number
 kind kinds.HasNone = reading.HasNone
 
-abbrev pub said : code_said.LineSaid → LineSaid
-said (saids.Comes event) = reading.Comes (event_of event)
-said saids.Passes = reading.Passes
-said (saids.Starts number) = reading.Starts number
-said saids.HasNoMark = reading.HasNoMark
-said saids.IsOutOfStep = reading.IsOutOfStep
-said saids.Cannot = reading.Cannot
+abbrev pub line_said_of : code_said.LineSaid → LineSaid
+line_said_of (saids.Comes event) = reading.Comes (event_of event)
+line_said_of saids.Passes = reading.Passes
+line_said_of (saids.Starts number) = reading.Starts number
+line_said_of saids.HasNoMark = reading.HasNoMark
+line_said_of saids.IsOutOfStep = reading.IsOutOfStep
+line_said_of saids.Cannot = reading.Cannot
 
 -- the number of a step has at most 18 digits
 abbrev pub IsNumbered : ScriptStage → Type 0

@@ -50,7 +50,7 @@ abbrev pub version_in : List Piece → Version
 version_in (Whole line ∷ lines) = version_by (header_of line)
 version_in lines = First
 
--- the lines behind the header
+-- the lines after the header
 abbrev pub behind_header : Version → List Piece → List Piece
 behind_header First lines = lines
 behind_header (Second settings) (header ∷ lines) = lines
@@ -72,7 +72,7 @@ script_by (Second settings) trace = script2 settings trace
 -- THE LINES IN ORDER
 
 -- where a reading stands: the stage, and the sides after the events that came
-pub record Place : Type 0 where
+pub record ScriptPlace : Type 0 where
   pub stage : ScriptStage
   pub ends : Ends
 
@@ -91,7 +91,7 @@ event_says ends e = if may ends e then Comes e else Cannot
 abbrev pub number_says : ℕ → ℕ → LineSaid
 number_says due number = if number == due then Starts number else IsOutOfStep
 
--- In version 1 marks come in any order. With a header step 0 comes behind the header, and then step by step its number, the mark of
+-- In version 1 marks come in any order. With a header step 0 comes after the header, and then step by step its number, the mark of
 -- its event, and the lines that it wrote. Open is the event of step 0, and has no mark.
 abbrev pub kind_says : ScriptStage → Ends → LineKind → LineSaid
 kind_says stages.Start ends kind = HasNoMark
@@ -110,7 +110,7 @@ kind_says (stages.Numbered number) ends (Tells e) = event_says ends e
 kind_says (stages.Numbered number) ends HasNone = HasNoMark
 kind_says (stages.Numbered number) ends kind = IsOutOfStep
 
-abbrev pub line_says : Place → Piece → LineSaid
+abbrev pub line_says : ScriptPlace → Piece → LineSaid
 line_says place line = kind_says place.stage place.ends (kind_of line)
 
 abbrev pub stage_started : ScriptStage → ℕ → ScriptStage
@@ -121,13 +121,13 @@ abbrev pub stage_told : ScriptStage → ScriptStage
 stage_told (stages.Numbered number) = stages.Told number
 stage_told stage = stage
 
-abbrev pub place_said : Place → LineSaid → Place
+abbrev pub place_said : ScriptPlace → LineSaid → ScriptPlace
 place_said place (Comes e) = record { stage = stage_told place.stage; ends = ends_after place.ends e }
 place_said place (Starts number) = record { stage = stage_started place.stage number; ends = place.ends }
 place_said place s = place
 
--- where the reading stands behind lines
-abbrev pub place_over : Place → List Piece → Place
+-- where the reading stands after lines
+abbrev pub place_over : ScriptPlace → List Piece → ScriptPlace
 place_over place [] = place
 place_over place (l ∷ ls) = place_over (place_said place (line_says place l)) ls
 
@@ -143,7 +143,7 @@ or_later None later = later
 or_later (Some e) later = Some e
 
 -- the first line that has no mark, is out of step or whose event may not come, if the first line has this number
-abbrev pub first_fault : ℕ → Place → List Piece → Option Ending
+abbrev pub first_fault : ℕ → ScriptPlace → List Piece → Option Ending
 first_fault n place [] = None
 first_fault n place (l ∷ ls) =
     or_later (fault_said n (line_says place l)) (first_fault (n + 1) (place_said place (line_says place l)) ls)
@@ -155,23 +155,23 @@ events_said (Starts number) later = later
 events_said s later = []
 
 -- the events of lines, up to the first fault
-abbrev pub events_of : Place → List Piece → List Event
+abbrev pub events_of : ScriptPlace → List Piece → List Event
 events_of place [] = []
 events_of place (l ∷ ls) = events_said (line_says place l) (events_of (place_said place (line_says place l)) ls)
 
 -- A WHOLE SCRIPT
 
 -- the sides once the session was opened
-abbrev pub opened : Ends
-opened = ends_after at_start Open
+abbrev pub ends_once_open : Ends
+ends_once_open = ends_after at_start Open
 
 abbrev pub first_stage : Version → ScriptStage
 first_stage First = stages.Plain
 first_stage (Second settings) = stages.Headed
 
 -- where the reading stands before the first mark or step line
-abbrev pub beginning : Version → Place
-beginning version = record { stage = first_stage version; ends = opened }
+abbrev pub beginning : Version → ScriptPlace
+beginning version = record { stage = first_stage version; ends = ends_once_open }
 
 abbrev pub fault_by : Version → List Piece → Option Ending
 fault_by version lines = first_fault (1 + header_lines version) (beginning version) (behind_header version lines)

@@ -33,7 +33,7 @@ pub struct Player {
     text: Out,
 }
 
-// One step of the core, and its marks, behind its number if steps are numbered.
+// One step of the core, and its marks, after its number if steps are numbered.
 fn step(core: &mut Core, stage: ScriptStage, event: &Event, text: &mut Out)
     requires may { may core.old.ends (event_of event.now) ≡ true }
     requires stage { IsNumbered stage }

@@ -2,7 +2,7 @@
 ghost use Rattle.std.specs.Prelude.{◌≡◌, ◌<◌, ◌^◌};
 ghost use Rattle.line_io.specs.Lines.{Whole};
 ghost use Rattle.script_player.specs.Versions.{kind_of, kind_says, stage_started, stage_told};
-ghost use Rattle.script_player.specs.Stages.{kind, number_of, said, IsNumbered};
+ghost use Rattle.script_player.specs.Stages.{kind, number_of, line_said_of, IsNumbered};
 
 use adapter_core::Core;
 use line_io::Event;
@@ -15,7 +15,7 @@ pub enum ScriptStage {
     Start,
     /// A mark of version 1.
     Plain,
-    /// The first step behind a header.
+    /// The first step after a header.
     Headed,
     /// What the step with this number wrote, or the next step.
     Told(u64),
@@ -65,7 +65,7 @@ fn kind_of(line: &[u8]) -> LineKind<'_>
 }
 
 fn event_says<'a>(core: &Core, event: Event<'a>) -> LineSaid<'a>
-    ensures { said result ≡ event_says core.now.ends (event_of event.entry) }
+    ensures { line_said_of result ≡ event_says core.now.ends (event_of event.entry) }
 {
     if core.may(&event) {
         LineSaid::Comes(event)
@@ -78,7 +78,7 @@ ghost use Rattle.line_io.specs.Event.{event_of};
 ghost use Rattle.script_player.specs.Versions.{event_says, number_says};
 
 fn number_says<'a>(due: u64, number: u64) -> LineSaid<'a>
-    ensures { said result ≡ number_says due number }
+    ensures { line_said_of result ≡ number_says due number }
 {
     if number == due {
         LineSaid::Starts(number)
@@ -91,7 +91,7 @@ impl ScriptStage {
     /// What a line says here.
     pub fn says<'a>(self, core: &Core, line: &'a [u8]) -> LineSaid<'a>
         requires { IsNumbered self }
-        ensures { said result ≡ kind_says self core.now.ends (kind_of (Whole line.now)) }
+        ensures { line_said_of result ≡ kind_says self core.now.ends (kind_of (Whole line.now)) }
     {
         match (self, kind_of(line)) {
             (ScriptStage::Start, _) | (_, LineKind::HasNone) => LineSaid::HasNoMark,
@@ -119,7 +119,7 @@ impl ScriptStage {
         }
     }
 
-    /// The stage behind the number of a step.
+    /// The stage after the number of a step.
     pub fn started(self, number: u64) -> ScriptStage
         ensures { result ≡ stage_started self number }
     {
@@ -129,7 +129,7 @@ impl ScriptStage {
         }
     }
 
-    /// The stage behind the mark of an event.
+    /// The stage after the mark of an event.
     pub fn told(self) -> ScriptStage
         ensures { result ≡ stage_told self }
     {

@@ -17,7 +17,7 @@ const ROWS: [Run; 11] = [
         Ending::Done,
         b"",
     ),
-    // What was written is ignored; an order may come behind `quit`, and nothing is written for it.
+    // What was written is ignored; an order may come after `quit`, and nothing is written for it.
     (
         Command::Drive,
         b"x uci\nU hello\nX hello\nx quit\nx isready\nx.\nx isready\nu.\n",
@@ -33,7 +33,7 @@ const ROWS: [Run; 11] = [
         Ending::Done,
         b"",
     ),
-    // Nothing of the engine comes behind its end.
+    // Nothing of the engine comes after its end.
     (
         Command::Drive,
         b"u.\nx uci\nu.\n",

@@ -2,7 +2,7 @@
 use crate::runs::{Command, Run, expect_runs};
 use command_endings::Ending;
 
-// A game that Black mates; a game behind one that began with a position, and a fault; a game in which a position was
+// A game that Black mates; a game after one that began with a position, and a fault; a game in which a position was
 // refused and a move taken back, then a `new` without moves, and a game from a position that is not over.
 const ROWS: [Run; 3] = [
     (

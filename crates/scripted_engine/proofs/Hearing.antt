@@ -103,7 +103,7 @@ halted_write blocks turns turns' pieces output0 output output' line text rose wr
   );
 }
 
--- nothing is answered behind a `quit`
+-- nothing is answered after a `quit`
 until_stays : (ps qs : List Piece) → has_quit (until_quit ps) ≡ true → until_quit (ps ++ qs) ≡ until_quit ps
 until_stays [] qs = λ e. cc
 until_stays (TooLong ∷ ps) qs = until_stays ps qs

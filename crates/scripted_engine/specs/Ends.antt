@@ -71,7 +71,7 @@ NoScript old new script BadScript = IsRead new script × IsSome (first_bad scrip
 NoScript old new script TooLarge = SCRIPT_LIMIT < length script
 NoScript old new script Endless = ⊥
 
--- All lines were answered, up to the first `quit` or to the end: whatever is left behind them, and
+-- All lines were answered, up to the first `quit` or to the end: whatever is left after them, and
 -- nothing is left if the end was seen.
 pub record AnswersAll (blocks : List Block) (old new : Supplied) (heard told : List ℕ) : Type 0 where
   pub ended : Bool

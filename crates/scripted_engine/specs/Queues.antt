@@ -17,9 +17,9 @@ none = record { answers = []; next = 0 }
 abbrev pub with_text : Queue → List ℕ → Queue
 with_text q text = record { answers = q.answers ++ text ∷ []; next = q.next }
 
--- the next answer is that behind this one, and the last one stays
-abbrev pub advanced : Queue → Queue
-advanced q = record { answers = q.answers; next = if nat_lt 1 (length q.answers - q.next) then q.next + 1 else q.next }
+-- the next answer is that after this one, and the last one stays
+abbrev pub queue_at_next : Queue → Queue
+queue_at_next q = record { answers = q.answers; next = if nat_lt 1 (length q.answers - q.next) then q.next + 1 else q.next }
 
 abbrev pub text_at : Queue → ℕ → List ℕ
 text_at q at = option_map_or (λ t. t) (slice_get q.answers at) []

@@ -1,6 +1,6 @@
 // The answers for one word.
 ghost use Rattle.std.specs.Prelude.{◌≡◌, OnOk, IfErr};
-ghost use Rattle.scripted_engine.specs.Queues.{none, with_text, advanced, text_at};
+ghost use Rattle.scripted_engine.specs.Queues.{none, with_text, queue_at_next, text_at};
 ghost use Rattle.scripted_engine.specs.declared.script.ScriptFault.TheVariants.{NoMemory};
 
 use crate::ScriptFault;
@@ -34,7 +34,7 @@ impl Queue {
         }
     }
 
-    /// Puts an answer behind the others.
+    /// Puts an answer after the others.
     pub fn add(&mut self, alloc: Global, answer: &[u8]) -> Result<(), ScriptFault>
         ensures added { OnOk result (self.new ≡ with_text self.old answer.now) }
         ensures memory { IfErr result (λ fault. fault ≡ NoMemory) }
@@ -46,7 +46,7 @@ impl Queue {
     /// The place of the answer that comes next. The last one comes again and again.
     pub fn take(&mut self) -> usize
         ensures place { result ≡ self.old.next }
-        ensures later { self.new ≡ advanced self.old }
+        ensures later { self.new ≡ queue_at_next self.old }
     {
         let at = self.next;
         if self.answers.len().saturating_sub(at) > 1 {

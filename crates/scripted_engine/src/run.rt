@@ -1,6 +1,6 @@
 // The program.
 ghost use Rattle.std.specs.Prelude.{◌≡◌, ◌↔◌, ℕ, List, [], length, None, MatchResult};
-ghost use Rattle.line_io.specs.Lines.{unread, Reads};
+ghost use Rattle.line_io.specs.Lines.{empty_reader, Reads};
 ghost use Rattle.line_io.specs.Source.{Supplied};
 ghost use Rattle.scripted_engine.specs.Blocks.{Block};
 ghost use Rattle.scripted_engine.specs.Script.{blocks_of, first_bad};
@@ -50,7 +50,7 @@ fn answer_lines<I: Source, O: Sink>(
     input: &mut I,
     output: &mut O,
 ) -> ScriptedEnding
-    requires { lines.old ≡ unread PEER_LINE }
+    requires { lines.old ≡ empty_reader PEER_LINE }
     ensures { (blocks : List Block) (file file' : Supplied) → Stands scripted.old blocks []
         → Answered result blocks
         (streams file (I.state input.old) (O.state output.old))

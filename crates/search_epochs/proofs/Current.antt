@@ -10,8 +10,8 @@ use Rattle.search_epochs.specs.declared.words.Call.TheVariants as calls
 use Rattle.search_epochs.specs.declared.words.Said.TheVariants as said
 use Rattle.search_epochs.specs.declared.words.Orders.{Orders}
 use Rattle.search_epochs.specs.declared.words.Orders.TheVariants as orders
-use Rattle.search_epochs.specs.Tickets.{Engine, Search, What, Says, Ticketed, Turn, TicketWithin, LastWithin, turned, is_move, is_nothing, kind_of}
-use Rattle.search_epochs.specs.Dialogue.{Dialogue, forget, stale_state, settled_state, choose, choose_search, after_what, mid_dialogue, kept}
+use Rattle.search_epochs.specs.Tickets.{Engine, Search, What, Says, Ticketed, DialogueTurn, TicketWithin, LastWithin, before_orders, is_move, is_nothing, kind_of}
+use Rattle.search_epochs.specs.Dialogue.{Dialogue, forget, stale_state, settled_state, choose, choose_search, after_what, mid_dialogue, dialogue_between_steps}
 use Rattle.search_epochs.specs.History.{answers, answers_at, is_end}
 use Rattle.search_epochs.proofs.Whole.{mid_kept}
 
@@ -60,12 +60,12 @@ answers_forgotten epoch e (Says said.UciOk) = refl
 answers_forgotten epoch e w = refl
 
 -- the same of a dialogue
-pub turned_current : (P : GoKind → Call → Type 0) (t : Ticketed) (u : Turn) (call : Call) → TicketWithin t.epoch t.engine → LastWithin t.epoch t.last
+pub turned_current : (P : GoKind → Call → Type 0) (t : Ticketed) (u : DialogueTurn) (call : Call) → TicketWithin t.epoch t.engine → LastWithin t.epoch t.last
     → (u.begins_epoch ≡ false → u.call ≡ cond (answers t u.what || is_end u.what) calls.Nothing call)
-    → IfCurrent (forget t.epoch t.engine) (λ k. P k call) → IfCurrent (forget (turned t u).epoch (turned t u).engine) (λ k. P k u.call)
+    → IfCurrent (forget t.epoch t.engine) (λ k. P k call) → IfCurrent (forget (before_orders t u).epoch (before_orders t u).engine) (λ k. P k u.call)
 turned_current P t u call w l stays h =
     subst (λ (v : Dialogue). IfCurrent v.state (λ k. P k u.call)) (mid_kept t u.hint u w l)
-    (mid_current P (kept t u.hint) u.what u.begins_epoch call u.call
+    (mid_current P (dialogue_between_steps t u.hint) u.what u.begins_epoch call u.call
     (λ r. stays r ∙ ap (λ b. cond (b || is_end u.what) calls.Nothing call) (sym (answers_forgotten t.epoch t.engine u.what))) h)
 
 module _ (P : Orders → GoKind → Type 0) where

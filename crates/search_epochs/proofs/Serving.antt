@@ -10,9 +10,9 @@ use Rattle.search_epochs.specs.declared.words.Call.TheVariants as calls
 use Rattle.search_epochs.specs.declared.words.Said.TheVariants as said
 use Rattle.search_epochs.specs.declared.words.Orders.{Orders}
 use Rattle.search_epochs.specs.declared.words.Orders.TheVariants as orders
-use Rattle.search_epochs.specs.Tickets.{Engine, Search, What, Says, Ticketed, Turn, Word, TicketWithin, LastWithin, AllSetup, Serves, said_of, closed_ticket, is_some_equal, sent_all, spent, owed, turned, after, is_move, is_nothing, is_hurry, kind_of, has_go, has_hit}
+use Rattle.search_epochs.specs.Tickets.{Engine, Search, What, Says, Ticketed, DialogueTurn, Word, TicketWithin, LastWithin, AllSetup, Serves, said_of, closed_ticket, is_some_equal, sent_all, is_call_spent, owed, before_orders, after, is_move, is_nothing, is_hurry, kind_of, has_go, has_hit}
 use Rattle.search_epochs.specs.Dialogue.{forget, words, choose}
-use Rattle.search_epochs.specs.History.{Exchange, MayCome, AreLawful, IsSteady, Steady, Lawful, IsDeaf, dialogue, is_closed, last_call, last_hint, began, answers, answers_at, is_end}
+use Rattle.search_epochs.specs.History.{Exchange, MayCome, AreLawful, IsSteady, Steady, Lawful, IsDeaf, dialogue, is_closed, last_call, last_hint, call_of_last_search, answers, answers_at, is_end}
 use Rattle.search_epochs.specs.Laws.{CurrentServes, MoveIsOwed}
 use Rattle.search_epochs.proofs.Turns.{risen_spent, ordered}
 use Rattle.search_epochs.proofs.Whole.{last_within}
@@ -40,9 +40,9 @@ abbrev pub IsServed : EngineState → Call → Call → Type 0
 IsServed e begun call = IfCurrent e (λ k. Serves k call × (begun ≡ call))
 
 -- in an open session
-pub turned_served : (t : Ticketed) (u : Turn) (begun call : Call) → TicketWithin t.epoch t.engine → LastWithin t.epoch t.last
+pub turned_served : (t : Ticketed) (u : DialogueTurn) (begun call : Call) → TicketWithin t.epoch t.engine → LastWithin t.epoch t.last
     → (u.begins_epoch ≡ false → u.call ≡ cond (answers t u.what || is_end u.what) calls.Nothing call)
-    → IsServed (forget t.epoch t.engine) begun call → IsServed (forget (turned t u).epoch (turned t u).engine) begun u.call
+    → IsServed (forget t.epoch t.engine) begun call → IsServed (forget (before_orders t u).epoch (before_orders t u).engine) begun u.call
 turned_served t u begun call w l stays h = turned_current (λ k c. Serves k c × (begun ≡ c)) t u call w l stays h
 
 pub after_served : (m : Ticketed) (waiting : List Word) (begun call : Call) (unsent matches hurry : Bool) → AllSetup waiting → IsServed (forget m.epoch m.engine) begun call
@@ -55,10 +55,10 @@ after_served m waiting begun call unsent matches hurry a h =
       served o k = Serves k call × (cond (begins_search (words waiting o)) call begun ≡ call)
 
       begins : is_nothing (owed m call) ≡ false → served (orders.Begin (owed m call)) (kind_of (owed m call))
-      begins e = (subst (Serves (kind_of (owed m call))) (owed_is_called (spent m) call e) (e, refl), refl)
+      begins e = (subst (Serves (kind_of (owed m call))) (owed_is_called (is_call_spent m) call e) (e, refl), refl)
 
       hits : is_move (owed m call) ≡ true → served orders.Hit kinds.Move
-      hits e = (subst (Serves kinds.Move) (owed_is_called (spent m) call (move_is_something (owed m call) e)) (move_serves (owed m call) e), refl)
+      hits e = (subst (Serves kinds.Move) (owed_is_called (is_call_spent m) call (move_is_something (owed m call) e)) (move_serves (owed m call) e), refl)
 
 -- a call that is spent
 
@@ -95,10 +95,10 @@ heard_unspent epoch x w last closed call call' e d h u n = no_move _ call call' 
 
 -- A call for a Move is not spent in the middle of a turn: a Best that closes a current search for a Move begins an epoch or ends the
 -- call, and any other current search serves another call.
-pub turned_unspent : (t : Ticketed) (u : Turn) (closed : Bool) (call : Call) → TicketWithin t.epoch t.engine → LastWithin t.epoch t.last
+pub turned_unspent : (t : Ticketed) (u : DialogueTurn) (closed : Bool) (call : Call) → TicketWithin t.epoch t.engine → LastWithin t.epoch t.last
     → (u.begins_epoch ≡ false → u.call ≡ cond (closed || (answers t u.what || is_end u.what)) calls.Nothing call) → (closed ≡ true → IsDeaf u.what)
-    → (closed ≡ false → IfCurrent (forget t.epoch t.engine) (λ k. Serves k call)) → (spent t ≡ true → is_move call ≡ false)
-    → spent (turned t u) ≡ true → is_move u.call ≡ false
+    → (closed ≡ false → IfCurrent (forget t.epoch t.engine) (λ k. Serves k call)) → (is_call_spent t ≡ true → is_move call ≡ false)
+    → is_call_spent (before_orders t u) ≡ true → is_move u.call ≡ false
 turned_unspent t u closed call w l stays d h before n = by_rise u.begins_epoch refl n where
   by_rise : (r : Bool) → u.begins_epoch ≡ r → is_some_equal (closed_ticket t.engine (said_of u.what) t.last) (cond r (t.epoch + 1) t.epoch) ≡ true → is_move u.call ≡ false
   by_rise true e n = let never = risen_spent t.epoch (closed_ticket t.engine (said_of u.what) t.last) (last_within t.epoch t.engine (said_of u.what) t.last w l) in cc
@@ -107,7 +107,7 @@ turned_unspent t u closed call w l stays d h before n = by_rise u.begins_epoch r
 -- both, of a dialogue
 pub record IsServing (closed : Bool) (t : Ticketed) (begun call : Call) : Type 0 where
   pub served : closed ≡ false → IsServed (forget t.epoch t.engine) begun call
-  pub unspent : spent t ≡ true → is_move call ≡ false
+  pub unspent : is_call_spent t ≡ true → is_move call ≡ false
 
 first_of_served : (e : EngineState) (begun call : Call) → IsServed e begun call → IfCurrent e (λ k. Serves k call)
 first_of_served states.Boot begun call h = tt
@@ -124,35 +124,35 @@ still_open false b up e = refl
 -- through a whole exchange
 pub exchange_serving : (t : Ticketed) (closed : Bool) (begun call : Call) (hint : Option Move) (x : Exchange) → TicketWithin t.epoch t.engine → LastWithin t.epoch t.last
     → IsSteady t call hint x → MayCome closed x → AreLawful t closed x → IsServing closed t begun call
-    → IsServing x.closed (after (turned t x.turn) x.orders) (cond (begins_search x.orders) x.turn.call begun) x.turn.call
+    → IsServing x.closed (after (before_orders t x.turn) x.orders) (cond (begins_search x.orders) x.turn.call begun) x.turn.call
 exchange_serving t closed begun call hint x w l steady m a h = record { served = served; unspent = unspent } where
   open_before : x.closed ≡ false → closed ≡ false
   open_before e = still_open closed x.closed m.stays_closed e
 
-  unspent : spent (turned t x.turn) ≡ true → is_move x.turn.call ≡ false
+  unspent : is_call_spent (before_orders t x.turn) ≡ true → is_move x.turn.call ≡ false
   unspent n =
       turned_unspent t x.turn x.closed call w l steady.call_stays m.deaf (λ e. first_of_served (forget t.epoch t.engine) begun call (h.served (open_before e))) h.unspent n
 
   stays : x.closed ≡ false → x.turn.begins_epoch ≡ false → x.turn.call ≡ cond (answers t x.turn.what || is_end x.turn.what) calls.Nothing call
   stays e r = steady.call_stays r ∙ ap (λ b. cond (b || (answers t x.turn.what || is_end x.turn.what)) calls.Nothing call) e
 
-  served : x.closed ≡ false → IsServed (forget (turned t x.turn).epoch (sent_all (turned t x.turn).epoch (turned t x.turn).engine x.orders)) (cond (begins_search x.orders) x.turn.call begun) x.turn.call
+  served : x.closed ≡ false → IsServed (forget (before_orders t x.turn).epoch (sent_all (before_orders t x.turn).epoch (before_orders t x.turn).engine x.orders)) (cond (begins_search x.orders) x.turn.call begun) x.turn.call
   served e =
-      subst (λ (ws : List Word). IsServed (forget (turned t x.turn).epoch (sent_all (turned t x.turn).epoch (turned t x.turn).engine ws)) (cond (begins_search ws) x.turn.call begun) x.turn.call) (sym (open_orders t closed x m a e))
-      (after_served (turned t x.turn) x.turn.waiting begun x.turn.call _ _ (is_hurry x.turn.what) m.waiting (turned_served t x.turn begun call w l (stays e) (h.served (open_before e))))
+      subst (λ (ws : List Word). IsServed (forget (before_orders t x.turn).epoch (sent_all (before_orders t x.turn).epoch (before_orders t x.turn).engine ws)) (cond (begins_search ws) x.turn.call begun) x.turn.call) (sym (open_orders t closed x m a e))
+      (after_served (before_orders t x.turn) x.turn.waiting begun x.turn.call _ _ (is_hurry x.turn.what) m.waiting (turned_served t x.turn begun call w l (stays e) (h.served (open_before e))))
 
-pub serving : (xs : List Exchange) → Steady xs → Lawful xs → IsServing (is_closed xs) (dialogue xs) (began xs) (last_call xs)
+pub serving : (xs : List Exchange) → Steady xs → Lawful xs → IsServing (is_closed xs) (dialogue xs) (call_of_last_search xs) (last_call xs)
 serving [] s l = record { served = λ e. tt; unspent = λ e. cc }
 serving (x ∷ xs) s l =
     let bound = within xs in
-    exchange_serving (dialogue xs) (is_closed xs) (began xs) (last_call xs) (last_hint xs) x bound.0 bound.1 s.1 l.1 l.2 (serving xs s.0 l.0)
+    exchange_serving (dialogue xs) (is_closed xs) (call_of_last_search xs) (last_call xs) (last_hint xs) x bound.0 bound.1 s.1 l.1 l.2 (serving xs s.0 l.0)
 
 pub current_serves : CurrentServes
-current_serves xs k stopped s l going is = at_current (λ g. Serves g (last_call xs) × (began xs ≡ last_call xs)) (dialogue xs).epoch (dialogue xs).engine k stopped is ((serving xs s l).served going)
+current_serves xs k stopped s l going is = at_current (λ g. Serves g (last_call xs) × (call_of_last_search xs ≡ last_call xs)) (dialogue xs).epoch (dialogue xs).engine k stopped is ((serving xs s l).served going)
 
 move_owed : (b : Bool) (call : Call) → (b ≡ true → is_move call ≡ false) → is_move (cond b calls.Nothing call) ≡ is_move call
 move_owed true call h = sym (h refl)
 move_owed false call h = refl
 
 pub move_is_owed : MoveIsOwed
-move_is_owed xs s l = move_owed (spent (dialogue xs)) (last_call xs) ((serving xs s l).unspent)
+move_is_owed xs s l = move_owed (is_call_spent (dialogue xs)) (last_call xs) ((serving xs s l).unspent)

@@ -7,7 +7,7 @@ use Rattle.search_epochs.specs.declared.words.EngineState.{EngineState}
 use Rattle.search_epochs.specs.declared.words.EngineState.TheVariants as states
 use Rattle.search_epochs.specs.declared.words.Call.{Call}
 use Rattle.search_epochs.specs.declared.words.Call.TheVariants as calls
-use Rattle.search_epochs.specs.Tickets.{Engine, Search, Ticketed, Turn, Word, TicketWithin, AllSetup, IsLiveOnlyAt, heard, said_of, closed_ticket, is_some_equal, spent, owed, turned, after, is_move, is_nothing, is_gone, is_hurry}
+use Rattle.search_epochs.specs.Tickets.{Engine, Search, Ticketed, DialogueTurn, Word, TicketWithin, AllSetup, IsLiveOnlyAt, heard, said_of, closed_ticket, is_some_equal, is_call_spent, owed, before_orders, after, is_move, is_nothing, is_gone, is_hurry}
 use Rattle.search_epochs.specs.Dialogue.{forget, stale_state, settled_state, words, choose, choose_search, settled_by}
 use Rattle.search_epochs.specs.History.{Exchange, MayCome, AreLawful, Lawful, dialogue, is_closed}
 use Rattle.search_epochs.specs.Laws.{LiveIsCurrent, StoppedIsForMove, CurrentIsUnspent}
@@ -39,7 +39,7 @@ pub record IsSound (t : Ticketed) : Type 0 where
   pub stops : StopsForMove (forget t.epoch t.engine)
   pub unspent : IsUnspent t.epoch t.engine t.last
 
-pub turned_sound : (t : Ticketed) (u : Turn) → TicketWithin t.epoch t.engine → IsSound t → IsSound (turned t u)
+pub turned_sound : (t : Ticketed) (u : DialogueTurn) → TicketWithin t.epoch t.engine → IsSound t → IsSound (before_orders t u)
 turned_sound t u w h = record { stops = stops u.begins_epoch; unspent = unspent u.begins_epoch } where
   risen_state : forget (t.epoch + 1) (heard t.engine (said_of u.what)) ≡ stale_state (forget t.epoch (heard t.engine (said_of u.what)))
   risen_state = risen t.epoch (heard t.engine (said_of u.what)) (heard_within t.epoch t.engine (said_of u.what) w)
@@ -81,15 +81,15 @@ move_is_something calls.Move e = refl
 move_is_something (calls.Ponder h) e = cc
 move_is_something calls.Analyse e = cc
 
-after_sound : (t : Ticketed) (u : Turn) → AllSetup u.waiting → IsSound (turned t u) → IsSound (after (turned t u) (words u.waiting (settled_by t u)))
+after_sound : (t : Ticketed) (u : DialogueTurn) → AllSetup u.waiting → IsSound (before_orders t u) → IsSound (after (before_orders t u) (words u.waiting (settled_by t u)))
 after_sound t u a h =
-    let m = turned t u in
+    let m = before_orders t u in
     let goes = ordered m.epoch m.engine (owed m u.call) u.waiting _ _ (is_hurry u.what) a in
     record {
       stops = subst StopsForMove goes (settled_stops (forget m.epoch m.engine) (owed m u.call) _ _ (is_hurry u.what) h.stops);
-      unspent = subst (λ (x : EngineState). IfCurrent x (λ k. spent m ≡ false)) goes
-          (settled_current (λ o k. spent m ≡ false) (forget m.epoch m.engine) (owed m u.call) _ _ (is_hurry u.what) h.unspent h.unspent
-          (λ e. unspent_if_owed (spent m) u.call e) (λ e. unspent_if_owed (spent m) u.call (move_is_something (owed m u.call) e)));
+      unspent = subst (λ (x : EngineState). IfCurrent x (λ k. is_call_spent m ≡ false)) goes
+          (settled_current (λ o k. is_call_spent m ≡ false) (forget m.epoch m.engine) (owed m u.call) _ _ (is_hurry u.what) h.unspent h.unspent
+          (λ e. unspent_if_owed (is_call_spent m) u.call e) (λ e. unspent_if_owed (is_call_spent m) u.call (move_is_something (owed m u.call) e)));
     }
 
 -- the orders of a lawful exchange in an open session are those that are chosen
@@ -97,12 +97,12 @@ pub open_orders : (t : Ticketed) (closed : Bool) (x : Exchange) → MayCome clos
 open_orders t closed x m a e = same _ _ _ _ _ _ _ _ _ (a.settled e) (settled_mid t x.turn m.waiting)
 
 -- what holds in the middle of a lawful exchange, and is kept by chosen orders, holds after it
-pub exchanged : (P : Ticketed → Type 0) (t : Ticketed) (closed : Bool) (x : Exchange) → MayCome closed x → AreLawful t closed x → P (turned t x.turn)
-    → (x.closed ≡ false → P (turned t x.turn) → P (after (turned t x.turn) (words x.turn.waiting (settled_by t x.turn)))) → P (after (turned t x.turn) x.orders)
+pub exchanged : (P : Ticketed → Type 0) (t : Ticketed) (closed : Bool) (x : Exchange) → MayCome closed x → AreLawful t closed x → P (before_orders t x.turn)
+    → (x.closed ≡ false → P (before_orders t x.turn) → P (after (before_orders t x.turn) (words x.turn.waiting (settled_by t x.turn)))) → P (after (before_orders t x.turn) x.orders)
 exchanged P t closed x m a mid goes = by_closed x.closed refl where
-  by_closed : (c : Bool) → x.closed ≡ c → P (after (turned t x.turn) x.orders)
-  by_closed true e = subst P (sym (ap (after (turned t x.turn)) (a.closing e) ∙ closing_after (turned t x.turn) closed (is_gone (turned t x.turn).engine))) mid
-  by_closed false e = subst (λ (ws : List Word). P (after (turned t x.turn) ws)) (sym (open_orders t closed x m a e)) (goes e mid)
+  by_closed : (c : Bool) → x.closed ≡ c → P (after (before_orders t x.turn) x.orders)
+  by_closed true e = subst P (sym (ap (after (before_orders t x.turn)) (a.closing e) ∙ closing_after (before_orders t x.turn) closed (is_gone (before_orders t x.turn).engine))) mid
+  by_closed false e = subst (λ (ws : List Word). P (after (before_orders t x.turn) ws)) (sym (open_orders t closed x m a e)) (goes e mid)
 
 pub sound : (xs : List Exchange) → Lawful xs → IsSound (dialogue xs)
 sound [] l = record { stops = tt; unspent = tt }
@@ -124,12 +124,12 @@ stopped_for_move xs k l is =
     (subst (λ (x : Engine). StopsForMove (forget (dialogue xs).epoch x)) is (sound xs l).stops)
 
 pub current_unspent : CurrentIsUnspent
-current_unspent xs k s l is = at_current (λ g. spent (dialogue xs) ≡ false) (dialogue xs).epoch (dialogue xs).engine k s is (sound xs l).unspent
+current_unspent xs k s l is = at_current (λ g. is_call_spent (dialogue xs) ≡ false) (dialogue xs).epoch (dialogue xs).engine k s is (sound xs l).unspent
 
 -- an open search that is not stopped is current, also if the session is closed, since no epoch begins then
-live_closed : (t : Ticketed) (closed : Bool) (x : Exchange) → MayCome closed x → AreLawful t closed x → x.closed ≡ true → IsLiveOnlyAt t.epoch t.engine → IsLiveOnlyAt (turned t x.turn).epoch (after (turned t x.turn) x.orders).engine
+live_closed : (t : Ticketed) (closed : Bool) (x : Exchange) → MayCome closed x → AreLawful t closed x → x.closed ≡ true → IsLiveOnlyAt t.epoch t.engine → IsLiveOnlyAt (before_orders t x.turn).epoch (after (before_orders t x.turn) x.orders).engine
 live_closed t closed x m a e h =
-    let m' = turned t x.turn in
+    let m' = before_orders t x.turn in
     let heard_live : IsLiveOnlyAt t.epoch m'.engine = heard_goes (λ e last. IsLiveOnlyAt t.epoch e) (λ last. tt) (λ last. tt) t.engine x.turn.what t.last h in
     let mid : IsLiveOnlyAt m'.epoch m'.engine = subst (λ b. IsLiveOnlyAt (cond b (t.epoch + 1) t.epoch) m'.engine) (sym (m.no_epoch e)) heard_live in
     subst (λ (n : Ticketed). IsLiveOnlyAt n.epoch n.engine) (sym (ap (after m') (a.closing e) ∙ closing_after m' closed (is_gone m'.engine))) mid
@@ -137,6 +137,6 @@ live_closed t closed x m a e h =
 pub live : LiveIsCurrent
 live [] l = tt
 live (x ∷ xs) l = by_closed x.closed refl (live xs l.0) where
-  by_closed : (c : Bool) → x.closed ≡ c → IsLiveOnlyAt (dialogue xs).epoch (dialogue xs).engine → IsLiveOnlyAt (turned (dialogue xs) x.turn).epoch (after (turned (dialogue xs) x.turn) x.orders).engine
+  by_closed : (c : Bool) → x.closed ≡ c → IsLiveOnlyAt (dialogue xs).epoch (dialogue xs).engine → IsLiveOnlyAt (before_orders (dialogue xs) x.turn).epoch (after (before_orders (dialogue xs) x.turn) x.orders).engine
   by_closed false e h = (l.2.settled e).current
   by_closed true e h = live_closed (dialogue xs) (is_closed xs) x l.1 l.2 e h

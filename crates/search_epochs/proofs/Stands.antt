@@ -10,7 +10,7 @@ use Rattle.search_epochs.specs.declared.words.Call.{Call}
 use Rattle.search_epochs.specs.declared.words.Call.TheVariants as calls
 use Rattle.search_epochs.specs.declared.words.Orders.{Orders}
 use Rattle.search_epochs.specs.declared.words.Orders.TheVariants as orders
-use Rattle.search_epochs.specs.Tickets.{Ticketed, Word, TicketWithin, LastWithin, AllSetup, Settled, sent_all, hear, rise, spent, owed, after, is_empty, is_idle, is_move, while_pondering, hint_after}
+use Rattle.search_epochs.specs.Tickets.{Ticketed, Word, TicketWithin, LastWithin, AllSetup, Settled, sent_all, hear, rise, is_call_spent, owed, after, is_empty, is_idle, is_move, while_pondering, hint_after}
 use Rattle.search_epochs.specs.Dialogue.{Dialogue, StandsFor, forget, meaning, heard_state, heard_spent, stale_state, settled_state, settled_pondered, after_said, after_epoch, after_settled, settle, choose, hits, is_pondered, words}
 use Rattle.search_epochs.proofs.Settles.{chosen}
 use Rattle.search_epochs.proofs.Turns.{heard_both, spent_both, risen, risen_spent, ordered}

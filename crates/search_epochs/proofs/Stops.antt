@@ -1,7 +1,7 @@
 -- At most one `stop` in a search.
 use Rattle.std.proofs.Common.{◌≡◌, ℕ, ◌+◌, ◌≤◌, List, [], ◌∷◌, Bool, true, false, refl, sym, ap, subst, arith}
 use Rattle.peer_words.specs.declared.kinds.GoKind.TheVariants as kinds
-use Rattle.search_epochs.specs.Tickets.{Engine, Boot, Getting, Idle, Search, Gone, Word, Setup, IsReady, Position, Go, Stop, PonderHit, Quit, MaySendAll, Ticketed, turned, sent, sent_all, is_gone}
+use Rattle.search_epochs.specs.Tickets.{Engine, Boot, Getting, Idle, Search, Gone, Word, Setup, IsReady, Position, Go, Stop, PonderHit, Quit, MaySendAll, Ticketed, before_orders, engine_after_word, sent_all, is_gone}
 use Rattle.search_epochs.specs.History.{Exchange, AreLawful, Lawful, dialogue, is_closed, last_orders, stops_after, stops_since_go}
 use Rattle.search_epochs.specs.Laws.{StopsOnce}
 use Rattle.search_epochs.proofs.Turns.{heard_goes}
@@ -25,10 +25,10 @@ at_idle P e i p = subst P (sym i) p
 
 stops_sent : (epoch : ℕ) (e : Engine) (ws : List Word) (n : ℕ) → MaySendAll epoch e ws → AreStops n e → AreStops (stops_after n ws) (sent_all epoch e ws)
 stops_sent epoch e [] n m h = h
-stops_sent epoch e (Setup ∷ ws) n m h = stops_sent epoch (sent epoch e Setup) ws n m.1 (at_idle (λ x. AreStops n (sent epoch x Setup)) e m.0 (few n e h))
-stops_sent epoch e (IsReady ∷ ws) n m h = stops_sent epoch (sent epoch e IsReady) ws n m.1 (at_idle (λ x. AreStops n (sent epoch x IsReady)) e m.0 (few n e h))
-stops_sent epoch e (Position ∷ ws) n m h = stops_sent epoch (sent epoch e Position) ws n m.1 (at_idle (λ x. AreStops n (sent epoch x Position)) e m.0 (few n e h))
-stops_sent epoch e (Go k ∷ ws) n m h = stops_sent epoch (sent epoch e (Go k)) ws 0 m.1 (at_idle (λ x. AreStops 0 (sent epoch x (Go k))) e m.0 refl)
+stops_sent epoch e (Setup ∷ ws) n m h = stops_sent epoch (engine_after_word epoch e Setup) ws n m.1 (at_idle (λ x. AreStops n (engine_after_word epoch x Setup)) e m.0 (few n e h))
+stops_sent epoch e (IsReady ∷ ws) n m h = stops_sent epoch (engine_after_word epoch e IsReady) ws n m.1 (at_idle (λ x. AreStops n (engine_after_word epoch x IsReady)) e m.0 (few n e h))
+stops_sent epoch e (Position ∷ ws) n m h = stops_sent epoch (engine_after_word epoch e Position) ws n m.1 (at_idle (λ x. AreStops n (engine_after_word epoch x Position)) e m.0 (few n e h))
+stops_sent epoch e (Go k ∷ ws) n m h = stops_sent epoch (engine_after_word epoch e (Go k)) ws 0 m.1 (at_idle (λ x. AreStops 0 (engine_after_word epoch x (Go k))) e m.0 refl)
 stops_sent epoch (Search k t true) (Stop ∷ ws) n m h = cc (m.0)
 stops_sent epoch (Search k t false) (Stop ∷ ws) n m h = stops_sent epoch (Search k t true) ws (n + 1) m.1 (omega arith)
 stops_sent epoch (Search kinds.Ponder t true) (PonderHit ∷ ws) n m h = cc (m.0.1)
@@ -44,18 +44,18 @@ closing_may m true gone e = tt
 closing_may m false true e = tt
 closing_may m false false e = (λ g. (let h = ap is_gone g in cc), tt)
 
-pub may_all : (t : Ticketed) (closed : Bool) (x : Exchange) → AreLawful t closed x → MaySendAll (turned t x.turn).epoch (turned t x.turn).engine x.orders
+pub may_all : (t : Ticketed) (closed : Bool) (x : Exchange) → AreLawful t closed x → MaySendAll (before_orders t x.turn).epoch (before_orders t x.turn).engine x.orders
 may_all t closed x a = by_closed x.closed refl where
-  by_closed : (c : Bool) → x.closed ≡ c → MaySendAll (turned t x.turn).epoch (turned t x.turn).engine x.orders
+  by_closed : (c : Bool) → x.closed ≡ c → MaySendAll (before_orders t x.turn).epoch (before_orders t x.turn).engine x.orders
   by_closed false e = (a.settled e).may_send
-  by_closed true e = subst (MaySendAll (turned t x.turn).epoch (turned t x.turn).engine) (sym (a.closing e)) (closing_may (turned t x.turn) closed (is_gone (turned t x.turn).engine) refl)
+  by_closed true e = subst (MaySendAll (before_orders t x.turn).epoch (before_orders t x.turn).engine) (sym (a.closing e)) (closing_may (before_orders t x.turn) closed (is_gone (before_orders t x.turn).engine) refl)
 
 stops_are : (xs : List Exchange) → Lawful xs → AreStops (stops_since_go xs) (dialogue xs).engine
 stops_are [] l = omega arith
 stops_are (x ∷ xs) l =
     let before = stops_are xs l.0 in
     let n = stops_since_go xs in
-    let m = turned (dialogue xs) x.turn in
+    let m = before_orders (dialogue xs) x.turn in
     let mid : AreStops n m.engine = heard_goes (λ e last. AreStops n e) (λ last. few n (dialogue xs).engine before) (λ last. few n (dialogue xs).engine before) (dialogue xs).engine x.turn.what (dialogue xs).last before in
     stops_sent m.epoch m.engine x.orders n (may_all (dialogue xs) (is_closed xs) x l.2) mid
 

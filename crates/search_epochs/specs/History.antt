@@ -9,12 +9,12 @@ use Rattle.search_epochs.specs.declared.words.Call.TheVariants as calls
 use Rattle.search_epochs.specs.declared.words.Said.TheVariants as said
 use Rattle.search_epochs.specs.declared.words.Orders.{Orders}
 use Rattle.search_epochs.specs.declared.words.Orders.TheVariants as orders
-use Rattle.search_epochs.specs.Tickets.{Engine, Search, Word, Go, Stop, Quit, What, Says, Quiet, Ticketed, Turn, Settled, AllSetup, first_dialogue, turned, after, owed, is_due, is_hit, is_hurry, is_empty, is_gone, has_go, has_hit}
+use Rattle.search_epochs.specs.Tickets.{Engine, Search, Word, Go, Stop, Quit, What, Says, Quiet, Ticketed, DialogueTurn, Settled, AllSetup, first_dialogue, before_orders, after, owed, is_due, is_hit, is_hurry, is_empty, is_gone, has_go, has_hit}
 use Rattle.search_epochs.specs.Dialogue.{Dialogue, opening, mid_dialogue, after_settled, settle, words, played_of, boots}
 
 -- one exchange: a turn, the desk's hint after it, whether the session is closed after it, and the orders that are written
 pub record Exchange : Type 0 where
-  pub turn : Turn
+  pub turn : DialogueTurn
   pub hint : Option Move
   pub closed : Bool
   pub orders : List Word
@@ -22,7 +22,7 @@ pub record Exchange : Type 0 where
 -- what was heard and written in all exchanges
 abbrev pub dialogue : List Exchange → Ticketed
 dialogue [] = first_dialogue
-dialogue (x ∷ xs) = after (turned (dialogue xs) x.turn) x.orders
+dialogue (x ∷ xs) = after (before_orders (dialogue xs) x.turn) x.orders
 
 abbrev pub is_closed : List Exchange → Bool
 is_closed [] = false
@@ -59,9 +59,10 @@ last_orders closed gone = if closed || gone then [] else Quit ∷ []
 
 -- its orders are those that are settled
 pub record AreLawful (t : Ticketed) (closed : Bool) (x : Exchange) : Type 0 where
-  pub settled : x.closed ≡ false → Settled (turned t x.turn).engine (turned t x.turn).epoch (owed (turned t x.turn) x.turn.call)
+  pub settled : x.closed ≡ false → Settled (before_orders t x.turn).engine (before_orders t x.turn).epoch (owed (before_orders t x.turn) x.turn.call)
       x.turn.waiting (is_due t x.turn) (is_hit t x.turn) (is_hurry x.turn.what) x.orders
-  pub closing : x.closed ≡ true → x.orders ≡ last_orders closed (is_gone (turned t x.turn).engine)
+  pub closing : x.closed ≡ true
+      → x.orders ≡ last_orders closed (is_gone (before_orders t x.turn).engine)
 
 abbrev pub Lawful : List Exchange → Type 0
 Lawful [] = Unit {0}
@@ -126,9 +127,10 @@ Chosen (x ∷ xs) = Chosen xs × MayCome (is_closed xs) x × (x.orders ≡ order
 -- what is said of a whole dialogue
 
 -- the call for which a search was begun or renewed last
-abbrev pub began : List Exchange → Call
-began [] = calls.Nothing
-began (x ∷ xs) = if has_go x.orders || has_hit x.orders then x.turn.call else began xs
+abbrev pub call_of_last_search : List Exchange → Call
+call_of_last_search [] = calls.Nothing
+call_of_last_search (x ∷ xs) =
+    if has_go x.orders || has_hit x.orders then x.turn.call else call_of_last_search xs
 
 -- how many `stop`s were written since the last `go`
 abbrev pub stops_after : ℕ → List Word → ℕ
@@ -143,8 +145,8 @@ stops_since_go (x ∷ xs) = stops_after (stops_since_go xs) x.orders
 
 -- the engine at the place of an order, with these of the exchange's orders before it
 abbrev pub engine_at : List Exchange → Exchange → List Word → Engine
-engine_at xs x before = (after (turned (dialogue xs) x.turn) before).engine
+engine_at xs x before = (after (before_orders (dialogue xs) x.turn) before).engine
 
 -- an exchange without its orders
-abbrev pub asked : Exchange → Exchange
-asked x = record x { orders = [] }
+abbrev pub without_orders : Exchange → Exchange
+without_orders x = record x { orders = [] }

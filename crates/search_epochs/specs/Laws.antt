@@ -5,31 +5,31 @@ use Rattle.peer_words.specs.declared.kinds.GoKind.{GoKind}
 use Rattle.peer_words.specs.declared.kinds.GoKind.TheVariants as kinds
 use Rattle.search_epochs.specs.declared.words.Call.{Call}
 use Rattle.search_epochs.specs.declared.words.Call.TheVariants as calls
-use Rattle.search_epochs.specs.Tickets.{Engine, Idle, Search, Gone, Word, Setup, IsReady, Position, Go, Stop, PonderHit, Quit, Ticketed, Turn, TicketWithin, LastWithin, AllSetup, Settled, IsLiveOnlyAt, Serves, Paired, turned, after, owed, spent, is_due, is_hit, is_hurry, is_move, is_idle, is_empty, is_nothing, has_quit, only}
-use Rattle.search_epochs.specs.Dialogue.{kept, kept_mid, mid_dialogue, settled_by, after_settled, words}
-use Rattle.search_epochs.specs.History.{Exchange, Steady, Chosen, Lawful, dialogue, view, last_hint, last_call, is_closed, began, stops_since_go, engine_at, asked}
+use Rattle.search_epochs.specs.Tickets.{Engine, Idle, Search, Gone, Word, Setup, IsReady, Position, Go, Stop, PonderHit, Quit, Ticketed, DialogueTurn, TicketWithin, LastWithin, AllSetup, Settled, IsLiveOnlyAt, Serves, Paired, before_orders, after, owed, is_call_spent, is_due, is_hit, is_hurry, is_move, is_idle, is_empty, is_nothing, has_quit, only}
+use Rattle.search_epochs.specs.Dialogue.{dialogue_between_steps, kept_mid, mid_dialogue, settled_by, after_settled, words}
+use Rattle.search_epochs.specs.History.{Exchange, Steady, Chosen, Lawful, dialogue, view, last_hint, last_call, is_closed, call_of_last_search, stops_since_go, engine_at, without_orders}
 
 -- one turn
 
 -- the code keeps the right thing after the event: without the epoch's number it knows what is stale and what is spent
 abbrev pub MidIsKept : Type 0
 MidIsKept =
-    (t : Ticketed) (u : Turn) → TicketWithin t.epoch t.engine → LastWithin t.epoch t.last
-    → mid_dialogue (kept t u.hint) u.what u.begins_epoch ≡ kept_mid t u
+    (t : Ticketed) (u : DialogueTurn) → TicketWithin t.epoch t.engine → LastWithin t.epoch t.last
+    → mid_dialogue (dialogue_between_steps t u.hint) u.what u.begins_epoch ≡ kept_mid t u
 
 -- the orders that are chosen are settled
 abbrev pub TurnIsSettled : Type 0
 TurnIsSettled =
-    (t : Ticketed) (u : Turn) → AllSetup u.waiting
-    → Settled (turned t u).engine (turned t u).epoch (owed (turned t u) u.call) u.waiting (is_due t u) (is_hit t u) (is_hurry u.what) (words u.waiting (settled_by t u))
+    (t : Ticketed) (u : DialogueTurn) → AllSetup u.waiting
+    → Settled (before_orders t u).engine (before_orders t u).epoch (owed (before_orders t u) u.call) u.waiting (is_due t u) (is_hit t u) (is_hurry u.what) (words u.waiting (settled_by t u))
 
 -- and what is kept goes on with the tickets, if the hint afterwards is the one before, unless an epoch begins, and is named by a
 -- call to ponder that is owed
 abbrev pub TurnIsKept : Type 0
 TurnIsKept =
-    (t : Ticketed) (u : Turn) (hint : Option Move) → TicketWithin t.epoch t.engine → AllSetup u.waiting
-    → (u.begins_epoch ≡ false → hint ≡ u.hint) → ((h : Move) → owed (turned t u) u.call ≡ calls.Ponder h → hint ≡ Some h)
-    → after_settled (kept_mid t u) (settled_by t u) ≡ kept (after (turned t u) (words u.waiting (settled_by t u))) hint
+    (t : Ticketed) (u : DialogueTurn) (hint : Option Move) → TicketWithin t.epoch t.engine → AllSetup u.waiting
+    → (u.begins_epoch ≡ false → hint ≡ u.hint) → ((h : Move) → owed (before_orders t u) u.call ≡ calls.Ponder h → hint ≡ Some h)
+    → after_settled (kept_mid t u) (settled_by t u) ≡ dialogue_between_steps (after (before_orders t u) (words u.waiting (settled_by t u))) hint
 
 -- what is settled is one list of orders
 abbrev pub SettledIsUnique : Type 0
@@ -55,11 +55,11 @@ LawfulIsChosen = (xs : List Exchange) → Steady xs → Lawful xs → Chosen xs
 
 -- in each, what the code keeps goes with the tickets
 abbrev pub DialogueIsKept : Type 0
-DialogueIsKept = (xs : List Exchange) → Steady xs → Lawful xs → view xs ≡ kept (dialogue xs) (last_hint xs)
+DialogueIsKept = (xs : List Exchange) → Steady xs → Lawful xs → view xs ≡ dialogue_between_steps (dialogue xs) (last_hint xs)
 
 -- two lawful dialogues in which the same is asked are the same
 abbrev pub DialogueIsUnique : Type 0
-DialogueIsUnique = (xs ys : List Exchange) → Lawful xs → Lawful ys → map asked xs ≡ map asked ys → xs ≡ ys
+DialogueIsUnique = (xs ys : List Exchange) → Lawful xs → Lawful ys → map without_orders xs ≡ map without_orders ys → xs ≡ ys
 
 -- no ticket is ever above the epoch
 abbrev pub TicketsAreWithin : Type 0
@@ -77,7 +77,7 @@ StoppedIsForMove = (xs : List Exchange) (k : GoKind) → Lawful xs → (dialogue
 
 -- there is no open current search beside spent
 abbrev pub CurrentIsUnspent : Type 0
-CurrentIsUnspent = (xs : List Exchange) (k : GoKind) (stopped : Bool) → Lawful xs → (dialogue xs).engine ≡ Search k (dialogue xs).epoch stopped → spent (dialogue xs) ≡ false
+CurrentIsUnspent = (xs : List Exchange) (k : GoKind) (stopped : Bool) → Lawful xs → (dialogue xs).engine ≡ Search k (dialogue xs).epoch stopped → is_call_spent (dialogue xs) ≡ false
 
 -- at most one `stop` is written from a `go` to the next, so in a search, which ends with its answer and goes on after a `ponderhit`
 abbrev pub StopsOnce : Type 0
@@ -95,7 +95,7 @@ NothingIsLeft =
 abbrev pub CurrentServes : Type 0
 CurrentServes =
     (xs : List Exchange) (k : GoKind) (stopped : Bool) → Steady xs → Lawful xs → is_closed xs ≡ false
-    → (dialogue xs).engine ≡ Search k (dialogue xs).epoch stopped → Serves k (last_call xs) × (began xs ≡ last_call xs)
+    → (dialogue xs).engine ≡ Search k (dialogue xs).epoch stopped → Serves k (last_call xs) × (call_of_last_search xs ≡ last_call xs)
 
 -- a call for a Move is never spent: a Move is owed if and only if it is called for
 abbrev pub MoveIsOwed : Type 0

@@ -4,7 +4,7 @@ use Rattle.std.specs.List.{slice_get}
 use Rattle.std.proofs.lemmas.List.{length-take-le, length-map, take_all}
 use Rattle.chess_board.specs.declared.board.Move.{Move}
 use Rattle.chess_board.specs.Position.{Position}
-use Rattle.game_record.specs.Game.{Ply, Game, ply_of, plies_of, IsPlayable, played, now_after, AreLegal, begun, with_ply, without_last}
+use Rattle.game_record.specs.Game.{Ply, Game, ply_of, plies_of, IsPlayable, position_after_ply, now_after, AreLegal, game_from, with_ply, without_last}
 use Rattle.session_writer.specs.Following.{Follows, Stays, Begins, Plays, TakesBack}
 
 -- A MOVE IS PLAYED
@@ -20,7 +20,7 @@ plays g h (TakesBack k e) lt =
 
 pub legal_last : (p : Position) (moves : List Ply) (m : Ply) → AreLegal p (moves ++ m ∷ []) → IsPlayable (now_after p moves) m
 legal_last p [] m h = h.0
-legal_last p (n ∷ moves) m h = legal_last (played p n) moves m h.1
+legal_last p (n ∷ moves) m h = legal_last (position_after_ply p n) moves m h.1
 
 at_end : (moves : List Ply) (m : Ply) → slice_get (moves ++ m ∷ []) (length moves) ≡ Some m
 at_end [] m = refl
@@ -89,9 +89,9 @@ unchanged g h f le ge some = sym (taken_none g) ∙ back g 0 (length g.moves - l
 
 -- NO MOVES
 
-begun_by : (p : Position) (moves : List Ply) → length moves ≡ 0 → begun p ≡ (let x : Game = record { start = p; moves = moves } in x)
+begun_by : (p : Position) (moves : List Ply) → length moves ≡ 0 → game_from p ≡ (let x : Game = record { start = p; moves = moves } in x)
 begun_by p [] e = refl
 begun_by p (m ∷ moves) e = absurd (let z : ⊥ = omega (arith, e) in z)
 
-pub no_moves : (h : Game) → length h.moves ≡ 0 → begun h.start ≡ h
+pub no_moves : (h : Game) → length h.moves ≡ 0 → game_from h.start ≡ h
 no_moves h e = begun_by h.start h.moves e

@@ -8,7 +8,7 @@ use Rattle.adapter_core.specs.Trace.{Step, Lawful}
 use Rattle.adapter_core.proofs.Unique.{unique}
 use Rattle.session_script.specs.Script.{events}
 use Rattle.session_script.proofs.Scripts.{goes_on}
-use Rattle.script_player.specs.Versions.{Version, Place, LineSaid, Comes, Passes, Starts, HasNoMark, IsOutOfStep, Cannot, beginning, behind_header, events_by, events_of, events_said, line_says, place_said, script_events, settings_by, version_in}
+use Rattle.script_player.specs.Versions.{Version, ScriptPlace, LineSaid, Comes, Passes, Starts, HasNoMark, IsOutOfStep, Cannot, beginning, behind_header, events_by, events_of, events_said, line_says, place_said, script_events, settings_by, version_in}
 use Rattle.script_player.proofs.VersionLines.{behind_more, version_stays}
 use Rattle.session_writer.specs.Telling.{game_of}
 use Rattle.session_games.specs.Games.{games_over, over_by}
@@ -24,10 +24,10 @@ said_grows HasNoMark es fs rest h = ([], refl)
 said_grows IsOutOfStep es fs rest h = ([], refl)
 said_grows Cannot es fs rest h = ([], refl)
 
-events_grow : (place : Place) (ls ms : List Piece) → (more : List Event) × (events_of place (ls ++ ms) ≡ events_of place ls ++ more)
+events_grow : (place : ScriptPlace) (ls ms : List Piece) → (more : List Event) × (events_of place (ls ++ ms) ≡ events_of place ls ++ more)
 events_grow place [] ms = (events_of place ms, refl)
 events_grow place (x ∷ ls) ms =
-    let next : Place = place_said place (line_says place x) in
+    let next : ScriptPlace = place_said place (line_says place x) in
     let r = events_grow next ls ms in
     said_grows (line_says place x) (events_of next ls) (events_of next (ls ++ ms)) r.0 r.1
 

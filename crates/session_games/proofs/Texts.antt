@@ -10,14 +10,14 @@ use Rattle.command_endings.specs.declared.ending.Ending.TheVariants as endings
 use Rattle.script_player.specs.Versions.{script_events, settings_by, version_in}
 use Rattle.session_writer.specs.Telling.{ended_text, event_lines, game_at, game_of, game_told, steps_text, told_text}
 use Rattle.session_writer.proofs.Numbers.{as_many}
-use Rattle.session_games.specs.Games.{games_over, games_text, over_by, running}
+use Rattle.session_games.specs.Games.{games_over, games_text, over_by, running_game}
 use Rattle.session_games.specs.Telling.{tells_games, text_all, text_over}
 
 games_text-append : (a b : List Game) → games_text (a ++ b) ≡ games_text a ++ games_text b
 games_text-append [] b = refl
 games_text-append (g ∷ a) b = ap (λ (t : List ℕ). game_text g ++ t) (games_text-append a b) ∙ sym (append_assoc (game_text g) (games_text a) (games_text b))
 
--- the game told of some steps is the one behind them
+-- the game told of some steps is the one after them
 game_is : (q : Settings) (trace : List Step) → game_at (game_told q trace) ≡ game_of q trace
 game_is q [] = refl
 game_is q (s ∷ t) = refl
@@ -36,15 +36,15 @@ module _ (o : Settings) (lines : List Piece) (trace : List Step) (e : events tra
   abbrev q : Settings
   q = settings_by (version_in lines) o
 
-  -- behind its lines it is that of the games that are over
+  -- after its lines it is that of the games that are over
   pub over_told : told_text tells_games o lines trace ≡ text_over q trace
   over_told = steps_are q (event_lines lines) trace (as_many lines trace e)
 
   -- at the end of the input that of all games
   pub all_told : ended_text tells_games endings.Done o lines trace ≡ text_all q trace
   all_told =
-      ap (λ (t : List ℕ). t ++ games_text (running (game_of q trace))) over_told
-      ∙ sym (games_text-append (games_over q trace) (running (game_of q trace)))
+      ap (λ (t : List ℕ). t ++ games_text (running_game (game_of q trace))) over_told
+      ∙ sym (games_text-append (games_over q trace) (running_game (game_of q trace)))
 
   -- at another end no more
   pub cut_told : told_text tells_games o lines trace ++ [] ≡ text_over q trace

@@ -4,7 +4,7 @@ use Rattle.line_io.specs.Event.{Event}
 use Rattle.line_io.specs.Event as events
 use Rattle.cecp_lines.specs.Messages.{IfaceMsg}
 use Rattle.cecp_lines.specs.Messages as says
-use Rattle.cecp_lines.specs.Reading.{reading}
+use Rattle.cecp_lines.specs.Reading.{message_or_fault}
 use Rattle.cecp_lines.specs.declared.iface.IfaceFault.{IfaceFault}
 use Rattle.game_record.specs.Game.{Game}
 use Rattle.game_text.specs.Text.{game_text}
@@ -23,7 +23,7 @@ begins_game message = false
 
 -- the interface says so
 abbrev pub asks_anew : Event → Bool
-asks_anew (events.Iface line) = begins_game (reading line)
+asks_anew (events.Iface line) = begins_game (message_or_fault line)
 asks_anew event = false
 
 -- A game is over if a line that begins a game leaves one without moves in place of one with moves.
@@ -41,14 +41,14 @@ games_over o (step ∷ trace) =
     games_over o trace ++ over_by (game_of o trace) step.event (game_of o (step ∷ trace))
 
 -- the running game, if it has moves
-abbrev pub running : Game → List Game
-running g = if has_moves g then g ∷ [] else []
+abbrev pub running_game : Game → List Game
+running_game g = if has_moves g then g ∷ [] else []
 
 -- At the end of the session the running game is over too.
 abbrev pub games_of : Settings → List Step → List Game
-games_of o trace = games_over o trace ++ running (game_of o trace)
+games_of o trace = games_over o trace ++ running_game (game_of o trace)
 
--- their texts, one behind the other
+-- their texts, one after the other
 abbrev pub games_text : List Game → List ℕ
 games_text [] = []
 games_text (g ∷ games) = game_text g ++ games_text games

@@ -1,7 +1,7 @@
 -- What is told of a session: its games.
 use Rattle.std.specs.Prelude.{◌≡◌, ℕ, List, []}
 use Rattle.chess_board.specs.Play.{start_position}
-use Rattle.game_record.specs.Game.{Game, begun}
+use Rattle.game_record.specs.Game.{Game, game_from}
 use Rattle.policy_rules.specs.declared.settings.Settings.{Settings}
 use Rattle.adapter_core.specs.Trace.{Step}
 use Rattle.command_endings.specs.declared.ending.Ending.{Ending}
@@ -11,17 +11,17 @@ use Rattle.session_writer.specs.declared.writer.SessionWriter.{SessionWriter}
 use Rattle.session_writer.specs.Telling.{Telling, game_at}
 use Rattle.session_writer.specs.Writing as writing
 use Rattle.session_games.specs.declared.teller.GameTeller.{GameTeller}
-use Rattle.session_games.specs.Games.{games_of, games_over, games_text, over_by, running}
+use Rattle.session_games.specs.Games.{games_of, games_over, games_text, over_by, running_game}
 
 -- what is put at an end: the running game, if the input has ended
 abbrev pub last_by : Ending → Game → List Game
-last_by endings.Done g = running g
+last_by endings.Done g = running_game g
 last_by ending g = []
 
 -- a teller of games: for a step the game that is over then, if one is
 abbrev pub tells_games : Telling GameTeller
 tells_games = record {
-  first = record { game = begun start_position };
+  first = record { game = game_from start_position };
   at = λ teller before. teller.game ≡ game_at before;
   step_text = λ number event before after. games_text (over_by (game_at before) event after);
   last_text = λ ending game. games_text (last_by ending game);

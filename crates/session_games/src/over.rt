@@ -1,7 +1,7 @@
 // When a game is over.
 ghost use Rattle.std.specs.Prelude.{◌≡◌};
 ghost use Rattle.line_io.specs.Event.{event_of};
-ghost use Rattle.cecp_lines.specs.Reading.{reading};
+ghost use Rattle.cecp_lines.specs.Reading.{message_or_fault};
 ghost use Rattle.session_games.specs.Games.{asks_anew, begins_game, is_over};
 
 use cecp_lines::{IfaceMsg, read_iface};
@@ -9,7 +9,7 @@ use game_record::Game;
 use line_io::Event;
 
 fn begins_game(line: &[u8]) -> bool
-    ensures { result ≡ begins_game (reading line.now) }
+    ensures { result ≡ begins_game (message_or_fault line.now) }
 {
     matches!(
         read_iface(line),

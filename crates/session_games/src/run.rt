@@ -15,7 +15,7 @@ use std::alloc::Global;
 /// Writes the games of the session whose script is the input, and reports how that ended.
 ///
 /// The settings are those of the script's header, and these if it has none. Each game is a movetext
-/// (PGN standard, section 8.2) on a line of its own, behind its `FEN` tag if it does not begin with
+/// (PGN standard, section 8.2) on a line of its own, after its `FEN` tag if it does not begin with
 /// the usual position.
 pub fn write_games<I: Source, O: Sink, D: Sink>(
     alloc: Global,

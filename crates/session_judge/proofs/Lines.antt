@@ -9,7 +9,7 @@ use Rattle.chess_board.specs.Spelling.{move_of}
 use Rattle.peer_words.specs.Tokens.{is_white, tokens}
 use Rattle.peer_words.proofs.TokenLists.{tokens_white}
 use Rattle.uci_lines.specs.Spells.{begins_white}
-use Rattle.uci_talk.specs.Lines.{Line, line_of, line_in, line_from, line_to, start_in, led, played_if_legal, is_moves, before_moves, behind_moves}
+use Rattle.uci_talk.specs.Lines.{Line, line_of, line_in, line_from, line_to, start_in, position_after_texts, played_if_legal, is_moves, before_moves, behind_moves}
 use Rattle.uci_talk.proofs.Played.{led_none}
 use Rattle.session_judge.specs.Deeds.{end_of}
 use Rattle.session_judge.specs.Played.{LeadsTo, Adds, GoesOn}
@@ -73,7 +73,7 @@ moves_to p moves (Some q) said e =
 
 moves_from : (start : Option Position) (moves : List (List ℕ)) (said : Line) → line_from start moves ≡ Some said → said.moves ≡ moves
 moves_from None moves said e = cc
-moves_from (Some p) moves said e = moves_to p moves (led moves (Some p)) said e
+moves_from (Some p) moves said e = moves_to p moves (position_after_texts moves (Some p)) said e
 
 -- a line that was read, and has moves
 pub said_leads : (line : List ℕ) (said : Line) → line_of line ≡ Some said → said.moves ≢ [] → LeadsTo line said.end
@@ -98,7 +98,7 @@ behind_added (t ∷ ts) us n = by (is_moves t) (behind_added ts us) n where
   by true i k = refl
   by false i k = i k
 
-led_on : (ts us : List (List ℕ)) (p : Option Position) → led (ts ++ us) p ≡ led us (led ts p)
+led_on : (ts us : List (List ℕ)) (p : Option Position) → position_after_texts (ts ++ us) p ≡ position_after_texts us (position_after_texts ts p)
 led_on [] us p = refl
 led_on (t ∷ ts) us None = sym (led_none us)
 led_on (t ∷ ts) us (Some p) = led_on ts us (played_if_legal p (move_of t))
@@ -107,12 +107,12 @@ ends_at : (p : Position) (moves : List (List ℕ)) (o : Option Position) → end
 ends_at p moves None = refl
 ends_at p moves (Some q) = refl
 
-from_there : (start : Option Position) (ts us : List (List ℕ)) (at : Position) → end_of (line_from start ts) ≡ Some at → end_of (line_from start (ts ++ us)) ≡ led us (Some at)
+from_there : (start : Option Position) (ts us : List (List ℕ)) (at : Position) → end_of (line_from start ts) ≡ Some at → end_of (line_from start (ts ++ us)) ≡ position_after_texts us (Some at)
 from_there None ts us at e = cc
 from_there (Some p) ts us at e =
-    ends_at p (ts ++ us) (led (ts ++ us) (Some p)) ∙ led_on ts us (Some p) ∙ ap (led us) (sym (ends_at p ts (led ts (Some p))) ∙ e)
+    ends_at p (ts ++ us) (position_after_texts (ts ++ us) (Some p)) ∙ led_on ts us (Some p) ∙ ap (position_after_texts us) (sym (ends_at p ts (position_after_texts ts (Some p))) ∙ e)
 
-line_on : (ts us : List (List ℕ)) (at : Position) → behind_moves ts ≢ [] → end_of (line_in ts) ≡ Some at → end_of (line_in (ts ++ us)) ≡ led us (Some at)
+line_on : (ts us : List (List ℕ)) (at : Position) → behind_moves ts ≢ [] → end_of (line_in ts) ≡ Some at → end_of (line_in (ts ++ us)) ≡ position_after_texts us (Some at)
 line_on ts us at n e =
     ap (λ vs. end_of (line_from (start_in vs) (behind_moves (ts ++ us)))) (before_added ts us n)
     ∙ ap (λ vs. end_of (line_from (start_in (before_moves ts)) vs)) (behind_added ts us n)
@@ -129,7 +129,7 @@ tokens_on line at more g =
     ∙ others_added (tokens g.known) (tokens more) g.leads.has_moves
 
 -- only what is added is played
-pub plays_on : (line : List ℕ) (at : Position) (more : List ℕ) → GoesOn line at more → end_of (line_of line) ≡ led (tokens more) (Some at)
+pub plays_on : (line : List ℕ) (at : Position) (more : List ℕ) → GoesOn line at more → end_of (line_of line) ≡ position_after_texts (tokens more) (Some at)
 unfolding line_of
 plays_on line at more g =
     ap (λ ts. end_of (line_in ts)) (tokens_on line at more g)
@@ -140,7 +140,7 @@ joined_some [] us n e = n refl
 joined_some (t ∷ ts) us n e = cc
 
 -- and then the longer line is known
-pub leads_on : (line : List ℕ) (at end : Position) (more : List ℕ) → GoesOn line at more → led (tokens more) (Some at) ≡ Some end → LeadsTo line end
+pub leads_on : (line : List ℕ) (at end : Position) (more : List ℕ) → GoesOn line at more → position_after_texts (tokens more) (Some at) ≡ Some end → LeadsTo line end
 leads_on line at end more g e = record {
   leads = plays_on line at more g ∙ e;
   has_moves = λ none. joined_some (behind_moves (drop 1 (tokens g.known))) (tokens more) g.leads.has_moves

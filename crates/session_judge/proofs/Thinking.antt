@@ -4,7 +4,7 @@ use Rattle.std.specs.List.{list_all}
 use Rattle.std.proofs.lemmas.Bool.{and_parts}
 use Rattle.peer_words.specs.Tokens.{first_token, rest, tokens}
 use Rattle.peer_words.proofs.TokenLists.{tokens_some}
-use Rattle.uci_lines.specs.Cuts.{Found, cut, is_known}
+use Rattle.uci_lines.specs.Cuts.{Found, found_token, is_known}
 use Rattle.uci_lines.specs.Engine.{engine_message, said_by, said_after}
 use Rattle.uci_lines.specs.Spells.{IsNoneOf}
 use Rattle.uci_lines.proofs.CutTokens.{cut_tokens}
@@ -21,7 +21,7 @@ first_passes p (s ∷ before) word t after others e n k =
     let passes : p s ≡ true = ap p (sym same) ∙ k in
     absurd (cc)
 
-at_cut : (line : List ℕ) (o : Option Found) → first_token line ≡ codes "info" → cut is_known true line ≡ o → answer_told (said_by o) ≡ deeds.Nothing
+at_cut : (line : List ℕ) (o : Option Found) → first_token line ≡ codes "info" → found_token is_known true line ≡ o → answer_told (said_by o) ≡ deeds.Nothing
 at_cut line None e h =
     let none : IsNoneOf is_known (codes "info" ∷ tokens (rest line)) = ap (list_all (λ t. not (is_known t))) (sym (tokens_some line _ _ e)) ∙ cut_none is_known line h in
     absurd (cc)
@@ -33,4 +33,4 @@ at_cut line (Some part) e h =
 
 pub thinking_says_nothing : (line : List ℕ) → first_token line ≡ codes "info" → said_deed line ≡ deeds.Nothing
 unfolding engine_message
-thinking_says_nothing line e = at_cut line (cut is_known true line) e refl
+thinking_says_nothing line e = at_cut line (found_token is_known true line) e refl

@@ -67,8 +67,8 @@ abbrev pub number_after : Option Search → ℕ
 number_after None = 1
 number_after (Some s) = next s.number
 
-abbrev pub begun : ℕ → GoKind → ℕ → Search
-begun number kind line = record {
+abbrev pub search_from_go : ℕ → GoKind → ℕ → Search
+search_from_go number kind line = record {
   number = number;
   kind = kind;
   begun = line;
@@ -93,7 +93,7 @@ abbrev pub shown_in : Move → Search → Search
 shown_in m s = shown_by s.ended m s
 
 abbrev pub search_after : EnginePhase → ℕ → Option Search → Deed → Option Search
-search_after engine line search (deeds.Writes (orders.Go kind)) = Some (begun (number_after search) kind line)
+search_after engine line search (deeds.Writes (orders.Go kind)) = Some (search_from_go (number_after search) kind line)
 search_after engine line (Some s) (deeds.Shows m) = Some (shown_in m s)
 search_after engine line (Some s) deed = Some (if is_searching engine then search_told line s deed else s)
 search_after engine line None deed = None

@@ -16,7 +16,7 @@ steps_are q (n ∷ m ∷ ns) (s ∷ []) = refl
 steps_are q (n ∷ ns) (s ∷ x ∷ t) =
     ap (λ (text : List ℕ). text ++ line_by n (game_of q (x ∷ t)) (game_of q (s ∷ x ∷ t))) (steps_are q ns (x ∷ t))
 
--- behind its lines
+-- after its lines
 pub text_told : (o : Settings) (lines : List Piece) (trace : List Step) → told_text tells_positions o lines trace ≡ text_of_lines o lines trace
 text_told o lines trace = steps_are (settings_by (version_in lines) o) (event_lines lines) trace
 

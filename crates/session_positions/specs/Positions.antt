@@ -3,7 +3,7 @@ use Rattle.std.specs.Prelude.{ℕ, List, [], ◌∷◌, ◌++◌, decimal, if◌
 use Rattle.std.specs.Str.{bytes_eq}
 use Rattle.line_io.specs.Lines.{line_feed}
 use Rattle.peer_words.specs.Bytes.{blank}
-use Rattle.fen_text.specs.Written.{written}
+use Rattle.fen_text.specs.Written.{position_fen}
 use Rattle.game_record.specs.Game.{Game, now_of}
 use Rattle.policy_rules.specs.declared.settings.Settings.{Settings}
 use Rattle.adapter_core.specs.Trace.{Step}
@@ -11,7 +11,7 @@ use Rattle.session_writer.specs.Telling.{game_of}
 
 -- the text of the position in which a game stands (PGN standard, section 16.1)
 abbrev pub fen_of : Game → List ℕ
-fen_of g = written (now_of g)
+fen_of g = position_fen (now_of g)
 
 -- a number, a blank, and the position of a game
 abbrev pub position_line : ℕ → Game → List ℕ

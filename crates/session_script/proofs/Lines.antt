@@ -29,7 +29,7 @@ pub bare_parts : (xs : List ℕ) → AreBare (parts xs)
 bare_parts [] = tt
 bare_parts (x ∷ xs) = bare_next x (parts xs) (is_feed x) refl (bare_parts xs)
 
--- a line behind the letter of its mark
+-- a line after the letter of its mark
 abbrev pub behind : ℕ → List ℕ → List ℕ
 behind letter line = letter ∷ 32 ∷ line
 
@@ -41,7 +41,7 @@ marked_parts letter (p ∷ ps) ys l b =
     ∙ parts_line (behind letter p) (later ++ ys) (or_from (is_feed letter) (has_feed p) l b.0)
     ∙ ap (λ qs. behind letter p ∷ qs) (marked_parts letter ps ys l b.1)
 
--- the lines that a step wrote, behind their letters
+-- the lines that a step wrote, after their letters
 abbrev pub written_lines : List ℕ → List ℕ → List (List ℕ)
 written_lines iface engine = map (behind 88) (parts iface) ++ map (behind 85) (parts engine)
 

@@ -24,7 +24,7 @@ abbrev pub script1 : List Step → List ℕ
 script1 [] = []
 script1 (s ∷ t) = script1 t ++ step_text s
 
--- the text of step k, counted from 0, behind the line with its number
+-- the text of step k, counted from 0, after the line with its number
 abbrev pub numbered_text : ℕ → Step → List ℕ
 numbered_text k s = numbered_marks (step_number k) s.event (iface_text s) (engine_text s)
 

@@ -24,7 +24,7 @@ use Rattle.script_player.proofs.Players.{first_line, first_long, header_line, ne
 use Rattle.line_scribe.specs.Putting.{IsInputEnd, Then}
 use Rattle.session_writer.specs.declared.writer.SessionWriter.{SessionWriter}
 use Rattle.session_writer.specs.Telling.{Telling, event_lines, numbers_of, steps_text, told_text}
-use Rattle.session_writer.specs.Writing.{CameTo, Does, Faulted, Finished, HasOpened, HasSession, IsTextOf, IsTold, IsUnused, Says, Written, unseen, writes}
+use Rattle.session_writer.specs.Writing.{CameTo, Does, Faulted, Finished, HasOpened, HasSession, IsTextOf, IsTold, IsUnused, Says, Written, silent_sink, writes}
 use Rattle.session_writer.proofs.Stepped.{game_stands}
 use Rattle.session_writer.proofs.Sessions.{as_begun, as_takes, opened_text, text_on}
 
@@ -38,26 +38,26 @@ module _ {T : Type 0} (means : Telling T) where
   -- THE SESSION OF LINES
 
   written_more : (o : Settings) (lines : List Piece) (piece : Piece) (w : SessionWriter T) (text script : List ℕ)
-      → Playing o (lines ++ piece ∷ []) w.core w.stage script unseen unseen → IsTextTold o (lines ++ piece ∷ []) text
+      → Playing o (lines ++ piece ∷ []) w.core w.stage script silent_sink silent_sink → IsTextTold o (lines ++ piece ∷ []) text
       → Written means o (lines ++ piece ∷ []) w text
   written_more o [] piece w text script p t = record { script = script; took = p; told = t }
   written_more o (l ∷ ls) piece w text script p t = record { script = script; took = p; told = t }
 
-  session : (o : Settings) (lines : List Piece) (script text : List ℕ) → Scripted o lines script unseen unseen → IsTextTold o lines text → HasSession (told_text means) o lines text
+  session : (o : Settings) (lines : List Piece) (script text : List ℕ) → Scripted o lines script silent_sink silent_sink → IsTextTold o lines text → HasSession (told_text means) o lines text
   session o lines script text s t = record { trace = s.trace; lawful = s.lawful; events_are = s.events_are; text_is = t s.trace s.lawful s.events_are }
 
   came : (o : Settings) (lines : List Piece) (piece : Piece) (answer : Option Ending) (w : SessionWriter T) (text script : List ℕ)
-      → Played o (lines ++ piece ∷ []) answer w.core w.stage script unseen unseen → IsTextTold o (lines ++ piece ∷ []) text
+      → Played o (lines ++ piece ∷ []) answer w.core w.stage script silent_sink silent_sink → IsTextTold o (lines ++ piece ∷ []) text
       → CameTo means o (lines ++ piece ∷ []) answer w text
   came o lines piece None w text script p t = written_more o lines piece w text script p t
   came o lines piece (Some f) w text script p t = (p.0, session o (lines ++ piece ∷ []) script text p.1 t)
 
   -- lines of an opened session
-  some_text : (o : Settings) (lines : List Piece) (core : CoreParts) (stage : ScriptStage) (script text : List ℕ) → is_start stage ≡ false → Took o lines core stage script unseen unseen → IsTold means o lines text → IsTextTold o lines text
+  some_text : (o : Settings) (lines : List Piece) (core : CoreParts) (stage : ScriptStage) (script text : List ℕ) → is_start stage ≡ false → Took o lines core stage script silent_sink silent_sink → IsTold means o lines text → IsTextTold o lines text
   some_text o [] core stage script text e t g = let x : is_start stage ≡ true = ap is_start t.is_start in let z = sym x ∙ e in cc
   some_text o (l ∷ ls) core stage script text e t g = g
 
-  same_version : (o : Settings) (lines : List Piece) (piece : Piece) (core : CoreParts) (stage : ScriptStage) (script : List ℕ) → is_start stage ≡ false → Took o lines core stage script unseen unseen → version_in (lines ++ piece ∷ []) ≡ version_in lines
+  same_version : (o : Settings) (lines : List Piece) (piece : Piece) (core : CoreParts) (stage : ScriptStage) (script : List ℕ) → is_start stage ≡ false → Took o lines core stage script silent_sink silent_sink → version_in (lines ++ piece ∷ []) ≡ version_in lines
   same_version o [] piece core stage script e t = let x : is_start stage ≡ true = ap is_start t.is_start in let z = sym x ∙ e in cc
   same_version o (l ∷ ls) piece core stage script e t = version_stays l ls (piece ∷ [])
 
@@ -73,7 +73,7 @@ module _ {T : Type 0} (means : Telling T) where
   ends_by o lines endings.Done text i f = f
   ends_by o lines ending text i f = absurd i
 
-  -- the text of the end stands behind what was told, by the game of the core
+  -- the text of the end stands after what was told, by the game of the core
   ended : (o : Settings) (lines : List Piece) (ending : Ending) (core : CoreParts) (trace : List Step) (text : List ℕ) → script_fault lines ≡ None
       → Lawful (settings_by (version_in lines) o) trace → events trace ≡ script_events lines → Stands (settings_by (version_in lines) o) core trace → text ≡ told_text means o lines trace
       → Finished means ending o lines (text ++ means.last_text ending core.desk.game)
@@ -93,7 +93,7 @@ module _ {T : Type 0} (means : Telling T) where
       → IsInputEnd ending → is_start old.stage ≡ false → Written means o lines old before
       → Says means o lines ending (before ++ means.last_text ending old.core.desk.game)
   finished_later o lines old before ending i e g =
-      let p = started o old.core old.stage g.script unseen unseen lines e g.took in
+      let p = started o old.core old.stage g.script silent_sink silent_sink lines e g.took in
       ends_by o lines ending (before ++ means.last_text ending old.core.desk.game) i
       (ended o lines ending old.core p.trace before p.fine p.lawful p.events_are p.stands
       (some_text o lines old.core old.stage g.script before e g.took g.told p.trace p.lawful p.events_are))
@@ -113,7 +113,7 @@ module _ {T : Type 0} (means : Telling T) where
 
   -- A LINE
 
-  -- behind others
+  -- after others
   pub later_line : (o : Settings) (lines : List Piece) (old new : SessionWriter T) (before put : List ℕ) (piece : Piece) (number : ℕ) (answer : Option Ending)
       → is_start old.stage ≡ false → Written means o lines old before → number ≡ length lines + 1
       → answer ≡ fault_said number (kind_says old.stage old.core.ends (kind_of piece))
@@ -122,9 +122,9 @@ module _ {T : Type 0} (means : Telling T) where
   later_line o lines old new before put piece number answer e g n a t =
       let says = kind_says old.stage old.core.ends (kind_of piece) in
       let taken = as_takes means number old.core old.stage says new.core new.stage put (buffer g.script) t in
-      let playing = started o old.core old.stage g.script unseen unseen lines e g.took in
+      let playing = started o old.core old.stage g.script silent_sink silent_sink lines e g.took in
       came o lines piece answer new (before ++ put) taken.0.text
-      (next_line o old.core old.stage g.script unseen unseen lines piece number new.core new.stage (buffer g.script) taken.0 answer e g.took n refl a taken.1)
+      (next_line o old.core old.stage g.script silent_sink silent_sink lines piece number new.core new.stage (buffer g.script) taken.0 answer e g.took n refl a taken.1)
       (text_on means o lines old.core old.stage g.script playing before (some_text o lines old.core old.stage g.script before e g.took g.told) piece
       (same_version o lines piece old.core old.stage g.script e g.took) new.core new.stage put
       (subst (λ (k : ℕ). Does means k old.core old.stage says new.core new.stage put) n t))
@@ -142,10 +142,10 @@ module _ {T : Type 0} (means : Telling T) where
       → CameTo means o (lines ++ Whole line ∷ []) None new (before ++ put)
   header_came o lines old new before put line settings e h g b =
       let begun = as_begun means (Some settings) old.core new.core new.stage put (buffer g.script) b in
-      let none = (unstarted o old.core old.stage g.script unseen unseen lines e g.took).0 in
+      let none = (unstarted o old.core old.stage g.script silent_sink silent_sink lines e g.took).0 in
       let ls = Whole line ∷ [] in
       let is : version_in ls ≡ version_by (Some settings) = ap version_by h in
-      let playing = header_line o old.core old.stage (buffer g.script) unseen unseen lines line settings new.core new.stage begun.0 e h g.took begun.1 in
+      let playing = header_line o old.core old.stage (buffer g.script) silent_sink silent_sink lines line settings new.core new.stage begun.0 e h g.took begun.1 in
       let alone : script_events ls ≡ Open ∷ [] = ap (λ (v : Version). events_by v ls) is in
       let numbers : 0 ∷ [] ≡ event_lines ls = sym (alone_lines ls (version_by (Some settings)) is refl) in
       let text : IsTextTold o ls (before ++ put) =
@@ -163,11 +163,11 @@ module _ {T : Type 0} (means : Telling T) where
     begun : (new : Text) × HasBegun None old.core (buffer g.script) mid.core mid.stage new
     begun = as_begun means None old.core mid.core mid.stage opening (buffer g.script) b
 
-    none : (lines ≡ []) × Unbegun o old.core old.stage g.script unseen unseen
-    none = unstarted o old.core old.stage g.script unseen unseen lines e g.took
+    none : (lines ≡ []) × Unbegun o old.core old.stage g.script silent_sink silent_sink
+    none = unstarted o old.core old.stage g.script silent_sink silent_sink lines e g.took
 
-    opened : Playing o [] mid.core mid.stage begun.0.text unseen unseen
-    opened = begun_plain o old.core mid.core mid.stage (buffer g.script) begun.0 unseen unseen none.1.stands none.1.is_empty none.1.appended begun.1.0 begun.1.1
+    opened : Playing o [] mid.core mid.stage begun.0.text silent_sink silent_sink
+    opened = begun_plain o old.core mid.core mid.stage (buffer g.script) begun.0 silent_sink silent_sink none.1.stands none.1.is_empty none.1.appended begun.1.0 begun.1.1
 
     at_open : IsTextTold o [] opening
     at_open = λ trace l told. opened_text means (settings_by First o) old.core mid.core opening trace none.1.stands b.0 l told
@@ -186,13 +186,13 @@ module _ {T : Type 0} (means : Telling T) where
         let text = text_on means o [] mid.core mid.stage begun.0.text opened opening at_open piece h new.core new.stage put
         (subst (λ (k : ℕ). Does means k mid.core mid.stage says new.core new.stage put) one t) in
         came o lines piece answer new (before ++ (opening ++ put)) taken.0.text
-        (first_line o old.core old.stage (buffer g.script) unseen unseen lines piece number mid.core mid.stage begun.0 new.core new.stage taken.0 answer e h g.took n begun.1 a taken.1)
+        (first_line o old.core old.stage (buffer g.script) silent_sink silent_sink lines piece number mid.core mid.stage begun.0 new.core new.stage taken.0 answer e h g.took n begun.1 a taken.1)
         (subst (λ (ls : List Piece). IsTextTold o (ls ++ piece ∷ []) (before ++ (opening ++ put))) (sym none.0)
         (subst (IsTextTold o (piece ∷ [])) (sym (all_put put)) text))
 
     pub long_first : (number : ℕ) → number ≡ length lines + 1 → CameTo means o (lines ++ TooLong ∷ []) (Some (endings.NoMark number)) mid (before ++ opening)
     long_first number n =
-        let played = first_long o old.core old.stage (buffer g.script) unseen unseen lines number mid.core mid.stage begun.0 e g.took n begun.1 in
+        let played = first_long o old.core old.stage (buffer g.script) silent_sink silent_sink lines number mid.core mid.stage begun.0 e g.took n begun.1 in
         let text : IsTextTold o (TooLong ∷ []) (opening ++ []) = text_on means o [] mid.core mid.stage begun.0.text opened opening at_open TooLong refl mid.core mid.stage [] (nothing mid.core mid.stage b.1) in
         let whole : before ++ opening ≡ opening ++ [] = ap (λ (t : List ℕ). before ++ t) (sym (append-nil opening)) ∙ all_put [] in
         came o lines TooLong (Some (endings.NoMark number)) mid (before ++ opening) begun.0.text played
@@ -211,7 +211,7 @@ module _ {T : Type 0} (means : Telling T) where
         (ended o [] ending mid.core opened.trace opening opened.fine opened.lawful opened.events_are opened.stands
         (at_open opened.trace opened.lawful opened.events_are))))
 
-  -- a long line behind others
+  -- a long line after others
   pub long_later : (o : Settings) (lines : List Piece) (old : SessionWriter T) (before : List ℕ) (number : ℕ)
       → is_start old.stage ≡ false → Written means o lines old before → number ≡ length lines + 1
       → CameTo means o (lines ++ TooLong ∷ []) (Some (endings.NoMark number)) old (before ++ [])

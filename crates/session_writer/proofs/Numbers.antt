@@ -5,7 +5,7 @@ use Rattle.line_io.specs.Event.{Event}
 use Rattle.line_io.specs.Lines.{Piece}
 use Rattle.adapter_core.specs.Trace.{Step}
 use Rattle.session_script.specs.Script.{events}
-use Rattle.script_player.specs.Versions.{Version, Place, LineSaid, Comes, Passes, Starts, HasNoMark, IsOutOfStep, Cannot, beginning, behind_header, events_of, events_said, fault_said, first_fault, header_lines, line_says, place_over, place_said, script_events, script_fault, version_in}
+use Rattle.script_player.specs.Versions.{Version, ScriptPlace, LineSaid, Comes, Passes, Starts, HasNoMark, IsOutOfStep, Cannot, beginning, behind_header, events_of, events_said, fault_said, first_fault, header_lines, line_says, place_over, place_said, script_events, script_fault, version_in}
 use Rattle.script_player.proofs.VersionLines.{behind_length, behind_more, no_earlier}
 use Rattle.session_writer.specs.Telling.{event_lines, numbers_of, numbers_said}
 
@@ -21,7 +21,7 @@ said_more n HasNoMark ns ms f = cc
 said_more n IsOutOfStep ns ms f = cc
 said_more n Cannot ns ms f = cc
 
-numbers_more : (n : ℕ) (place : Place) (ls : List Piece) (l : Piece) → first_fault n place ls ≡ None
+numbers_more : (n : ℕ) (place : ScriptPlace) (ls : List Piece) (l : Piece) → first_fault n place ls ≡ None
     → numbers_of n place (ls ++ l ∷ []) ≡ numbers_of n place ls ++ own (n + length ls) (line_says (place_over place ls) l)
 numbers_more n place [] l e = ap (λ (k : ℕ). own k (line_says place l)) (let z : n ≡ n + 0 = omega arith in z)
 numbers_more n place (x ∷ ls) l e =
@@ -39,7 +39,7 @@ own_reversed n HasNoMark = refl
 own_reversed n IsOutOfStep = refl
 own_reversed n Cannot = refl
 
--- one line more behind lines of this version without a fault: its own number stands first
+-- one line more after lines of this version without a fault: its own number stands first
 pub event_lines_more : (v : Version) (lines : List Piece) (piece : Piece) → version_in lines ≡ v → version_in (lines ++ piece ∷ []) ≡ v → script_fault lines ≡ None
     → event_lines (lines ++ piece ∷ []) ≡ own (length lines + 1) (line_says (place_over (beginning v) (behind_header v lines)) piece) ++ event_lines lines
 event_lines_more v lines piece is same fine =
@@ -69,7 +69,7 @@ said_many n HasNoMark ns es h = refl
 said_many n IsOutOfStep ns es h = refl
 said_many n Cannot ns es h = refl
 
-numbers_many : (n : ℕ) (place : Place) (ls : List Piece) → length (numbers_of n place ls) ≡ length (events_of place ls)
+numbers_many : (n : ℕ) (place : ScriptPlace) (ls : List Piece) → length (numbers_of n place ls) ≡ length (events_of place ls)
 numbers_many n place [] = refl
 numbers_many n place (l ∷ ls) =
     let next = place_said place (line_says place l) in

@@ -14,11 +14,11 @@ use Rattle.session_script.specs.Script.{events}
 use Rattle.session_script.proofs.Scripts.{same_trace}
 use Rattle.script_player.specs.declared.stage.ScriptStage.{ScriptStage}
 use Rattle.script_player.specs.declared.stage.ScriptStage.TheVariants as stages
-use Rattle.script_player.specs.Versions.{Version, version_in, behind_header, header_lines, settings_by, LineSaid, Comes, Passes, Starts, HasNoMark, IsOutOfStep, Cannot, kind_of, kind_says, line_says, Place, place_over, events_said, events_of, beginning, events_by, script_events}
+use Rattle.script_player.specs.Versions.{Version, version_in, behind_header, header_lines, settings_by, LineSaid, Comes, Passes, Starts, HasNoMark, IsOutOfStep, Cannot, kind_of, kind_says, line_says, ScriptPlace, place_over, events_said, events_of, beginning, events_by, script_events}
 use Rattle.script_player.specs.Playing.{HasBegun, Playing, Steps, Takes, text_at}
 use Rattle.script_player.proofs.VersionLines.{events_more, behind_more}
 use Rattle.session_writer.specs.Telling.{Telling, event_lines, game_of, game_told, steps_text, told_text}
-use Rattle.session_writer.specs.Writing.{Does, HasOpened, IsTextOf, TakesStep, unseen}
+use Rattle.session_writer.specs.Writing.{Does, HasOpened, IsTextOf, TakesStep, silent_sink}
 use Rattle.session_writer.proofs.Numbers.{event_lines_more, own}
 use Rattle.session_writer.proofs.Stepped.{game_stands}
 
@@ -67,7 +67,7 @@ told_some q core (s ∷ t) e later st is = ap (λ (g : Game). Some g) (game_stan
 
 -- ONE LINE MORE
 
-module _ {T : Type 0} (means : Telling T) (o : Settings) (lines : List Piece) (core : CoreParts) (stage : ScriptStage) (script : List ℕ) (p : Playing o lines core stage script unseen unseen)
+module _ {T : Type 0} (means : Telling T) (o : Settings) (lines : List Piece) (core : CoreParts) (stage : ScriptStage) (script : List ℕ) (p : Playing o lines core stage script silent_sink silent_sink)
     (text : List ℕ) (told : IsTextOf (told_text means) o lines text) (piece : Piece) (same : version_in (lines ++ piece ∷ []) ≡ version_in lines) where
   abbrev v : Version
   v = version_in lines
@@ -85,7 +85,7 @@ module _ {T : Type 0} (means : Telling T) (o : Settings) (lines : List Piece) (c
   said = kind_says stage core.ends (kind_of piece)
 
   said_there : line_says (place_over (beginning v) (behind_header v lines)) piece ≡ said
-  said_there = ap (λ (x : Place). line_says x piece) p.place
+  said_there = ap (λ (x : ScriptPlace). line_says x piece) p.place
 
   events_on : script_events more ≡ script_events lines ++ events_said said []
   events_on =

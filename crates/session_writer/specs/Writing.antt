@@ -29,7 +29,7 @@ pub record HasPut (Holds : List ℕ → Type 0) (old new : Text) : Type 0 where
   pub holds : Holds more
 
 -- A step of this event was taken, and this text was made of it, of the game told before and of the game
--- behind it.
+-- after it.
 pub record TakesStep (text_of : Event → Option Game → Game → List ℕ) (before : Option Game)
     (old new : CoreParts) (e : Event) (more : List ℕ) : Type 0 where
   pub step : Step
@@ -88,8 +88,8 @@ IsTextOf text_of o lines text =
     → events trace ≡ script_events lines → text ≡ text_of o lines trace
 
 -- a sink that reports nothing: the script of the session is not written
-abbrev pub unseen : Received
-unseen = record { taken = None; faults = 0 }
+abbrev pub silent_sink : Received
+silent_sink = record { taken = None; faults = 0 }
 
 -- before the first line there is no session
 abbrev pub IsTold : {T : Type 0} → Telling T → Settings → List Piece → List ℕ → Type 0
@@ -100,7 +100,7 @@ IsTold means o (line ∷ lines) text = IsTextOf (told_text means) o (line ∷ li
 pub record Written {T : Type 0} (means : Telling T) (o : Settings) (lines : List Piece)
     (writer : SessionWriter T) (text : List ℕ) : Type 0 where
   pub script : List ℕ
-  pub took : Took o lines writer.core writer.stage script unseen unseen
+  pub took : Took o lines writer.core writer.stage script silent_sink silent_sink
   pub told : IsTold means o lines text
 
 -- There is one session of these lines, and the text is that of it, by this choice.
@@ -121,7 +121,7 @@ abbrev pub Finished : {T : Type 0} → Telling T → Ending → Settings → Lis
 Finished means ending o lines text =
     (script_fault lines ≡ None) × HasSession (ended_text means ending) o lines text
 
--- behind these lines there are no more, for this reason
+-- after these lines there are no more, for this reason
 abbrev pub Says : {T : Type 0} → Telling T → Settings → List Piece → Ending → List ℕ → Type 0
 Says means o lines endings.Done text = Finished means endings.Done o lines text
 Says means o lines endings.ReadingFailed text = Finished means endings.ReadingFailed o lines text

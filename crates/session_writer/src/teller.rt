@@ -26,7 +26,7 @@ pub trait Teller {
         ensures at { IfOk result (λ teller. means.at teller None) };
 
     /// Puts what is to be written for a step, by the number of its line, its event and the game
-    /// behind it. The first step is that of Open, and has the number 0.
+    /// after it. The first step is that of Open, and has the number 0.
     fn tell(&mut self, number: u64, event: &Event, game: &Game, text: &mut Out)
         requires follows { (before : Option AnyGame) × means.at self.old before
             × Follows (game_at before) game.now }

@@ -8,7 +8,7 @@ use line_io::Out;
 use std::alloc::Global;
 use std::process::Abort;
 
-/// What each list has behind the engine's name.
+/// What each list has after the engine's name.
 const USUAL: &str = "feature ping=1
 feature setboard=1
 feature playother=1
@@ -24,7 +24,7 @@ feature variants=\"normal\"
 feature colors=0
 ";
 
-/// The name and the options of an engine, the name that is shown, and what the list has behind the
+/// The name and the options of an engine, the name that is shown, and what the list has after the
 /// usual lines.
 type Engine = (
     &'static str,
@@ -99,7 +99,7 @@ feature done=1
     ),
 ];
 
-/// Expects what a text begins with, and gives what is behind it.
+/// Expects what a text begins with, and gives what is after it.
 fn behind<'a>(rt: &impl Abort, text: &'a [u8], want: &str) -> &'a [u8] {
     text.strip_prefix(want.as_bytes()).expect(rt, want)
 }
@@ -179,7 +179,7 @@ fn tells_the_list_once_the_engine_has_started(rt: HostRuntime) {
         talk.protover(true) == ProtoverAnswer::Wait,
         talk.protover(true) == ProtoverAnswer::Wait,
         talk.is_due(),
-        // at the end of the boot, and behind it
+        // at the end of the boot, and after it
         talk.left_boot(),
         !talk.is_due(),
         // and after

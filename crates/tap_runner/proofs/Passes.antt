@@ -8,7 +8,7 @@ use Rattle.line_io.specs.Lines.{Reads}
 use Rattle.line_io.specs.Source.{Supplied, Received}
 use Rattle.event_pipe.specs.declared.message.Peer.{Peer}
 use Rattle.event_pipe.specs.Counts.{Tells}
-use Rattle.event_pipe.specs.Rule.{ended}
+use Rattle.event_pipe.specs.Rule.{has_last_event}
 use Rattle.sink_offers.specs.Took.{LogTook}
 use Rattle.tap_runner.specs.declared.passing.PassingTurn.{PassingTurn}
 use Rattle.tap_runner.specs.declared.passing.PassingTurn.TheVariants as turns
@@ -33,7 +33,7 @@ passing_first peer part s k sent o e = record {
   peer_is = ap (λ (x : Open). x.peer) o;
   line_is = ap (λ (x : Open). x.line) o;
   told = λ _. e;
-  going = ap ended e;
+  going = ap has_last_event e;
 }
 
 at_end_from : (left : Option (List ℕ)) (now : Option (List ℕ)) → IsAtEnd now → IfSome left (λ _. IsAtEnd now)

@@ -4,7 +4,7 @@ use Rattle.line_io.specs.Event.{Event}
 use Rattle.line_io.specs.Source.{Supplied, Received}
 use Rattle.event_pipe.specs.declared.message.Peer.{Peer}
 use Rattle.event_pipe.specs.declared.message.Peer.TheVariants as peers
-use Rattle.event_pipe.specs.Rule.{sent_by, ended}
+use Rattle.event_pipe.specs.Rule.{sent_by, has_last_event}
 use Rattle.event_pipe.specs.Ends.{Came}
 use Rattle.event_pipe.proofs.Roles.{all_came}
 use Rattle.sink_offers.specs.Streams.{sinks, streams}
@@ -13,7 +13,7 @@ use Rattle.tap_runner.specs.Logging.{Logged}
 use Rattle.tap_runner.specs.Passing.{Passed}
 use Rattle.tap_runner.specs.Ran.{Ran}
 
-passed_by : (p : Peer) (events sent : List Event) (s s' : Supplied) (k k' : Received) (end : PassEnd) → Came p events sent → ended (sent_by p events) ≡ true → Passed p s s' k k' sent end
+passed_by : (p : Peer) (events sent : List Event) (s s' : Supplied) (k k' : Received) (end : PassEnd) → Came p events sent → has_last_event (sent_by p events) ≡ true → Passed p s s' k k' sent end
     → Passed p s s' k k' (sent_by p events) end
 passed_by p events sent s s' k k' end c e x = subst (λ (es : List Event). Passed p s s' k k' es end) (all_came p events sent c e) x
 

@@ -4,7 +4,7 @@ use Rattle.line_io.specs.Event.{Event, has_feed}
 use Rattle.line_io.specs.Lines.{Piece}
 use Rattle.line_io.specs.Out.{Text}
 use Rattle.event_pipe.specs.declared.message.Peer.{Peer}
-use Rattle.event_pipe.specs.Rule.{ended}
+use Rattle.event_pipe.specs.Rule.{has_last_event}
 use Rattle.tap_runner.specs.Lines.{last_pieces}
 use Rattle.tap_runner.specs.Marks.{mark_of, piece_events, end_event}
 use Rattle.tap_runner.specs.declared.part.TheConstants.{MARK_ROOM}
@@ -18,7 +18,7 @@ pub record Open : Type 0 where
 abbrev pub fresh : Peer → Open
 fresh peer = record { peer = peer; line = Some []; has_lacked = false }
 
--- behind the letter and the blank of its mark stands the line
+-- after the letter and the blank of its mark stands the line
 abbrev pub open_of : Peer → Text → Bool → Bool → Open
 open_of peer mark is_long has_lacked =
     record { peer = peer; line = if is_long then None else Some (drop 2 mark.text); has_lacked = has_lacked }
@@ -35,11 +35,11 @@ pub record Hears (old new : Open) (before now : List Event) (pieces : List Piece
   -- once a mark had no memory, this is known
   pub lacked : old.has_lacked ≡ true → new.has_lacked ≡ true
   pub sends : new.has_lacked ≡ false → now ≡ before ++ piece_events old.peer pieces
-  pub going : ended now ≡ false
+  pub going : has_last_event now ≡ false
 
 -- the last line was sent, and the peer's end
 pub record EndsHearing (old new : Open) (before now : List Event) : Type 0 where
   pub lacked : old.has_lacked ≡ true → new.has_lacked ≡ true
   pub sends : new.has_lacked ≡ false
       → now ≡ before ++ piece_events old.peer (last_pieces old.line) ++ end_event old.peer ∷ []
-  pub over : ended now ≡ true
+  pub over : has_last_event now ≡ true

@@ -9,7 +9,7 @@ abbrev pub HasNoEmptyLog : Type 0
 HasNoEmptyLog = (bytes : List ℕ) (before after : Outside) → IsWhole bytes before after
     → after.books.logs ≡ Some [] ∷ [] → ⊥
 
--- a log with a byte behind its marks
+-- a log with a byte after its marks
 abbrev pub HasNoLongerLog : Type 0
 HasNoLongerLog = (bytes : List ℕ) (before after : Outside) (run : IsWhole bytes before after)
     (byte : ℕ) (more : List ℕ)

@@ -17,7 +17,7 @@ abbrev pub piece_in : Option (List ℕ) → Piece
 piece_in None = TooLong
 piece_in (Some line) = Whole line
 
--- the lines that the bytes end, behind an open line
+-- the lines that the bytes end, after an open line
 abbrev pub pieces_of : Option (List ℕ) → List ℕ → List Piece
 pieces_of line [] = []
 pieces_of line (b ∷ bs) =

@@ -3,7 +3,7 @@ use Rattle.std.specs.Prelude.{◌≡◌, ℕ, List, length, Bool, true}
 use Rattle.line_io.specs.Event.{Event, Iface, IfaceEnd, Engine, EngineEnd}
 use Rattle.line_io.specs.Source.{Received}
 use Rattle.event_pipe.specs.declared.message.Peer.TheVariants as peers
-use Rattle.event_pipe.specs.Rule.{sent_by, ended}
+use Rattle.event_pipe.specs.Rule.{sent_by, has_last_event}
 use Rattle.sink_offers.specs.Took.{LogTook}
 use Rattle.tap_runner.specs.declared.logging.EndedSides.{EndedSides}
 use Rattle.tap_runner.specs.Marks.{log_text}
@@ -22,11 +22,11 @@ ends_after ends event = ends
 -- The log took what was received, in order, each mark on a line, or a front of that text if it failed.
 pub record Logged (received : List Event) (log log' : Received) (failed : Bool) : Type 0 where
   pub text : LogTook (log_text received) failed log log'
-  pub bridge_ended : ended (sent_by peers.Iface received) ≡ true
-  pub engine_ended : ended (sent_by peers.Engine received) ≡ true
+  pub bridge_ended : has_last_event (sent_by peers.Iface received) ≡ true
+  pub engine_ended : has_last_event (sent_by peers.Engine received) ≡ true
 
 -- so far
 pub record Logging (received : List Event) (log log' : Received) (failed : Bool) (ends : EndedSides) : Type 0 where
   pub text : LogTook (log_text received) failed log log'
-  pub bridge : ends.bridge ≡ true → ended (sent_by peers.Iface received) ≡ true
-  pub engine : ends.engine ≡ true → ended (sent_by peers.Engine received) ≡ true
+  pub bridge : ends.bridge ≡ true → has_last_event (sent_by peers.Iface received) ≡ true
+  pub engine : ends.engine ≡ true → has_last_event (sent_by peers.Engine received) ≡ true

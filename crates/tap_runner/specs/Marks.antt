@@ -35,14 +35,14 @@ abbrev pub marks_of : Peer → List ℕ → List Event
 marks_of peer bytes = piece_events peer (items line_limit bytes) ++ end_event peer ∷ []
 
 -- how it stands in the log
-abbrev pub logged : Event → List ℕ
-logged (Iface mark) = mark ++ line_feed ∷ []
-logged (Engine mark) = mark ++ line_feed ∷ []
-logged IfaceLong = codes "x!" ++ line_feed ∷ []
-logged IfaceEnd = codes "x." ++ line_feed ∷ []
-logged EngineLong = codes "u!" ++ line_feed ∷ []
-logged EngineEnd = codes "u." ++ line_feed ∷ []
-logged event = []
+abbrev pub log_of_event : Event → List ℕ
+log_of_event (Iface mark) = mark ++ line_feed ∷ []
+log_of_event (Engine mark) = mark ++ line_feed ∷ []
+log_of_event IfaceLong = codes "x!" ++ line_feed ∷ []
+log_of_event IfaceEnd = codes "x." ++ line_feed ∷ []
+log_of_event EngineLong = codes "u!" ++ line_feed ∷ []
+log_of_event EngineEnd = codes "u." ++ line_feed ∷ []
+log_of_event event = []
 
 abbrev pub log_text : List Event → List ℕ
-log_text events = flat_map logged events
+log_text events = flat_map log_of_event events

@@ -6,7 +6,7 @@ use Rattle.line_io.specs.Source.{Supplied, Received}
 use Rattle.line_io.specs.Lines.{Reads}
 use Rattle.event_pipe.specs.declared.message.Peer.{Peer}
 use Rattle.event_pipe.specs.Counts.{Tells}
-use Rattle.event_pipe.specs.Rule.{ended}
+use Rattle.event_pipe.specs.Rule.{has_last_event}
 use Rattle.sink_offers.specs.Took.{LogTook}
 use Rattle.tap_runner.specs.declared.passing.PassingTurn.{PassingTurn}
 use Rattle.tap_runner.specs.declared.passing.PassingTurn.TheVariants as turns
@@ -27,7 +27,7 @@ pub record Passed (peer : Peer) (source source' : Supplied) (sink sink' : Receiv
   pub read_count : Tells source.faults source'.faults end.read_failed
   -- the marks of their lines were sent to the log, and the end
   pub told : end.has_lacked_memory ≡ false → sent ≡ marks_of peer got
-  pub over : ended sent ≡ true
+  pub over : has_last_event sent ≡ true
 
 abbrev pub is_last : PassingTurn → Bool
 is_last turns.More = false
@@ -59,4 +59,4 @@ pub record Passing (peer : Peer) (part : Open) (source source' : Supplied) (sink
   pub peer_is : part.peer ≡ peer
   pub line_is : part.line ≡ line_after (Some []) got
   pub told : part.has_lacked ≡ false → sent ≡ piece_events peer (pieces_of (Some []) got)
-  pub going : ended sent ≡ false
+  pub going : has_last_event sent ≡ false

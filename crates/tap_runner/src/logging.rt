@@ -1,9 +1,9 @@
 // The log: what goes through the channel, in the order in which it comes.
 ghost use Rattle.std.specs.Prelude.{◌≡◌, ◌≤◌, ◌&&◌, ◌++◌, ◌∷◌, ◌+◌, [], length, is_some};
 ghost use Rattle.line_io.specs.Event.{event_of};
-ghost use Rattle.event_pipe.specs.Ends.{IsFreshTaker, KeepsTaker, taken};
+ghost use Rattle.event_pipe.specs.Ends.{IsFreshTaker, KeepsTaker, events_taken};
 ghost use Rattle.sink_offers.specs.Streams.{log_state, Offered};
-ghost use Rattle.tap_runner.specs.Marks.{logged};
+ghost use Rattle.tap_runner.specs.Marks.{log_of_event};
 ghost use Rattle.tap_runner.specs.Logging.{Logged, ends_after, mark_length};
 ghost use Rattle.line_io.specs.Lines.{line_feed};
 ghost use Rattle.tap_runner.specs.declared.part.TheConstants.{MARK_ROOM};
@@ -64,7 +64,7 @@ fn put_mark(text: &mut Out, mark: &[u8])
 fn put_logged(text: &mut Out, event: &Event)
     requires short { mark_length (event_of event.now) ≤ MARK_ROOM }
     requires room { LOG_ROOM ≤ text.old.room }
-    ensures text { text.new.text ≡ logged (event_of event.now) }
+    ensures text { text.new.text ≡ log_of_event (event_of event.now) }
     ensures room { text.new.room ≡ text.old.room }
 {
     text.clear();
@@ -84,7 +84,7 @@ fn log_event<L: Sink>(log: &mut Option<L>, event: &Event, text: &mut Out, failed
     requires short { mark_length (event_of event.now) ≤ MARK_ROOM }
     requires room { LOG_ROOM ≤ text.old.room }
     ensures offered { Offered failed result (log_state L.state log.old)
-        (log_state L.state log.new) (logged (event_of event.now)) }
+        (log_state L.state log.new) (log_of_event (event_of event.now)) }
     ensures kept { is_some log.new ≡ is_some log.old }
     ensures room { text.new.room ≡ text.old.room }
 {
@@ -104,7 +104,7 @@ pub fn keep_log<L: Sink, R: Wait>(
     requires room { LOG_ROOM ≤ text.old.room }
     ensures taker { KeepsTaker from.old from.new }
     ensures kept { is_some log.new ≡ is_some log.old }
-    ensures logged { Logged (taken from.new)
+    ensures logged { Logged (events_taken from.new)
         (log_state L.state log.old) (log_state L.state log.new) result }
 {
     let mut failed = false;

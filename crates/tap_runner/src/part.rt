@@ -1,7 +1,7 @@
 // The line of a peer that has not ended yet, as a mark.
 ghost use Rattle.std.specs.Prelude.{◌≡◌, ◌≢◌, ◌++◌, ◌∷◌, [], ◌||◌, not, Some, true, false, IfOk};
-ghost use Rattle.event_pipe.specs.Ends.{IsSender, KeepsSender, sent};
-ghost use Rattle.event_pipe.specs.Rule.{ended};
+ghost use Rattle.event_pipe.specs.Ends.{IsSender, KeepsSender, events_sent};
+ghost use Rattle.event_pipe.specs.Rule.{has_last_event};
 ghost use Rattle.tap_runner.specs.Lines.{with_byte, piece_in, last_pieces};
 ghost use Rattle.tap_runner.specs.Marks.{piece_event, piece_events};
 ghost use Rattle.tap_runner.specs.Hearing.{Open, fresh, Hears};
@@ -95,9 +95,9 @@ impl OpenLine {
     fn send<R: Wait>(&mut self, rt: &R, alloc: Global, to: &mut PipeSend)
         requires sender { IsSender to.old }
         requires peer { to.old.peer ≡ self.old.peer }
-        requires going { ended (sent to.old) ≡ false }
+        requires going { has_last_event (events_sent to.old) ≡ false }
         ensures keeps { KeepsSender to.old to.new }
-        ensures hears { Hears self.old self.new (sent to.old) (sent to.new)
+        ensures hears { Hears self.old self.new (events_sent to.old) (events_sent to.new)
             (piece_in self.old.line ∷ []) (Some []) }
     {
         if self.is_long {
@@ -118,9 +118,9 @@ impl OpenLine {
     fn take<R: Wait>(&mut self, rt: &R, alloc: Global, byte: u8, to: &mut PipeSend)
         requires sender { IsSender to.old }
         requires peer { to.old.peer ≡ self.old.peer }
-        requires going { ended (sent to.old) ≡ false }
+        requires going { has_last_event (events_sent to.old) ≡ false }
         ensures keeps { KeepsSender to.old to.new }
-        ensures hears { Hears self.old self.new (sent to.old) (sent to.new)
+        ensures hears { Hears self.old self.new (events_sent to.old) (events_sent to.new)
             (pieces_of self.old.line (byte ∷ [])) (line_after self.old.line (byte ∷ [])) }
     {
         if byte == b'\n' {
@@ -134,9 +134,9 @@ impl OpenLine {
     pub fn hear<R: Wait>(&mut self, rt: &R, alloc: Global, bytes: &[u8], to: &mut PipeSend)
         requires sender { IsSender to.old }
         requires peer { to.old.peer ≡ self.old.peer }
-        requires going { ended (sent to.old) ≡ false }
+        requires going { has_last_event (events_sent to.old) ≡ false }
         ensures keeps { KeepsSender to.old to.new }
-        ensures hears { Hears self.old self.new (sent to.old) (sent to.new)
+        ensures hears { Hears self.old self.new (events_sent to.old) (events_sent to.new)
             (pieces_of self.old.line bytes.now) (line_after self.old.line bytes.now) }
     {
         for byte in bytes {
@@ -148,9 +148,9 @@ impl OpenLine {
     pub fn end<R: Wait>(&mut self, rt: &R, alloc: Global, to: &mut PipeSend)
         requires sender { IsSender to.old }
         requires peer { to.old.peer ≡ self.old.peer }
-        requires going { ended (sent to.old) ≡ false }
+        requires going { has_last_event (events_sent to.old) ≡ false }
         ensures keeps { KeepsSender to.old to.new }
-        ensures ends { EndsHearing self.old self.new (sent to.old) (sent to.new) }
+        ensures ends { EndsHearing self.old self.new (events_sent to.old) (events_sent to.new) }
     {
         if self.is_long || self.mark.bytes().len() > 2 {
             self.send(rt, alloc, to);

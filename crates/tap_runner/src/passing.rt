@@ -1,7 +1,7 @@
 // One direction: what a source gives is handed on to a sink.
 ghost use Rattle.std.specs.Prelude.{◌≡◌, ◌<◌, [], false, vec_len};
-ghost use Rattle.event_pipe.specs.Ends.{IsSender, KeepsSender, sent};
-ghost use Rattle.event_pipe.specs.Rule.{ended};
+ghost use Rattle.event_pipe.specs.Ends.{IsSender, KeepsSender, events_sent};
+ghost use Rattle.event_pipe.specs.Rule.{has_last_event};
 ghost use Rattle.tap_runner.specs.Hearing.{EndsHearing, fresh};
 ghost use Rattle.tap_runner.specs.Passing.{Turned, Passed, is_last, has_failed_to_read, has_failed_to_write};
 
@@ -71,11 +71,12 @@ fn pass_turn<S: Source, K: Sink, R: Wait>(
     requires room { 0 < vec_len way.old.buf }
     requires sender { IsSender way.old.to }
     requires peer { way.old.to.peer ≡ way.old.part.peer }
-    requires going { ended (sent way.old.to) ≡ false }
+    requires going { has_last_event (events_sent way.old.to) ≡ false }
     ensures room { vec_len way.new.buf ≡ vec_len way.old.buf }
     ensures keeps { KeepsSender way.old.to way.new.to }
     ensures turned { Turned way.old.part way.new.part (S.state source.old) (S.state source.new)
-        (K.state sink.old) (K.state sink.new) (sent way.old.to) (sent way.new.to) result }
+        (K.state sink.old) (K.state sink.new) (events_sent way.old.to)
+        (events_sent way.new.to) result }
 {
     let Direction { to, part, buf } = way;
     match source.read(buf.as_mut_slice()) {
@@ -98,9 +99,10 @@ fn pass_turn<S: Source, K: Sink, R: Wait>(
 fn end_pass<K: LetGo, R: Wait>(rt: &R, alloc: Global, sink: &mut K, way: &mut Direction)
     requires sender { IsSender way.old.to }
     requires peer { way.old.to.peer ≡ way.old.part.peer }
-    requires going { ended (sent way.old.to) ≡ false }
+    requires going { has_last_event (events_sent way.old.to) ≡ false }
     ensures keeps { KeepsSender way.old.to way.new.to }
-    ensures ends { EndsHearing way.old.part way.new.part (sent way.old.to) (sent way.new.to) }
+    ensures ends { EndsHearing way.old.part way.new.part (events_sent way.old.to)
+        (events_sent way.new.to) }
     ensures shown { K.state sink.new ≡ K.state sink.old }
     ensures gone { K.is_let_go sink.new }
 {
@@ -121,10 +123,10 @@ pub fn hand_on<S: Source, K: LetGo, R: Wait>(
     requires room { 0 < vec_len way.old.buf }
     requires sender { IsSender way.old.to }
     requires part { way.old.part ≡ fresh way.old.to.peer }
-    requires unsent { sent way.old.to ≡ [] }
+    requires unsent { events_sent way.old.to ≡ [] }
     ensures keeps { KeepsSender way.old.to way.new.to }
     ensures passed { Passed way.old.to.peer (S.state source.old) (S.state source.new)
-        (K.state sink.old) (K.state sink.new) (sent way.new.to) result }
+        (K.state sink.old) (K.state sink.new) (events_sent way.new.to) result }
     ensures gone { K.is_let_go sink.new }
 {
     for _ in rt.forever() {

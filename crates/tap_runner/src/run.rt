@@ -1,6 +1,6 @@
 // Both directions beside the log.
 ghost use Rattle.std.specs.Prelude.{◌≡◌, ◌≤◌, is_some};
-ghost use Rattle.event_pipe.specs.Ends.{IsFreshTaker, taken, sent};
+ghost use Rattle.event_pipe.specs.Ends.{IsFreshTaker, events_taken, events_sent};
 ghost use Rattle.event_pipe.specs.declared.message.Peer.TheVariants as peers;
 ghost use Rattle.sink_offers.specs.Streams.{log_state, streams_of};
 ghost use Rattle.tap_runner.specs.Logging.{Logged};
@@ -46,14 +46,14 @@ fn run_beside<
     ensures from_bridge { Passed peers.Iface
         (I.state interface.old.input) (I.state interface.new.input)
         (E.state handed.old.engine) (E.state handed.new.engine)
-        (sent parts.new.down.to) result.bridge }
+        (events_sent parts.new.down.to) result.bridge }
     ensures from_engine { Passed peers.Engine (S.state handed.old.source) (S.state handed.new.source)
         (O.state interface.old.output) (O.state interface.new.output)
-        (sent parts.new.up.to) result.engine }
+        (events_sent parts.new.up.to) result.engine }
     ensures output_gone { O.is_let_go interface.new.output }
     ensures engine_gone { E.is_let_go handed.new.engine }
     ensures kept { is_some handed.new.log ≡ is_some handed.old.log }
-    ensures logged { Logged (taken parts.new.taker)
+    ensures logged { Logged (events_taken parts.new.taker)
         (log_state L.state handed.old.log) (log_state L.state handed.new.log) result.log_failed }
 {
     let TapParts {

@@ -32,7 +32,7 @@ struct ReadyTap<S, K, P> {
 fn run_started<I: Source + Send, O: LetGo + Send, H: Host, R: Threads + Wait + Sync>(
     rt: &R,
     alloc: Global,
-    ready: ReadyTap<H::EngineSource, H::EngineSink, H::ChildProcess>,
+    ready: ReadyTap<H::EngineSource, H::EngineSink, H::EngineProcess>,
     log_name: &str,
     interface: &mut Interface<I, O>,
     host: &mut H,
@@ -96,7 +96,7 @@ fn start<H: Host, R: Threads>(
     alloc: Global,
     words: &[String],
     host: &mut H,
-) -> Result<ReadyTap<H::EngineSource, H::EngineSink, H::ChildProcess>, Failures>
+) -> Result<ReadyTap<H::EngineSource, H::EngineSink, H::EngineProcess>, Failures>
     requires words { 0 < length words.now }
     requires unused { IsUnused (H.books host.old) }
     ensures parts { IfOk result (λ ready. AreReady ready.parts) }

@@ -1,6 +1,6 @@
 // Both directions and the log, over sources and sinks in memory.
 ghost use Rattle.std.specs.Prelude.{◌≡◌, ◌<◌, [], vec_len};
-ghost use Rattle.event_pipe.specs.Ends.{IsSender, IsFreshTaker, sent};
+ghost use Rattle.event_pipe.specs.Ends.{IsSender, IsFreshTaker, events_sent};
 ghost use Rattle.tap_runner.specs.Hearing.{fresh};
 
 use crate::expected::{expect_bytes, expect_true};
@@ -95,7 +95,7 @@ fn pass<R: Wait + Abort>(
 ) -> PassEnd
     requires sender { IsSender to }
     requires peer { to.peer ≡ peer }
-    requires unsent { sent to ≡ [] }
+    requires unsent { events_sent to ≡ [] }
 {
     let mut source = source(rt, alloc, bytes, 7, &[]);
     let mut way = make_way(rt, alloc, peer, to);

@@ -16,7 +16,7 @@ use Rattle.chess_board.specs.Position.{Position}
 use Rattle.chess_board.specs.Rules.{last_rank}
 use Rattle.cecp_lines.specs.San.{is_between, is_mark, has_form, forms, is_san}
 use Rattle.san_text.specs.declared.men.RivalSquares.TheVariants.{Board, File, Rank}
-use Rattle.san_text.specs.Writing.{kind_at, castles_short, castles_long, is_capture, has_rival, letter, origin, promotion_letters, target, taking, after, sign, san}
+use Rattle.san_text.specs.Writing.{kind_at, castles_short, castles_long, is_capture, has_rival, letter, origin, promotion_letters, target, capture_text, after, sign, san}
 use Rattle.san_text.proofs.Alone.{kind_of_move}
 use Rattle.think_text.proofs.Rivals.{pawn_ahead, inner_by, king_alone}
 
@@ -107,8 +107,8 @@ pawn_by side takes (Some k) s t sg (inr e) i m = absurd (cc (e.1))
 
 -- what a move that is not castling is written as, by the man that moves
 abbrev man_text : Kind → Position → Move → List ℕ
-man_text Pawn p m = cond (is_capture p m) ((97 + file_of m.from.index) ∷ []) [] ++ (taking p m ++ target m)
-man_text k p m = letter k ++ (origin_text (has_rival p m Board) (has_rival p m File) (has_rival p m Rank) m.from.index ++ (taking p m ++ target m))
+man_text Pawn p m = cond (is_capture p m) ((97 + file_of m.from.index) ∷ []) [] ++ (capture_text p m ++ target m)
+man_text k p m = letter k ++ (origin_text (has_rival p m Board) (has_rival p m File) (has_rival p m Rank) m.from.index ++ (capture_text p m ++ target m))
 
 bare_target : (m : Move) → m.promotion ≡ None → target m ≡ (97 + file_of m.to.index) ∷ (49 + rank_of m.to.index) ∷ []
 bare_target m e = ap (λ (o : Option Kind). (97 + file_of m.to.index) ∷ (49 + rank_of m.to.index) ∷ promotion_letters o) e
@@ -119,15 +119,15 @@ pawn_inner p m g n =
     inner_by p.side (rank_of m.from.index) (rank_of m.to.index) a.0 a.1.0 a.1.1 (omega (arith, m.from.on_board)) (omega (arith, m.to.on_board)) n
 
 officer_by : (p : Position) (m : Move) (c : ℕ) (sg : List ℕ) → IsLetter c → m.promotion ≡ None → is_mark sg ≡ true
-    → is_san ((c ∷ (origin_text (has_rival p m Board) (has_rival p m File) (has_rival p m Rank) m.from.index ++ (taking p m ++ target m))) ++ sg) ≡ true
+    → is_san ((c ∷ (origin_text (has_rival p m Board) (has_rival p m File) (has_rival p m Rank) m.from.index ++ (capture_text p m ++ target m))) ++ sg) ≡ true
 officer_by p m c sg k e g =
-    ap (λ t. is_san ((c ∷ (origin_text (has_rival p m Board) (has_rival p m File) (has_rival p m Rank) m.from.index ++ (taking p m ++ t))) ++ sg)) (bare_target m e)
+    ap (λ t. is_san ((c ∷ (origin_text (has_rival p m Board) (has_rival p m File) (has_rival p m Rank) m.from.index ++ (capture_text p m ++ t))) ++ sg)) (bare_target m e)
     ∙ officer_form c (is_capture p m) (has_rival p m Board) (has_rival p m File) (has_rival p m Rank) m.from.index m.to.index sg k m.from.on_board m.to.on_board g
 
 king_by : (p : Position) (m : Move) (sg : List ℕ) → m.promotion ≡ None → has_rival p m Board ≡ false → is_mark sg ≡ true
-    → is_san ((75 ∷ (origin_text (has_rival p m Board) (has_rival p m File) (has_rival p m Rank) m.from.index ++ (taking p m ++ target m))) ++ sg) ≡ true
+    → is_san ((75 ∷ (origin_text (has_rival p m Board) (has_rival p m File) (has_rival p m Rank) m.from.index ++ (capture_text p m ++ target m))) ++ sg) ≡ true
 king_by p m sg e n g =
-    ap (λ t. is_san ((75 ∷ (origin_text (has_rival p m Board) (has_rival p m File) (has_rival p m Rank) m.from.index ++ (taking p m ++ t))) ++ sg)) (bare_target m e)
+    ap (λ t. is_san ((75 ∷ (origin_text (has_rival p m Board) (has_rival p m File) (has_rival p m Rank) m.from.index ++ (capture_text p m ++ t))) ++ sg)) (bare_target m e)
     ∙ king_form (is_capture p m) (has_rival p m Board) (has_rival p m File) (has_rival p m Rank) m.from.index m.to.index sg n m.to.on_board g
 
 man_form : (k : Kind) (p : Position) (m : Move) (sg : List ℕ) → (k ≡ King → has_rival p m Board ≡ false) → Goes p k m.from.index m.to.index → Promotes p.side k m.to.index m.promotion → is_mark sg ≡ true
@@ -139,7 +139,7 @@ man_form Rook p m sg n g e k = officer_by p m 82 sg refl e k
 man_form Queen p m sg n g e k = officer_by p m 81 sg refl e k
 man_form King p m sg n g e k = king_by p m sg e (n refl) k
 
-man_is : (k : Kind) (p : Position) (m : Move) → kind_at p m.from.index ≡ k → letter (kind_at p m.from.index) ++ (origin p m ++ (taking p m ++ target m)) ≡ man_text k p m
+man_is : (k : Kind) (p : Position) (m : Move) → kind_at p m.from.index ≡ k → letter (kind_at p m.from.index) ++ (origin p m ++ (capture_text p m ++ target m)) ≡ man_text k p m
 unfolding origin_text
 man_is Pawn p m e = rw e refl
 man_is Knight p m e = rw e refl
@@ -149,7 +149,7 @@ man_is Queen p m e = rw e refl
 man_is King p m e = rw e refl
 
 body_form : (short long : Bool) (p : Position) (m : Move) (sg : List ℕ) → AreMen p.men → IsLegal p m.from.index m.to.index m.promotion → is_mark sg ≡ true
-    → is_san (cond short (79 ∷ 45 ∷ 79 ∷ []) (cond long (79 ∷ 45 ∷ 79 ∷ 45 ∷ 79 ∷ []) (letter (kind_at p m.from.index) ++ (origin p m ++ (taking p m ++ target m)))) ++ sg) ≡ true
+    → is_san (cond short (79 ∷ 45 ∷ 79 ∷ []) (cond long (79 ∷ 45 ∷ 79 ∷ 45 ∷ 79 ∷ []) (letter (kind_at p m.from.index) ++ (origin p m ++ (capture_text p m ++ target m)))) ++ sg) ≡ true
 body_form true long p m sg are h k = form_at _ 0 (omega arith) k
 body_form false true p m sg are h k = form_at _ 1 (omega arith) k
 body_form false false p m sg are h k =

@@ -18,7 +18,7 @@ use Rattle.uci_lines.specs.Info.{Info}
 use Rattle.uci_lines.specs.Scores.{IsCentis}
 use Rattle.uci_lines.proofs.Scores.{scores_are_centis}
 use Rattle.think_text.specs.declared.line.Pondered.{Pondered}
-use Rattle.think_text.specs.Line.{value_of, played, legal_run, written, run_texts, line_with, hint_text, IsPlayable}
+use Rattle.think_text.specs.Line.{value_of, moved_position, legal_run, written, run_texts, line_with, hint_text, IsPlayable}
 use Rattle.think_text.specs.Short.{IsBefore, LinesAreReplies}
 use Rattle.think_text.proofs.Forms.{san_form}
 use Rattle.think_text.proofs.Legal.{legal_writable}
@@ -29,19 +29,19 @@ move_text : (s : Spelling) (p : Position) (m : Move) → IsPosition p → legal 
 move_text Coordinates p m is e = record { move = m; writable = legal_writable p m e; is = refl }
 move_text San p m is e = san_form p m is.men (is_legal p m e)
 
-still : (p : Position) (m : Move) → IsPosition p → legal p m ≡ true → IsPosition (played p m)
+still : (p : Position) (m : Move) → IsPosition p → legal p m ≡ true → IsPosition (moved_position p m)
 still p m is e =
     position_kept p m.from.index m.to.index m.promotion is m.from.on_board m.to.on_board
     (passed_low p.side (kind_on (man_at p.men m.from.index)) m.from.index m.to.index m.from.on_board m.to.on_board) e
 
-run_step : (s : Spelling) (p : Position) (m : Move) (moves : List Move) (b : Bool) → legal p m ≡ b → IsPosition p → (IsPosition (played p m) → AllByRecursion (IsMoveText s) (run_texts s (played p m) moves))
+run_step : (s : Spelling) (p : Position) (m : Move) (moves : List Move) (b : Bool) → legal p m ≡ b → IsPosition p → (IsPosition (moved_position p m) → AllByRecursion (IsMoveText s) (run_texts s (moved_position p m) moves))
     → AllByRecursion (IsMoveText s) (run_texts s p (cond b (m ∷ moves) []))
 run_step s p m moves true e is k = (move_text s p m is e, k (still p m is e))
 run_step s p m moves false e is k = tt
 
 run_moves : (s : Spelling) (p : Position) (moves : List Move) → IsPosition p → AllByRecursion (IsMoveText s) (run_texts s p (legal_run p moves))
 run_moves s p [] is = tt
-run_moves s p (m ∷ moves) is = run_step s p m (legal_run (played p m) moves) (legal p m) refl is (run_moves s (played p m) moves)
+run_moves s p (m ∷ moves) is = run_step s p m (legal_run (moved_position p m) moves) (legal p m) refl is (run_moves s (moved_position p m) moves)
 
 hint_move : (s : Spelling) (hint : Option Pondered) → IfSome hint IsBefore → IsPlayable hint → IfSome (hint_text s hint) (IsMoveText s)
 hint_move s None is h = tt

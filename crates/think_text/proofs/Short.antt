@@ -32,7 +32,7 @@ use Rattle.uci_lines.proofs.Rows.{read_spells}
 use Rattle.uci_lines.proofs.Scores.{scores_are_centis}
 use Rattle.think_text.specs.declared.line.Pondered.{Pondered}
 use Rattle.think_text.specs.declared.seen.SeenThinking.{SeenThinking}
-use Rattle.think_text.specs.Line.{value_of, played, legal_run, written, run_texts, spaced, line_with, hint_text, IsPlayable}
+use Rattle.think_text.specs.Line.{value_of, moved_position, legal_run, written, run_texts, spaced_moves, line_with, hint_text, IsPlayable}
 use Rattle.think_text.specs.Kept.{after_info, stat01_of}
 use Rattle.think_text.specs.Short.{most_bytes, LinesAreShort, IsBounded, StaysBounded, StatIsShort}
 use Rattle.think_text.proofs.Lines.{moves_text, first_and_others}
@@ -95,18 +95,18 @@ one_within Coordinates p m n all e h = omega (arith, h)
 one_within San p m n all e h = omega (arith, h, short p m (is_legal p m e))
 
 legal_step : (s : Spelling) (p : Position) (w : Bool) (m : Move) (legals moves : List Move) → legal p m ≡ w
-    → Within s (length (spaced s (played p m) legals)) (length (squares moves)) → Within s (length (spaced s p (cond w (m ∷ legals) []))) (length (squares (m ∷ moves)))
+    → Within s (length (spaced_moves s (moved_position p m) legals)) (length (squares moves)) → Within s (length (spaced_moves s p (cond w (m ∷ legals) []))) (length (squares (m ∷ moves)))
 unfolding squares
 legal_step s p true m legals moves e h =
-    let mine : length (spaced s p (m ∷ legals)) ≡ 1 + length (written s p m) + length (spaced s (played p m) legals) = omega (arith, length-append (32 ∷ written s p m) (spaced s (played p m) legals)) in
+    let mine : length (spaced_moves s p (m ∷ legals)) ≡ 1 + length (written s p m) + length (spaced_moves s (moved_position p m) legals) = omega (arith, length-append (32 ∷ written s p m) (spaced_moves s (moved_position p m) legals)) in
     let all : length (squares (m ∷ moves)) ≡ 1 + length (text_of m) + length (squares moves) = omega (arith, length-append (32 ∷ text_of m) (squares moves)) in
     subst (λ (n : ℕ). Within s n (length (squares (m ∷ moves)))) (sym mine)
-    (subst (λ (n : ℕ). Within s (1 + length (written s p m) + length (spaced s (played p m) legals)) n) (sym all) (one_within s p m _ _ e h))
+    (subst (λ (n : ℕ). Within s (1 + length (written s p m) + length (spaced_moves s (moved_position p m) legals)) n) (sym all) (one_within s p m _ _ e h))
 legal_step s p false m legals moves e h = none_within s _
 
-legal_size : (s : Spelling) (p : Position) (moves : List Move) → Within s (length (spaced s p (legal_run p moves))) (length (squares moves))
+legal_size : (s : Spelling) (p : Position) (moves : List Move) → Within s (length (spaced_moves s p (legal_run p moves))) (length (squares moves))
 legal_size s p [] = none_within s _
-legal_size s p (m ∷ moves) = legal_step s p (legal p m) m (legal_run (played p m) moves) moves refl (legal_size s (played p m) moves)
+legal_size s p (m ∷ moves) = legal_step s p (legal p m) m (legal_run (moved_position p m) moves) moves refl (legal_size s (moved_position p m) moves)
 
 -- WHAT LINES TELL
 
@@ -209,13 +209,13 @@ fits d score f n s hint pv h k w =
     ((omega arith), value_fits score k, (omega arith), (omega arith))
 
 -- the moves after a blank
-behind_blank : (s : Spelling) (p : Position) (m : Move) (moves : List Move) → length (spaced s p (m ∷ moves)) ≡ 1 + length (moves_text s p (m ∷ moves))
+behind_blank : (s : Spelling) (p : Position) (m : Move) (moves : List Move) → length (spaced_moves s p (m ∷ moves)) ≡ 1 + length (moves_text s p (m ∷ moves))
 behind_blank s p m moves =
     let text = ap length (first_and_others s p m moves) in
-    omega (arith, text, length-append (written s p m) (spaced s (played p m) moves), length-append (32 ∷ written s p m) (spaced s (played p m) moves))
+    omega (arith, text, length-append (written s p m) (spaced_moves s (moved_position p m) moves), length-append (32 ∷ written s p m) (spaced_moves s (moved_position p m) moves))
 
 line_short : (d : Option ℕ) (score : Option Score) (s : Spelling) (p : Position) (moves : List Move) (f : AnyInfo) (hint : Option Pondered) (t : Reply) (n : ℕ) →
-    IfSome d IsCount → IfSome score IsCentis → IsWithin (n + 1) f → Within s (length (spaced s p moves)) (n + 1) → IsPlayable hint
+    IfSome d IsCount → IfSome score IsCentis → IsWithin (n + 1) f → Within s (length (spaced_moves s p moves)) (n + 1) → IsPlayable hint
     → line_with d score (run_texts s p moves) f s (hint_text s hint) ≡ Some t → length (reply_text t) ≤ most_bytes s n
 line_short (Some depth) (Some score) s p (m ∷ moves) f hint t n h k w l i e =
     let told : Reply = Thinking depth (value_of score) (unwrap_or f.time 0 / 10) (unwrap_or f.nodes 0) s (hint_text s hint) (moves_text s p (m ∷ moves)) in
@@ -234,7 +234,7 @@ widened San n a b h l = omega (arith, h, l)
 pub lines_short : LinesAreShort
 lines_short s line f p hint t i e h =
     let w = told_within line f e in
-    let moves = widened s (length (spaced s p (legal_run p f.pv))) _ (length line + 1) (legal_size s p f.pv) w.moves in
+    let moves = widened s (length (spaced_moves s p (legal_run p f.pv))) _ (length line + 1) (legal_size s p f.pv) w.moves in
     line_short f.depth f.score s p (legal_run p f.pv) f hint t (length line) w.depth (scores_are_centis line f e) w moves i h
 
 -- WHAT IS KEPT

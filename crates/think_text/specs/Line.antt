@@ -30,13 +30,13 @@ abbrev pub value_of : Score → ℤ
 value_of (Cp score) = score
 value_of (Mate moves) = if int_lt (pos 0) moves then MATE +ℤ moves else neg_ℤ (MATE -ℤ moves)
 
-abbrev pub played : Position → Move → Position
-played p m = position_after p m.from.index m.to.index m.promotion
+abbrev pub moved_position : Position → Move → Position
+moved_position p m = position_after p m.from.index m.to.index m.promotion
 
 -- the longest run of moves, from the first on, of which each is legal in its turn
 abbrev pub legal_run : Position → List Move → List Move
 legal_run p [] = []
-legal_run p (m ∷ moves) = if legal p m then m ∷ legal_run (played p m) moves else []
+legal_run p (m ∷ moves) = if legal p m then m ∷ legal_run (moved_position p m) moves else []
 
 -- a move as it is written in a position
 abbrev pub written : Spelling → Position → Move → List ℕ
@@ -46,12 +46,12 @@ written San p m = san p m
 -- the moves of a run, each as it is written in the position in which it is played
 abbrev pub run_texts : Spelling → Position → List Move → List (List ℕ)
 run_texts s p [] = []
-run_texts s p (m ∷ moves) = written s p m ∷ run_texts s (played p m) moves
+run_texts s p (m ∷ moves) = written s p m ∷ run_texts s (moved_position p m) moves
 
 -- each of them after a blank
-abbrev pub spaced : Spelling → Position → List Move → List ℕ
-spaced s p [] = []
-spaced s p (m ∷ moves) = (blank ∷ written s p m) ++ spaced s (played p m) moves
+abbrev pub spaced_moves : Spelling → Position → List Move → List ℕ
+spaced_moves s p [] = []
+spaced_moves s p (m ∷ moves) = (blank ∷ written s p m) ++ spaced_moves s (moved_position p m) moves
 
 -- The line with these texts of moves. It needs a depth, a score and a move; a time or a number of nodes that is missing is 0.
 abbrev pub line_with : Option ℕ → Option Score → List (List ℕ) → AnyInfo → Spelling → Option (List ℕ) → Option Reply

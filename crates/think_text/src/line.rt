@@ -8,7 +8,7 @@ ghost use Rattle.cecp_lines.specs.Replies.{Thinking, reply_of};
 ghost use Rattle.uci_lines.specs.Moves.{run};
 ghost use Rattle.uci_lines.specs.Info.{info_of};
 ghost use Rattle.uci_lines.specs.Scores.{IsCentis};
-ghost use Rattle.think_text.specs.Line.{IsHeard, IsPlayable, HasRoom, legal_run, played, value_of, spaced, thinking_line, with_line, written};
+ghost use Rattle.think_text.specs.Line.{IsHeard, IsPlayable, HasRoom, legal_run, moved_position, value_of, spaced_moves, thinking_line, with_line, written};
 ghost use Rattle.peer_words.specs.Bytes.{blank};
 
 use crate::texts::{bytes_of, hint_text, written};
@@ -40,9 +40,9 @@ fn next_legal<'a>(moves: &'a [u8], at: &Position) -> Option<NextMove<'a>>
     ensures { MatchOption result
         (legal_run at.now (run (tokens moves.now)) ≡ [])
         (λ next. (legal at.now next.m ≡ true)
-        × (next.after ≡ played at.now next.m)
+        × (next.after ≡ moved_position at.now next.m)
         × (legal_run at.now (run (tokens moves.now))
-        ≡ next.m ∷ legal_run (played at.now next.m) (run (tokens next.others.now)))) }
+        ≡ next.m ∷ legal_run (moved_position at.now next.m) (run (tokens next.others.now)))) }
 {
     let (m, others) = next_move(moves)?;
     let after = at.try_play(m)?;
@@ -63,10 +63,10 @@ fn write_spaced(spelling: Spelling, at: &Position, m: Move, out: &mut Out)
 /// Writes each move after a blank, as long as each is legal in its turn.
 fn write_moves(spelling: Spelling, moves: &[u8], at: &Position, out: &mut Out)
     requires { length out.old.text
-        + length (spaced spelling at.now (legal_run at.now (run (tokens moves.now))))
+        + length (spaced_moves spelling at.now (legal_run at.now (run (tokens moves.now))))
         ≤ out.old.room }
     ensures { out.new
-        ≡ with out.old (spaced spelling at.now (legal_run at.now (run (tokens moves.now)))) }
+        ≡ with out.old (spaced_moves spelling at.now (legal_run at.now (run (tokens moves.now)))) }
 {
     let mut position = *at;
     let mut others = moves;

@@ -10,7 +10,7 @@ use Rattle.uci_lines.specs.Cuts.{is_word, is_known}
 use Rattle.chess_board.specs.Spelling.{move_of}
 use Rattle.uci_lines.specs.Messages.{Name, UciOk, ReadyOk, Best}
 use Rattle.uci_lines.specs.Spells.{IsFirst, Behind, PerhapsMove, Begins, HasForm}
-use Rattle.uci_engine_side.specs.Said.{spaced, move_text, best_text, said_text}
+use Rattle.uci_engine_side.specs.Said.{spaced_text, move_text, best_text, said_text}
 use Rattle.uci_lines.specs.Writable.{can_write}
 use Rattle.uci_lines.proofs.Fronts.{BeginsWhite, first_is, rest_is}
 use Rattle.uci_lines.proofs.Cutting.{cut_token}
@@ -44,10 +44,10 @@ unfolding said_text
 name_again line name h =
     let white = spaced_white name in
     let kept : trimmed name ≡ name = ap trimmed h.3 ∙ rest_again h.0 ∙ sym h.3 in (
-      codes " name" ++ spaced name,
-      begins_with (codes "id") (codes " name" ++ spaced name) refl refl refl,
-      first_is (codes "name") (spaced name) refl white,
-      sym (rest_is (codes "name") (spaced name) refl white ∙ spaced_trimmed name ∙ kept),
+      codes " name" ++ spaced_text name,
+      begins_with (codes "id") (codes " name" ++ spaced_text name) refl refl refl,
+      first_is (codes "name") (spaced_text name) refl white,
+      sym (rest_is (codes "name") (spaced_text name) refl white ∙ spaced_trimmed name ∙ kept),
     )
 
 pub uci_ok_again : HasForm (said_text UciOk) UciOk

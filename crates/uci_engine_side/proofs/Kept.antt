@@ -11,7 +11,7 @@ use Rattle.peer_words.proofs.Trims.{trim_right_again, trim_left_trimmed, drops_w
 use Rattle.peer_words.proofs.TokenLists.{tokens_more, tokens_alone, tokens_white, tokens_trim_right}
 use Rattle.peer_words.proofs.Runs.{black, black_kept}
 use Rattle.uci_lines.specs.Spells.{ends_white}
-use Rattle.uci_engine_side.specs.Said.{spaced}
+use Rattle.uci_engine_side.specs.Said.{spaced_text}
 use Rattle.uci_lines.proofs.Fronts.{BeginsWhite}
 
 -- TEXTS THAT DO NOT END WITH WHITE SPACE
@@ -79,15 +79,15 @@ left_black false x xs e h = rw e refl
 pub trimmed_solid : (x : ℕ) (xs : List ℕ) → is_white x ≡ false → Solid (x ∷ xs) → trimmed (x ∷ xs) ≡ x ∷ xs
 trimmed_solid x xs e s = ap trim_right (left_black (is_white x) x xs refl e) ∙ s.kept
 
-pub spaced_trimmed : (xs : List ℕ) → trimmed (spaced xs) ≡ trimmed xs
+pub spaced_trimmed : (xs : List ℕ) → trimmed (spaced_text xs) ≡ trimmed xs
 spaced_trimmed [] = refl
 spaced_trimmed (x ∷ xs) = refl
 
-pub spaced_white : (xs : List ℕ) → BeginsWhite (spaced xs)
+pub spaced_white : (xs : List ℕ) → BeginsWhite (spaced_text xs)
 spaced_white [] = tt
 spaced_white (x ∷ xs) = refl
 
-pub spaced_tokens : (xs : List ℕ) → tokens (spaced xs) ≡ tokens xs
+pub spaced_tokens : (xs : List ℕ) → tokens (spaced_text xs) ≡ tokens xs
 spaced_tokens [] = refl
 spaced_tokens (x ∷ xs) = refl
 

@@ -10,7 +10,7 @@ use Rattle.uci_lines.specs.Cuts.{Found, is_word, is_choice}
 use Rattle.uci_lines.specs.Options.{shown_text}
 use Rattle.uci_lines.specs.Messages.{OptionKind, Check, Spin, Combo, Button, Text, OptionLine}
 use Rattle.uci_lines.specs.Spells.{ends_white, IsNoneOf, IsFirst, Behind, IsLast, HasValues, HasShape, Declares, HasForm}
-use Rattle.uci_engine_side.specs.Said.{spaced, each_value, switch_text, empty_or, range_text, shape_text, option_text, said_text}
+use Rattle.uci_engine_side.specs.Said.{spaced_text, each_value, switch_text, empty_or, range_text, shape_text, option_text, said_text}
 use Rattle.uci_lines.proofs.Fronts.{BeginsWhite, first_is, rest_is}
 use Rattle.uci_engine_side.proofs.Kept.{Solid, solid_over, solid_token, first_black, solid_trimmed, trimmed_solid, spaced_white, white_over, blank_ends, blank_tokens, blank_trimmed, tokens_front}
 use Rattle.uci_engine_side.proofs.Again.{first_here, begins_with, behind_here}
@@ -30,7 +30,7 @@ word_of (Text default) = codes "string"
 text_behind : OptionKind → List ℕ
 text_behind (Check on) = codes " default " ++ switch_text on
 text_behind (Spin default min max) = (codes " default " ++ signed_decimal default) ++ range_text min max
-text_behind (Combo default values) = codes " default" ++ spaced default ++ each_value values
+text_behind (Combo default values) = codes " default" ++ spaced_text default ++ each_value values
 text_behind Button = []
 text_behind (Text default) = codes " default " ++ empty_or default
 
@@ -118,17 +118,17 @@ spin_stands d a b hd ha hb l k =
       );
     }
 
-combo_solid : (default : List ℕ) (values : List (List ℕ)) → IsClean default → AllClean values → Solid (codes "default" ++ spaced default ++ each_value values)
+combo_solid : (default : List ℕ) (values : List (List ℕ)) → IsClean default → AllClean values → Solid (codes "default" ++ spaced_text default ++ each_value values)
 combo_solid default values c h =
-    subst (λ (t : List ℕ). Solid t) (append_assoc (codes "default") (spaced default) (each_value values))
-    (solid_each (codes "default" ++ spaced default) values (solid_spaced (codes "default") default (solid_token (codes "default") refl) c.trim) h)
+    subst (λ (t : List ℕ). Solid t) (append_assoc (codes "default") (spaced_text default) (each_value values))
+    (solid_each (codes "default" ++ spaced_text default) values (solid_spaced (codes "default") default (solid_token (codes "default") refl) c.trim) h)
 
 combo_stands : (default : List ℕ) (values : List (List ℕ)) → IsClean default → AllClean values → Stands (Combo default values)
 unfolding word_of text_behind
 combo_stands default values c h =
-    let others : List ℕ = spaced default ++ each_value values in
+    let others : List ℕ = spaced_text default ++ each_value values in
     let solid = combo_solid default values c h in
-    let white : BeginsWhite others = white_over (spaced default) (each_value values) (spaced_white default) (each_white values) in
+    let white : BeginsWhite others = white_over (spaced_text default) (each_value values) (spaced_white default) (each_white values) in
     let text : trimmed (codes " default" ++ others) ≡ codes "default" ++ others = solid.kept in
     record {
       solid = solid_over (codes "combo ") (codes "default" ++ others) solid;
@@ -195,7 +195,7 @@ before_type : List ℕ → List ℕ
 before_type [] = []
 before_type (b ∷ bs) = (b ∷ bs) ++ (32 ∷ [])
 
-named_text : (name others : List ℕ) → trimmed name ≡ name → Solid (codes "type " ++ others) → trimmed (spaced name ++ (codes " type " ++ others)) ≡ before_type name ++ (codes "type " ++ others)
+named_text : (name others : List ℕ) → trimmed name ≡ name → Solid (codes "type " ++ others) → trimmed (spaced_text name ++ (codes " type " ++ others)) ≡ before_type name ++ (codes "type " ++ others)
 unfolding before_type
 named_text [] others t s = s.kept
 named_text (b ∷ bs) others t s =
@@ -233,15 +233,15 @@ type_first name others n = record {
 
 -- ALL
 
-declared : (name : List ℕ) (shape : OptionKind) → trimmed name ≡ name → IsNoneOf (is_word (codes "type")) (tokens name) → Stands shape → Declares (codes " name" ++ (spaced name ++ (codes " type " ++ (word_of shape ++ text_behind shape)))) name shape
+declared : (name : List ℕ) (shape : OptionKind) → trimmed name ≡ name → IsNoneOf (is_word (codes "type")) (tokens name) → Stands shape → Declares (codes " name" ++ (spaced_text name ++ (codes " type " ++ (word_of shape ++ text_behind shape)))) name shape
 unfolding type_part
 declared name shape t n s =
     let kind : List ℕ = word_of shape ++ text_behind shape in
-    let white : BeginsWhite (spaced name ++ (codes " type " ++ kind)) = white_over (spaced name) (codes " type " ++ kind) (spaced_white name) refl in
-    let text = rest_is (codes "name") (spaced name ++ (codes " type " ++ kind)) refl white ∙ named_text name kind t (solid_over (codes "type ") kind s.solid) in
+    let white : BeginsWhite (spaced_text name ++ (codes " type " ++ kind)) = white_over (spaced_text name) (codes " type " ++ kind) (spaced_white name) refl in
+    let text = rest_is (codes "name") (spaced_text name ++ (codes " type " ++ kind)) refl white ∙ named_text name kind t (solid_over (codes "type ") kind s.solid) in
     let first : first_token (32 ∷ kind) ≡ word_of shape = first_is (word_of shape) (text_behind shape) (word_token shape) (behind_white shape) in
     let others : rest (32 ∷ kind) ≡ trimmed (text_behind shape) = rest_is (word_of shape) (text_behind shape) (word_token shape) (behind_white shape) in (
-      first_is (codes "name") (spaced name ++ (codes " type " ++ kind)) refl white,
+      first_is (codes "name") (spaced_text name ++ (codes " type " ++ kind)) refl white,
       type_part name kind,
       subst (λ (u : List ℕ). IsFirst (is_word (codes "type")) u (type_part name kind)) (sym text) (type_first name kind n),
       sym (before_trimmed name t),
@@ -249,12 +249,12 @@ declared name shape t n s =
           (subst (λ (u : List ℕ). HasShape (word_of shape) u shape) (sym others) s.shaped),
     )
 
-option_text_is : (name : List ℕ) (shape : OptionKind) → option_text name shape ≡ codes "option" ++ (codes " name" ++ (spaced name ++ (codes " type " ++ (word_of shape ++ text_behind shape))))
-option_text_is name shape = ap (λ t. codes "option name" ++ (spaced name ++ t)) (kind_text shape)
+option_text_is : (name : List ℕ) (shape : OptionKind) → option_text name shape ≡ codes "option" ++ (codes " name" ++ (spaced_text name ++ (codes " type " ++ (word_of shape ++ text_behind shape))))
+option_text_is name shape = ap (λ t. codes "option name" ++ (spaced_text name ++ t)) (kind_text shape)
 
-written : (name : List ℕ) (shape : OptionKind) → trimmed name ≡ name → IsNoneOf (is_word (codes "type")) (tokens name) → Stands shape → HasForm (codes "option" ++ (codes " name" ++ (spaced name ++ (codes " type " ++ (word_of shape ++ text_behind shape))))) (OptionLine name shape)
+written : (name : List ℕ) (shape : OptionKind) → trimmed name ≡ name → IsNoneOf (is_word (codes "type")) (tokens name) → Stands shape → HasForm (codes "option" ++ (codes " name" ++ (spaced_text name ++ (codes " type " ++ (word_of shape ++ text_behind shape))))) (OptionLine name shape)
 written name shape t n s =
-    let text : List ℕ = codes " name" ++ (spaced name ++ (codes " type " ++ (word_of shape ++ text_behind shape))) in
+    let text : List ℕ = codes " name" ++ (spaced_text name ++ (codes " type " ++ (word_of shape ++ text_behind shape))) in
     (text, begins_with (codes "option") text refl refl refl, declared name shape t n s)
 
 name_kept : (text name : List ℕ) → name ≡ trimmed text → IsNoneOf (is_word (codes "type")) (tokens text) → (trimmed name ≡ name) × IsNoneOf (is_word (codes "type")) (tokens name)

@@ -17,7 +17,7 @@ use Rattle.uci_lines.specs.Scores.{IsCentis}
 use Rattle.uci_lines.specs.Info.{Info as AnyInfo}
 use Rattle.uci_lines.specs.Messages.{OptionKind, Check, Spin, Combo, Button, Text, EngineMsg, Name, UciOk, ReadyOk, Best, OptionLine, Info, Nothing}
 use Rattle.uci_lines.specs.Spells.{Behind, HasShape, Declares, Tells, Begins, SpellsMessage}
-use Rattle.uci_engine_side.specs.Said.{spaced, score_text, bound_text, move_text, each_move, pv_text, switch_text, empty_or, shape_text, best_text, said_text}
+use Rattle.uci_engine_side.specs.Said.{spaced_text, score_text, bound_text, move_text, each_move, pv_text, switch_text, empty_or, shape_text, best_text, said_text}
 use Rattle.uci_engine_side.specs.Again.{TextsFitTheLine}
 use Rattle.peer_words.proofs.Lengths.{trimmed_length, rest_length}
 use Rattle.uci_lines.proofs.TextLengths.{count_length}
@@ -94,7 +94,7 @@ pub declared_length : (text name : List ℕ) (shape : OptionKind) → Declares t
 unfolding said_text
 declared_length text name shape d =
     let part = d.1 in
-    omega (arith, length-append (spaced name) (shape_text shape), spaced_length name, ap length d.3, trimmed_length part.before, shape_length (first_token part.after) (rest part.after) shape d.4, rest_length part.after, part_length (is_word (codes "type")) (rest text) part d.2, rest_length text)
+    omega (arith, length-append (spaced_text name) (shape_text shape), spaced_length name, ap length d.3, trimmed_length part.before, shape_length (first_token part.after) (rest part.after) shape d.4, rest_length part.after, part_length (is_word (codes "type")) (rest text) part d.2, rest_length text)
 
 -- WHAT IS TOLD OF A SEARCH
 

@@ -5,7 +5,7 @@ use Rattle.std.specs.Int.{int_min, int_max}
 use Rattle.std.specs.Fmt.{signed_decimal}
 use Rattle.std.specs.Str.Parse.{starts_with_minus}
 use Rattle.peer_words.specs.Tokens.{is_token}
-use Rattle.peer_words.specs.Numbers.{count, positive, negative, signed}
+use Rattle.peer_words.specs.Numbers.{count, positive, negative, signed_number}
 use Rattle.peer_words.proofs.Sizes.{digits_small}
 use Rattle.peer_words.proofs.Written.{signed_decimal_read, signed_token}
 use Rattle.uci_lines.specs.Cuts.{is_word}
@@ -44,19 +44,19 @@ signed_by true t z e = neg_by (count (drop 1 t)) z (digits_small 18 (drop 1 t)) 
 signed_by false t z e = pos_by (count t) z (digits_small 18 t) e
 
 -- a number of at most 18 digits
-pub signed_small : (t : List ℕ) (z : ℤ) → signed t ≡ Some z → nat_abs z < 10 ^ 18
+pub signed_small : (t : List ℕ) (z : ℤ) → signed_number t ≡ Some z → nat_abs z < 10 ^ 18
 signed_small t z e = signed_by (starts_with_minus t) t z e
 
 pub number_token : (z : ℤ) → nat_abs z < 10 ^ 18 → is_token (signed_decimal z) ≡ true
 number_token z h = signed_token z (omega (arith, h))
 
 -- a word and a number in front of others
-none_pair : (word w digits : List ℕ) (n : ℤ) (ts : List (List ℕ)) → is_word word w ≡ false → signed word ≡ None → signed digits ≡ Some n → HasNone word ts → HasNone word (w ∷ digits ∷ ts)
+none_pair : (word w digits : List ℕ) (n : ℤ) (ts : List (List ℕ)) → is_word word w ≡ false → signed_number word ≡ None → signed_number digits ≡ Some n → HasNone word ts → HasNone word (w ∷ digits ∷ ts)
 none_pair word w digits n ts e z h k =
     none_more word w (digits ∷ ts) false e (λ j. absurd (cc))
     (none_more word digits ts false (passes_by word digits n (is_word word digits) refl z h) (λ j. absurd (cc)) k)
 
-last_here : (word digits : List ℕ) (n : ℤ) (ts : List (List ℕ)) → signed digits ≡ Some n → HasNone word ts → IsLast word (word ∷ digits ∷ ts) n
+last_here : (word digits : List ℕ) (n : ℤ) (ts : List (List ℕ)) → signed_number digits ≡ Some n → HasNone word ts → IsLast word (word ∷ digits ∷ ts) n
 last_here word digits n ts r h = record { before = []; digits = digits; others = ts; whole = refl; reads = r; last = h }
 
 abbrev pub spin_tokens : ℤ → ℤ → ℤ → List (List ℕ)
@@ -69,9 +69,9 @@ pub record HasSpin (ts : List (List ℕ)) (d min max : ℤ) : Type 0 where
 
 pub has_spin : (d a b : ℤ) → nat_abs d < 10 ^ 18 → nat_abs a < 10 ^ 18 → nat_abs b < 10 ^ 18 → HasSpin (spin_tokens d a b) d a b
 has_spin d a b hd ha hb =
-    let rd : signed (signed_decimal d) ≡ Some d = signed_decimal_read d hd in
-    let ra : signed (signed_decimal a) ≡ Some a = signed_decimal_read a ha in
-    let rb : signed (signed_decimal b) ≡ Some b = signed_decimal_read b hb in
+    let rd : signed_number (signed_decimal d) ≡ Some d = signed_decimal_read d hd in
+    let ra : signed_number (signed_decimal a) ≡ Some a = signed_decimal_read a ha in
+    let rb : signed_number (signed_decimal b) ≡ Some b = signed_decimal_read b hb in
     record {
       default = last_here (codes "default") (signed_decimal d) d (codes "min" ∷ signed_decimal a ∷ codes "max" ∷ signed_decimal b ∷ []) rd
           (none_pair (codes "default") (codes "min") (signed_decimal a) a (codes "max" ∷ signed_decimal b ∷ []) refl refl ra

@@ -4,17 +4,17 @@ use Rattle.std.specs.List.{list_all}
 use Rattle.std.proofs.lemmas.List.Folds.{list_all-append}
 use Rattle.std.proofs.lemmas.Bool.{and_parts}
 use Rattle.peer_words.specs.Tokens.{is_white, is_blank, is_token, tokens, trim_right, trimmed}
-use Rattle.uci_lines.specs.Cuts.{Found, cut, is_word, is_choice}
+use Rattle.uci_lines.specs.Cuts.{Found, found_token, is_word, is_choice}
 use Rattle.uci_lines.specs.Choices.{before_choice}
 use Rattle.uci_lines.specs.Spells.{begins_white, ends_white, IsNoneOf, IsFirst, Behind, UpToChoice, HasValues}
-use Rattle.uci_engine_side.specs.Said.{spaced, each_value}
+use Rattle.uci_engine_side.specs.Said.{spaced_text, each_value}
 use Rattle.uci_lines.proofs.CutTokens.{cut_tokens}
 use Rattle.uci_lines.proofs.FirstTokens.{first_cut, none_cut, cut_first, cut_none}
 use Rattle.uci_lines.proofs.Listings.{behind_cut, cut_behind, after_cut, up_to}
 use Rattle.peer_words.proofs.Lengths.{trimmed_length}
 use Rattle.peer_words.proofs.Runs.{black}
 
-pub spaced_length : (xs : List ℕ) → length (spaced xs) ≤ 1 + length xs
+pub spaced_length : (xs : List ℕ) → length (spaced_text xs) ≤ 1 + length xs
 spaced_length [] = omega arith
 spaced_length (b ∷ bs) = omega arith
 
@@ -24,7 +24,7 @@ white_trimmed : (w : ℕ) (xs : List ℕ) → is_white w ≡ true → trimmed (w
 white_trimmed w xs e = rw e refl
 
 -- white space in front is no part of a text that is trimmed
-pub spaced_front : (xs : List ℕ) → begins_white xs ≡ true → length (spaced (trimmed xs)) ≤ length xs
+pub spaced_front : (xs : List ℕ) → begins_white xs ≡ true → length (spaced_text (trimmed xs)) ≤ length xs
 spaced_front [] h = omega arith
 spaced_front (w ∷ xs) h = rw (white_trimmed w xs h) (omega (arith, spaced_length (trimmed xs), trimmed_length xs))
 
@@ -46,12 +46,12 @@ trimmed_end : (w : Bool) (x : ℕ) (xs : List ℕ) → is_white x ≡ w → ends
 trimmed_end true x xs e h = rw (white_trimmed x xs e) (omega (arith, trimmed_length xs))
 trimmed_end false x xs e h = rw e (right_end (x ∷ xs) h)
 
-inner_by : (w : ℕ) (xs : List ℕ) → is_white w ≡ true → ends_white true xs ≡ true → length (spaced (trimmed (w ∷ xs))) < suc (length xs)
+inner_by : (w : ℕ) (xs : List ℕ) → is_white w ≡ true → ends_white true xs ≡ true → length (spaced_text (trimmed (w ∷ xs))) < suc (length xs)
 inner_by w [] e h = rw (white_trimmed w [] e) (omega arith)
 inner_by w (x ∷ xs) e h = rw (white_trimmed w (x ∷ xs) e) (omega (arith, spaced_length (trimmed (x ∷ xs)), trimmed_end (is_white x) x xs refl h))
 
 -- a text with white space at both ends
-inner : (xs : List ℕ) → 0 < length xs → begins_white xs ≡ true → ends_white true xs ≡ true → length (spaced (trimmed xs)) < length xs
+inner : (xs : List ℕ) → 0 < length xs → begins_white xs ≡ true → ends_white true xs ≡ true → length (spaced_text (trimmed xs)) < length xs
 inner [] l b h = absurd (omega (arith, l))
 inner (w ∷ xs) l b h = inner_by w xs b (subst (λ (f : Bool). ends_white f xs ≡ true) b h)
 
@@ -136,7 +136,7 @@ later_first text part q f w g =
     }
 
 default_cut : List ℕ → Option Found
-default_cut text = cut (is_word (codes "default")) true text
+default_cut text = found_token (is_word (codes "default")) true text
 
 behind_var_by : (text : List ℕ) (part : Found) (o : Option Found) → IsFirst is_choice text part → part.word ≡ codes "var" → default_cut part.after ≡ o → after_cut (default_cut text) ≡ after_cut o
 unfolding default_cut later_part
@@ -178,28 +178,28 @@ up_none text value n u = up_to text value u ∙ ap (λ o. trimmed (before_choice
 up_part : (text value : List ℕ) (part : Found) → IsFirst is_choice text part → UpToChoice text value → value ≡ trimmed part.before
 up_part text value part f u = up_to text value u ∙ ap (λ o. trimmed (before_choice o text)) (first_cut is_choice text part refl f)
 
-up_empty : (value : List ℕ) → UpToChoice [] value → length (spaced value) ≡ 0
-up_empty value u = ap (λ v. length (spaced v)) (up_none [] value refl u)
+up_empty : (value : List ℕ) → UpToChoice [] value → length (spaced_text value) ≡ 0
+up_empty value u = ap (λ v. length (spaced_text v)) (up_none [] value refl u)
 
-up_inner : (text value : List ℕ) (part : Found) → IsFirst is_choice text part → begins_white text ≡ true → UpToChoice text value → length (spaced value) < length part.before
+up_inner : (text value : List ℕ) (part : Found) → IsFirst is_choice text part → begins_white text ≡ true → UpToChoice text value → length (spaced_text value) < length part.before
 up_inner text value part f b u =
     let o = opens is_choice text part f b in
-    subst (λ (v : List ℕ). length (spaced v) < length part.before) (sym (up_part text value part f u)) (inner part.before o.some o.white f.stands_apart)
+    subst (λ (v : List ℕ). length (spaced_text v) < length part.before) (sym (up_part text value part f u)) (inner part.before o.some o.white f.stands_apart)
 
-up_whole : (text value : List ℕ) → IsNoneOf is_choice (tokens text) → begins_white text ≡ true → UpToChoice text value → length (spaced value) ≤ length text
-up_whole text value n b u = subst (λ (v : List ℕ). length (spaced v) ≤ length text) (sym (up_none text value n u)) (spaced_front text b)
+up_whole : (text value : List ℕ) → IsNoneOf is_choice (tokens text) → begins_white text ≡ true → UpToChoice text value → length (spaced_text value) ≤ length text
+up_whole text value n b u = subst (λ (v : List ℕ). length (spaced_text v) ≤ length text) (sym (up_none text value n u)) (spaced_front text b)
 
-each_length : (value : List ℕ) (vs : List (List ℕ)) → length (each_value (value ∷ vs)) ≡ 4 + length (spaced value) + length (each_value vs)
+each_length : (value : List ℕ) (vs : List (List ℕ)) → length (each_value (value ∷ vs)) ≡ 4 + length (spaced_text value) + length (each_value vs)
 each_length value vs = simp length-append (omega arith)
 
 -- A text with its values: alone, after a value that ends at the first of them, with the default too, and
 -- with the default alone.
 pub record Sums (text : List ℕ) (vs : List (List ℕ)) : Type 0 where
   pub alone : length (each_value vs) ≤ length text + 1
-  pub behind : (value : List ℕ) → begins_white text ≡ true → UpToChoice text value → length (spaced value) + length (each_value vs) ≤ length text
+  pub behind : (value : List ℕ) → begins_white text ≡ true → UpToChoice text value → length (spaced_text value) + length (each_value vs) ≤ length text
   pub both : (value default others : List ℕ) → begins_white text ≡ true → UpToChoice text value → Behind (codes "default") text others → UpToChoice others default
-      → length (spaced value) + length (spaced default) + length (each_value vs) ≤ length text
-  pub whole : (default others : List ℕ) → Behind (codes "default") text others → UpToChoice others default → length (spaced default) + length (each_value vs) ≤ length text + 1
+      → length (spaced_text value) + length (spaced_text default) + length (each_value vs) ≤ length text
+  pub whole : (default others : List ℕ) → Behind (codes "default") text others → UpToChoice others default → length (spaced_text default) + length (each_value vs) ≤ length text + 1
 
 ended_sums : (text : List ℕ) → IsNoneOf is_choice (tokens text) → Sums text []
 ended_sums text n = record {
@@ -209,7 +209,7 @@ ended_sums text n = record {
   whole = λ default others d v. omega (arith, no_default default others d v);
 }
   where
-    no_default : (default others : List ℕ) → Behind (codes "default") text others → UpToChoice others default → length (spaced default) ≡ 0
+    no_default : (default others : List ℕ) → Behind (codes "default") text others → UpToChoice others default → length (spaced_text default) ≡ 0
     no_default default others d v = up_empty default (subst (λ (t : List ℕ). UpToChoice t default) (behind_none text others n d) v)
 
 var_sums : (text value : List ℕ) (vs : List (List ℕ)) (part : Found) → IsFirst is_choice text part → part.word ≡ codes "var" → UpToChoice part.after value → Sums part.after vs → Sums text (value ∷ vs)
@@ -236,7 +236,7 @@ default_sums text vs part f w s =
       whole = λ default others d k. omega (arith, l, seven, chosen default others d k);
     }
   where
-    chosen : (default others : List ℕ) → Behind (codes "default") text others → UpToChoice others default → length (spaced default) + length (each_value vs) ≤ length part.after
+    chosen : (default others : List ℕ) → Behind (codes "default") text others → UpToChoice others default → length (spaced_text default) + length (each_value vs) ≤ length part.after
     chosen default others d k = s.behind default f.ends_there (subst (λ (t : List ℕ). UpToChoice t default) (behind_default text others part f w d) k)
 
 pub sums : (text : List ℕ) (vs : List (List ℕ)) → HasValues text vs → Sums text vs

@@ -11,9 +11,9 @@ use Rattle.uci_lines.specs.Messages.{OptionKind, Check, Spin, Combo, Button, Tex
 use Rattle.peer_words.specs.Bytes.{blank}
 
 -- a text after a blank, if there is one
-abbrev pub spaced : List ℕ → List ℕ
-spaced [] = []
-spaced (b ∷ bs) = blank ∷ b ∷ bs
+abbrev pub spaced_text : List ℕ → List ℕ
+spaced_text [] = []
+spaced_text (b ∷ bs) = blank ∷ b ∷ bs
 
 abbrev pub score_text : Option Score → List ℕ
 score_text None = []
@@ -49,7 +49,7 @@ facts_text f = codes "info" ++ counts_text f ++ score_text f.score ++ bound_text
 -- each value after `var`
 abbrev pub each_value : List (List ℕ) → List ℕ
 each_value [] = []
-each_value (value ∷ values) = codes " var" ++ spaced value ++ each_value values
+each_value (value ∷ values) = codes " var" ++ spaced_text value ++ each_value values
 
 abbrev pub switch_text : Bool → List ℕ
 switch_text true = codes "true"
@@ -69,7 +69,7 @@ abbrev pub spin_text : ℤ → ℤ → ℤ → List ℕ
 spin_text default min max = (codes " type spin default " ++ signed_decimal default) ++ range_text min max
 
 abbrev pub combo_text : List ℕ → List (List ℕ) → List ℕ
-combo_text default values = codes " type combo default" ++ spaced default ++ each_value values
+combo_text default values = codes " type combo default" ++ spaced_text default ++ each_value values
 
 abbrev pub string_text : List ℕ → List ℕ
 string_text default = codes " type string default " ++ empty_or default
@@ -82,14 +82,14 @@ shape_text Button = codes " type button"
 shape_text (Text default) = string_text default
 
 abbrev pub option_text : List ℕ → OptionKind → List ℕ
-option_text name shape = codes "option name" ++ spaced name ++ shape_text shape
+option_text name shape = codes "option name" ++ spaced_text name ++ shape_text shape
 
 abbrev pub best_text : Option Move → List ℕ
 best_text None = codes "0000"
 best_text (Some m) = text_of m
 
 unfoldable pub said_text : EngineMsg → List ℕ
-said_text (Name text) = codes "id name" ++ spaced text
+said_text (Name text) = codes "id name" ++ spaced_text text
 said_text UciOk = codes "uciok"
 said_text ReadyOk = codes "readyok"
 said_text (Best best hint) = codes "bestmove " ++ best_text best ++ move_text (codes " ponder ") hint

@@ -7,7 +7,7 @@ ghost use Rattle.chess_board.specs.Text.{text_of, IsOfficer};
 ghost use Rattle.uci_lines.specs.Moves.{run};
 ghost use Rattle.uci_lines.specs.Orders.{optional_number};
 ghost use Rattle.uci_lines.specs.Choices.{values};
-ghost use Rattle.uci_engine_side.specs.Said.{spaced, score_text, bound_text, move_text, each_move, pv_text, counts_text, facts_text, each_value, switch_text, empty_or, check_text, range_text, spin_text, combo_text, string_text, shape_text, option_text, best_text, said_text};
+ghost use Rattle.uci_engine_side.specs.Said.{spaced_text, score_text, bound_text, move_text, each_move, pv_text, counts_text, facts_text, each_value, switch_text, empty_or, check_text, range_text, spin_text, combo_text, string_text, shape_text, option_text, best_text, said_text};
 ghost use Rattle.uci_lines.specs.Writable.{can_write, CanWrite};
 ghost use Rattle.uci_lines.specs.Info.{info_of};
 ghost use Rattle.uci_lines.specs.Messages.{option_kind_of, engine_message_of};
@@ -18,8 +18,8 @@ use line_io::Out;
 use uci_lines::{EngineMsg, Info, OptionKind, OptionMsg, Score, next_move, next_value};
 
 fn put_spaced(text: &[u8], out: &mut Out)
-    requires { length out.old.text + length (spaced text.now) ≤ out.old.room }
-    ensures { out.new ≡ with out.old (spaced text.now) }
+    requires { length out.old.text + length (spaced_text text.now) ≤ out.old.room }
+    ensures { out.new ≡ with out.old (spaced_text text.now) }
 {
     if !text.is_empty() {
         out.put(b" ");
@@ -133,8 +133,8 @@ fn put_info(info: &Info, out: &mut Out)
 }
 
 fn put_value(value: &[u8], out: &mut Out)
-    requires { length out.old.text + length (codes " var" ++ spaced value.now) ≤ out.old.room }
-    ensures { out.new ≡ with out.old (codes " var" ++ spaced value.now) }
+    requires { length out.old.text + length (codes " var" ++ spaced_text value.now) ≤ out.old.room }
+    ensures { out.new ≡ with out.old (codes " var" ++ spaced_text value.now) }
 {
     out.put(b" var");
     put_spaced(value, out);
@@ -225,9 +225,9 @@ fn put_kind(kind: &OptionKind, out: &mut Out)
 }
 
 fn put_name(name: &[u8], out: &mut Out)
-    requires { length out.old.text + length (codes "option name" ++ spaced name.now)
+    requires { length out.old.text + length (codes "option name" ++ spaced_text name.now)
         ≤ out.old.room }
-    ensures { out.new ≡ with out.old (codes "option name" ++ spaced name.now) }
+    ensures { out.new ≡ with out.old (codes "option name" ++ spaced_text name.now) }
 {
     out.put(b"option name");
     put_spaced(name, out);

@@ -7,7 +7,7 @@ use Rattle.peer_words.specs.Numbers.{count}
 use Rattle.peer_words.proofs.Written.{count_decimal, decimal_token}
 use Rattle.peer_words.proofs.Runs.{black}
 use Rattle.uci_lines.specs.Orders.{optional_number}
-use Rattle.uci_lines.specs.Behind.{after, exact_by, exact_count, counted, number_in, number_behind, number_or, perhaps_number}
+use Rattle.uci_lines.specs.Behind.{after, exact_by, exact_count, count_with_rest, number_in, number_behind, number_or, perhaps_number}
 use Rattle.uci_lines.proofs.Fronts.{BeginsWhite, front, behind, joined, front_is, behind_is}
 use Rattle.uci_lines.proofs.Stripped.{after_word, word_after}
 
@@ -23,7 +23,7 @@ exact_is (Some k) word n h =
     let both = cond_some (bytes_eq (decimal k) word) k n h in
     ap decimal (sym both.1) ∙ same_text (decimal k) word both.0
 
-counted_is : (o : Option ℕ) (others : List ℕ) (found : ℕ × List ℕ) → counted o others ≡ Some found → (o ≡ Some found.0) × (others ≡ found.1)
+counted_is : (o : Option ℕ) (others : List ℕ) (found : ℕ × List ℕ) → count_with_rest o others ≡ Some found → (o ≡ Some found.0) × (others ≡ found.1)
 counted_is None others found h = absurd (cc)
 counted_is (Some n) others found h = pair_of n others found h
   where
@@ -48,7 +48,7 @@ number_again word more n h w =
     let digits : exact_count (front (decimal n ++ more)) ≡ Some n =
     ap exact_count (front_is (decimal n) more bytes w) ∙ ap (λ o. exact_by o (decimal n)) (count_decimal n h) ∙ rw (text_same (decimal n) (decimal n) refl) refl in
     ap number_in (after_word word (decimal n ++ more))
-    ∙ ap (λ o. counted o (behind (decimal n ++ more))) digits
+    ∙ ap (λ o. count_with_rest o (behind (decimal n ++ more))) digits
     ∙ ap (λ t. Some (n, t)) (behind_is (decimal n) more bytes w)
 
 or_takes : (word text : List ℕ) (o : Option (ℕ × List ℕ)) → number_behind word text ≡ o → text ≡ optional_number word (number_or o text).0 ++ (number_or o text).1

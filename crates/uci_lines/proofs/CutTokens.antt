@@ -3,7 +3,7 @@ use Rattle.std.proofs.Common.{◌≡◌, ℕ, List, [], ◌∷◌, ◌++◌, Boo
 use Rattle.std.specs.Option.{option_map}
 use Rattle.peer_words.specs.Tokens.{is_white, trim_left, trimmed, tokens}
 use Rattle.peer_words.proofs.TokenLists.{tokens_some, tokens_white, tokens_trimmed}
-use Rattle.uci_lines.specs.Cuts.{Found, onto_part, cut}
+use Rattle.uci_lines.specs.Cuts.{Found, onto_part, found_token}
 use Rattle.uci_lines.proofs.Fronts.{front, behind, front-white, behind-white, front-byte, behind-byte}
 use Rattle.uci_lines.proofs.Cutting.{part_at, step, here, black_first, front_kept}
 
@@ -17,8 +17,8 @@ tokens_byte b bs e =
 
 -- at a fresh front, and after a byte of a token
 record Both (p : List ℕ → Bool) (text : List ℕ) : Type 0 where
-  pub fresh : (part : Found) → cut p true text ≡ Some part → tokens text ≡ tokens part.before ++ (part.word ∷ tokens part.after)
-  pub inside : (part : Found) → cut p false text ≡ Some part → tokens (behind text) ≡ tokens (behind part.before) ++ (part.word ∷ tokens part.after)
+  pub fresh : (part : Found) → found_token p true text ≡ Some part → tokens text ≡ tokens part.before ++ (part.word ∷ tokens part.after)
+  pub inside : (part : Found) → found_token p false text ≡ Some part → tokens (behind text) ≡ tokens (behind part.before) ++ (part.word ∷ tokens part.after)
 
 at_word : (p : List ℕ → Bool) (w : Bool) (b : ℕ) (bs : List ℕ) (part : Found) → p [] ≡ false → is_white b ≡ w → p (front (b ∷ bs)) ≡ true → part_at (b ∷ bs) ≡ part → tokens (b ∷ bs) ≡ tokens part.before ++ (part.word ∷ tokens part.after)
 at_word p true b bs part z e h k = absurd (cc (ap p (front-white b bs e)))
@@ -28,7 +28,7 @@ at_word p false b bs part z e h k =
     ∙ ap (λ t. front (b ∷ bs) ∷ tokens t) (sym (behind-byte b bs e))
     ∙ ap (λ (r : Found). tokens r.before ++ (r.word ∷ tokens r.after)) k
 
-fresh_further : (p : List ℕ → Bool) (w : Bool) (b : ℕ) (bs : List ℕ) (o : Option Found) (part : Found) → is_white b ≡ w → Both p bs → cut p w bs ≡ o → option_map (onto_part b) o ≡ Some part → tokens (b ∷ bs) ≡ tokens part.before ++ (part.word ∷ tokens part.after)
+fresh_further : (p : List ℕ → Bool) (w : Bool) (b : ℕ) (bs : List ℕ) (o : Option Found) (part : Found) → is_white b ≡ w → Both p bs → found_token p w bs ≡ o → option_map (onto_part b) o ≡ Some part → tokens (b ∷ bs) ≡ tokens part.before ++ (part.word ∷ tokens part.after)
 fresh_further p w b bs None part e i c h = absurd (cc)
 fresh_further p true b bs (Some q) part e i c h =
     let same : onto_part b q ≡ part = cc in
@@ -42,14 +42,14 @@ fresh_further p false b bs (Some q) part e i c h =
     ∙ ap (λ t. t ++ (q.word ∷ tokens q.after)) (sym (tokens_byte b q.before e))
     ∙ ap (λ (r : Found). tokens r.before ++ (r.word ∷ tokens r.after)) same
 
-fresh_step : (t : Bool) (p : List ℕ → Bool) (b : ℕ) (bs : List ℕ) (part : Found) → p [] ≡ false → p (front (b ∷ bs)) ≡ t → Both p bs → cut p true (b ∷ bs) ≡ Some part → tokens (b ∷ bs) ≡ tokens part.before ++ (part.word ∷ tokens part.after)
+fresh_step : (t : Bool) (p : List ℕ → Bool) (b : ℕ) (bs : List ℕ) (part : Found) → p [] ≡ false → p (front (b ∷ bs)) ≡ t → Both p bs → found_token p true (b ∷ bs) ≡ Some part → tokens (b ∷ bs) ≡ tokens part.before ++ (part.word ∷ tokens part.after)
 fresh_step true p b bs part z e i h =
     let some : Some (part_at (b ∷ bs)) ≡ Some part = sym (here p b bs e) ∙ h in
     let same : part_at (b ∷ bs) ≡ part = cc in
     at_word p (is_white b) b bs part z refl e same
-fresh_step false p b bs part z e i h = fresh_further p (is_white b) b bs (cut p (is_white b) bs) part refl i refl (sym (step p true b bs e) ∙ h)
+fresh_step false p b bs part z e i h = fresh_further p (is_white b) b bs (found_token p (is_white b) bs) part refl i refl (sym (step p true b bs e) ∙ h)
 
-inside_further : (p : List ℕ → Bool) (w : Bool) (b : ℕ) (bs : List ℕ) (o : Option Found) (part : Found) → is_white b ≡ w → Both p bs → cut p w bs ≡ o → option_map (onto_part b) o ≡ Some part → tokens (behind (b ∷ bs)) ≡ tokens (behind part.before) ++ (part.word ∷ tokens part.after)
+inside_further : (p : List ℕ → Bool) (w : Bool) (b : ℕ) (bs : List ℕ) (o : Option Found) (part : Found) → is_white b ≡ w → Both p bs → found_token p w bs ≡ o → option_map (onto_part b) o ≡ Some part → tokens (behind (b ∷ bs)) ≡ tokens (behind part.before) ++ (part.word ∷ tokens part.after)
 inside_further p w b bs None part e i c h = absurd (cc)
 inside_further p true b bs (Some q) part e i c h =
     let same : onto_part b q ≡ part = cc in
@@ -68,8 +68,8 @@ both p (b ∷ bs) z =
     let i = both p bs z in
     record {
       fresh = λ part h. fresh_step (p (front (b ∷ bs))) p b bs part z refl i h;
-      inside = λ part h. inside_further p (is_white b) b bs (cut p (is_white b) bs) part refl i refl h;
+      inside = λ part h. inside_further p (is_white b) b bs (found_token p (is_white b) bs) part refl i refl h;
     }
 
-pub cut_tokens : (p : List ℕ → Bool) (text : List ℕ) (part : Found) → p [] ≡ false → cut p true text ≡ Some part → tokens text ≡ tokens part.before ++ (part.word ∷ tokens part.after)
+pub cut_tokens : (p : List ℕ → Bool) (text : List ℕ) (part : Found) → p [] ≡ false → found_token p true text ≡ Some part → tokens text ≡ tokens part.before ++ (part.word ∷ tokens part.after)
 cut_tokens p text part z h = (both p text z).fresh part h

@@ -7,7 +7,7 @@ use Rattle.std.proofs.lemmas.Bool.{not-true, not_from_false, and_parts}
 use Rattle.peer_words.specs.Tokens.{is_white, is_token, tokens}
 use Rattle.peer_words.proofs.TokenLists.{tokens_white}
 use Rattle.peer_words.proofs.Runs.{black}
-use Rattle.uci_lines.specs.Cuts.{Found, onto_part, cut}
+use Rattle.uci_lines.specs.Cuts.{Found, onto_part, found_token}
 use Rattle.uci_lines.specs.Spells.{begins_white, ends_white, IsNoneOf, IsFirst}
 use Rattle.uci_lines.proofs.Fronts.{BeginsWhite, front, behind, front-white, behind-white, front-byte, behind-byte, front_is, behind_is}
 use Rattle.uci_lines.proofs.Cutting.{part_at, step, here, cut_is, front_kept}
@@ -55,7 +55,7 @@ moved_on : (p : List ℕ → Bool) (w fresh : Bool) (b : ℕ) (bs ys : List ℕ)
 moved_on p true fresh b bs ys z e k h = white_here p fresh b bs ys z e h
 moved_on p false fresh b bs ys z e k h = black_here p fresh b bs ys e (kept_front bs ys k) h
 
-cut_word : (p : List ℕ → Bool) (word ys : List ℕ) → is_token word ≡ true → p word ≡ true → BeginsWhite ys → cut p true (word ++ ys) ≡ Some (record { before = []; word = word; after = ys })
+cut_word : (p : List ℕ → Bool) (word ys : List ℕ) → is_token word ≡ true → p word ≡ true → BeginsWhite ys → found_token p true (word ++ ys) ≡ Some (record { before = []; word = word; after = ys })
 cut_word p [] ys h k w = absurd (cc)
 cut_word p (b ∷ bs) ys h k w =
     let word : front (b ∷ (bs ++ ys)) ≡ b ∷ bs = front_is (b ∷ bs) ys (black (b ∷ bs) h) w in
@@ -63,15 +63,15 @@ cut_word p (b ∷ bs) ys h k w =
     here p b (bs ++ ys) (ap p word ∙ k) ∙ ap (λ t. Some (record { before = []; word = t; after = behind (b ∷ (bs ++ ys)) })) word
     ∙ ap (λ t. Some (record { before = []; word = b ∷ bs; after = t })) after
 
-cut_from : (p : List ℕ → Bool) (fresh : Bool) (before word ys : List ℕ) → p [] ≡ false → ends_white fresh before ≡ true → IsNoneOf p (since fresh before) → is_token word ≡ true → p word ≡ true → BeginsWhite ys → cut p fresh (before ++ (word ++ ys)) ≡ Some (record { before = before; word = word; after = ys })
+cut_from : (p : List ℕ → Bool) (fresh : Bool) (before word ys : List ℕ) → p [] ≡ false → ends_white fresh before ≡ true → IsNoneOf p (since fresh before) → is_token word ≡ true → p word ≡ true → BeginsWhite ys → found_token p fresh (before ++ (word ++ ys)) ≡ Some (record { before = before; word = word; after = ys })
 cut_from p true [] word ys z e n h k w = cut_word p word ys h k w
 cut_from p false [] word ys z e n h k w = absurd (cc)
 cut_from p fresh (b ∷ bs) word ys z e n h k w =
     let on = moved_on p (is_white b) fresh b bs (word ++ ys) z refl e n in
     step p fresh b (bs ++ (word ++ ys)) on.0 ∙ ap (option_map (onto_part b)) (cut_from p (is_white b) bs word ys z e on.1 h k w)
 
-pub first_cut : (p : List ℕ → Bool) (text : List ℕ) (part : Found) → p [] ≡ false → IsFirst p text part → cut p true text ≡ Some part
-first_cut p text part z f = ap (cut p true) f.whole ∙ cut_from p true part.before part.word part.after z f.stands_apart f.none_before f.token f.passes (white_as part.after f.ends_there)
+pub first_cut : (p : List ℕ → Bool) (text : List ℕ) (part : Found) → p [] ≡ false → IsFirst p text part → found_token p true text ≡ Some part
+first_cut p text part z f = ap (found_token p true) f.whole ∙ cut_from p true part.before part.word part.after z f.stands_apart f.none_before f.token f.passes (white_as part.after f.ends_there)
 
 none_step : (p : List ℕ → Bool) (w fresh : Bool) (b : ℕ) (bs : List ℕ) → p [] ≡ false → is_white b ≡ w → IsNoneOf p (since fresh (b ∷ bs)) → ((fresh && p (front (b ∷ bs))) ≡ false) × IsNoneOf p (since w bs)
 none_step p true true b bs z e h = (ap p (front-white b bs e) ∙ z, ap (list_all (λ t. not (p t))) (sym (tokens_white b bs e)) ∙ h)
@@ -81,13 +81,13 @@ none_step p false true b bs z e h =
     (ap p (front-byte b bs e) ∙ not-true (p (b ∷ front bs)) both.0, both.1)
 none_step p false false b bs z e h = (refl, ap (λ t. list_all (λ s. not (p s)) (tokens t)) (sym (behind-byte b bs e)) ∙ h)
 
-none_from : (p : List ℕ → Bool) (fresh : Bool) (text : List ℕ) → p [] ≡ false → IsNoneOf p (since fresh text) → cut p fresh text ≡ None
+none_from : (p : List ℕ → Bool) (fresh : Bool) (text : List ℕ) → p [] ≡ false → IsNoneOf p (since fresh text) → found_token p fresh text ≡ None
 none_from p fresh [] z h = refl
 none_from p fresh (b ∷ bs) z h =
     let on = none_step p (is_white b) fresh b bs z refl h in
     step p fresh b bs on.0 ∙ ap (option_map (onto_part b)) (none_from p (is_white b) bs z on.1)
 
-pub none_cut : (p : List ℕ → Bool) (text : List ℕ) → p [] ≡ false → IsNoneOf p (tokens text) → cut p true text ≡ None
+pub none_cut : (p : List ℕ → Bool) (text : List ℕ) → p [] ≡ false → IsNoneOf p (tokens text) → found_token p true text ≡ None
 none_cut p text z h = none_from p true text z h
 
 -- FROM THE CUT TO THE RELATION
@@ -105,19 +105,19 @@ map_none : (b : ℕ) (o : Option Found) → option_map (onto_part b) o ≡ None 
 map_none b None h = refl
 map_none b (Some q) h = absurd (cc)
 
-cut_none_step : (t : Bool) (p : List ℕ → Bool) (fresh : Bool) (b : ℕ) (bs : List ℕ) → (fresh && p (front (b ∷ bs))) ≡ t → (cut p (is_white b) bs ≡ None → IsNoneOf p (since (is_white b) bs)) → cut p fresh (b ∷ bs) ≡ None → IsNoneOf p (since fresh (b ∷ bs))
+cut_none_step : (t : Bool) (p : List ℕ → Bool) (fresh : Bool) (b : ℕ) (bs : List ℕ) → (fresh && p (front (b ∷ bs))) ≡ t → (found_token p (is_white b) bs ≡ None → IsNoneOf p (since (is_white b) bs)) → found_token p fresh (b ∷ bs) ≡ None → IsNoneOf p (since fresh (b ∷ bs))
 cut_none_step true p fresh b bs e i h = absurd (some_none (sym (rw e refl) ∙ h))
   where
     some_none : Some (part_at (b ∷ bs)) ≡ None → ⊥
     some_none k = absurd (cc)
-cut_none_step false p fresh b bs e i h = none_onto p (is_white b) fresh b bs refl e (i (map_none b (cut p (is_white b) bs) (sym (step p fresh b bs e) ∙ h)))
+cut_none_step false p fresh b bs e i h = none_onto p (is_white b) fresh b bs refl e (i (map_none b (found_token p (is_white b) bs) (sym (step p fresh b bs e) ∙ h)))
 
-none_since : (p : List ℕ → Bool) (fresh : Bool) (text : List ℕ) → cut p fresh text ≡ None → IsNoneOf p (since fresh text)
+none_since : (p : List ℕ → Bool) (fresh : Bool) (text : List ℕ) → found_token p fresh text ≡ None → IsNoneOf p (since fresh text)
 none_since p true [] h = refl
 none_since p false [] h = refl
 none_since p fresh (b ∷ bs) h = cut_none_step (fresh && p (front (b ∷ bs))) p fresh b bs refl (none_since p (is_white b) bs) h
 
-pub cut_none : (p : List ℕ → Bool) (text : List ℕ) → cut p true text ≡ None → IsNoneOf p (tokens text)
+pub cut_none : (p : List ℕ → Bool) (text : List ℕ) → found_token p true text ≡ None → IsNoneOf p (tokens text)
 cut_none p text h = none_since p true text h
 
 -- what is before a cut
@@ -130,11 +130,11 @@ nothing_before p true q h = record { ends = refl; none = refl }
 nothing_before p false q h = absurd (cc)
 
 -- the front of what is before a cut is that of the text
-same_front : (w : Bool) (p : List ℕ → Bool) (b : ℕ) (bs : List ℕ) (q : Found) → is_white b ≡ w → cut p w bs ≡ Some q → front (b ∷ q.before) ≡ front (b ∷ bs)
+same_front : (w : Bool) (p : List ℕ → Bool) (b : ℕ) (bs : List ℕ) (q : Found) → is_white b ≡ w → found_token p w bs ≡ Some q → front (b ∷ q.before) ≡ front (b ∷ bs)
 same_front true p b bs q e h = front-white b q.before e ∙ sym (front-white b bs e)
 same_front false p b bs q e h = front-byte b q.before e ∙ ap (λ t. b ∷ t) (front_kept p bs q h) ∙ sym (front-byte b bs e)
 
-before_onto : (p : List ℕ → Bool) (fresh : Bool) (b : ℕ) (bs : List ℕ) (o : Option Found) (part : Found) → (fresh && p (front (b ∷ bs))) ≡ false → cut p (is_white b) bs ≡ o → ((q : Found) → o ≡ Some q → Before p (is_white b) q.before) → option_map (onto_part b) o ≡ Some part → Before p fresh part.before
+before_onto : (p : List ℕ → Bool) (fresh : Bool) (b : ℕ) (bs : List ℕ) (o : Option Found) (part : Found) → (fresh && p (front (b ∷ bs))) ≡ false → found_token p (is_white b) bs ≡ o → ((q : Found) → o ≡ Some q → Before p (is_white b) q.before) → option_map (onto_part b) o ≡ Some part → Before p fresh part.before
 before_onto p fresh b bs None part e c i h = absurd (cc)
 before_onto p fresh b bs (Some q) part e c i h =
     let same : onto_part b q ≡ part = cc in
@@ -144,14 +144,14 @@ before_onto p fresh b bs (Some q) part e c i h =
       none = none_onto p (is_white b) fresh b q.before refl (ap (λ t. fresh && p t) (same_front (is_white b) p b bs q refl c) ∙ e) k.none;
     })
 
-before_step : (t : Bool) (p : List ℕ → Bool) (fresh : Bool) (b : ℕ) (bs : List ℕ) (part : Found) → (fresh && p (front (b ∷ bs))) ≡ t → ((q : Found) → cut p (is_white b) bs ≡ Some q → Before p (is_white b) q.before) → cut p fresh (b ∷ bs) ≡ Some part → Before p fresh part.before
+before_step : (t : Bool) (p : List ℕ → Bool) (fresh : Bool) (b : ℕ) (bs : List ℕ) (part : Found) → (fresh && p (front (b ∷ bs))) ≡ t → ((q : Found) → found_token p (is_white b) bs ≡ Some q → Before p (is_white b) q.before) → found_token p fresh (b ∷ bs) ≡ Some part → Before p fresh part.before
 before_step true p fresh b bs part e i h =
     let some : Some (part_at (b ∷ bs)) ≡ Some part = sym (rw e refl) ∙ h in
     let same : part_at (b ∷ bs) ≡ part = cc in
     subst (λ (r : Found). Before p fresh r.before) same (nothing_before p fresh (p (front (b ∷ bs))) e)
-before_step false p fresh b bs part e i h = before_onto p fresh b bs (cut p (is_white b) bs) part e refl i (sym (step p fresh b bs e) ∙ h)
+before_step false p fresh b bs part e i h = before_onto p fresh b bs (found_token p (is_white b) bs) part e refl i (sym (step p fresh b bs e) ∙ h)
 
-before_is : (p : List ℕ → Bool) (fresh : Bool) (text : List ℕ) (part : Found) → cut p fresh text ≡ Some part → Before p fresh part.before
+before_is : (p : List ℕ → Bool) (fresh : Bool) (text : List ℕ) (part : Found) → found_token p fresh text ≡ Some part → Before p fresh part.before
 before_is p fresh [] part h = absurd (cc)
 before_is p fresh (b ∷ bs) part h = before_step (fresh && p (front (b ∷ bs))) p fresh b bs part refl (before_is p (is_white b) bs) h
 
@@ -162,7 +162,7 @@ token_if p (b ∷ bs) e f g = rw (above (length bs), g) refl
     above : (n : ℕ) → ltb 0 (suc n) ≡ true
     above n = grind (arith, nat_tests)
 
-pub cut_first : (p : List ℕ → Bool) (text : List ℕ) (part : Found) → p [] ≡ false → cut p true text ≡ Some part → IsFirst p text part
+pub cut_first : (p : List ℕ → Bool) (text : List ℕ) (part : Found) → p [] ≡ false → found_token p true text ≡ Some part → IsFirst p text part
 cut_first p text part z h =
     let c = cut_is p true text part h in
     let k = before_is p true text part h in

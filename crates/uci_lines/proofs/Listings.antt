@@ -3,7 +3,7 @@ use Rattle.std.proofs.Common.{◌≡◌, ℕ, zero, suc, ◌<◌, arith, length-
 use Rattle.std.proofs.Math.Seq.{drop-append_seam}
 use Rattle.chess_board.specs.declared.board.Move.{Move}
 use Rattle.peer_words.specs.Tokens.{is_token, trimmed}
-use Rattle.uci_lines.specs.Cuts.{Found, cut, is_word, is_choice}
+use Rattle.uci_lines.specs.Cuts.{Found, found_token, is_word, is_choice}
 use Rattle.uci_lines.specs.Choices.{values, before_choice, from_choice}
 use Rattle.chess_board.specs.Spelling.{move_of}
 use Rattle.uci_lines.specs.Spells.{IsFirst, Behind, PerhapsMove, UpToChoice, HasValues}
@@ -18,16 +18,16 @@ abbrev pub after_cut : Option Found → List ℕ
 after_cut None = []
 after_cut (Some part) = part.after
 
-pub behind_cut : (word text others : List ℕ) → is_word word [] ≡ false → Behind word text others → others ≡ after_cut (cut (is_word word) true text)
+pub behind_cut : (word text others : List ℕ) → is_word word [] ≡ false → Behind word text others → others ≡ after_cut (found_token (is_word word) true text)
 behind_cut word text others z (inl h) = h.1 ∙ ap after_cut (sym (none_cut (is_word word) text z h.0))
 behind_cut word text others z (inr h) = h.2 ∙ ap after_cut (sym (first_cut (is_word word) text h.0 z h.1))
 
-behind_by : (word text : List ℕ) (o : Option Found) → is_word word [] ≡ false → cut (is_word word) true text ≡ o → Behind word text (after_cut o)
+behind_by : (word text : List ℕ) (o : Option Found) → is_word word [] ≡ false → found_token (is_word word) true text ≡ o → Behind word text (after_cut o)
 behind_by word text None z e = inl (cut_none (is_word word) text e, refl)
 behind_by word text (Some part) z e = inr (part, cut_first (is_word word) text part z e, refl)
 
-pub cut_behind : (word text : List ℕ) → is_word word [] ≡ false → Behind word text (after_cut (cut (is_word word) true text))
-cut_behind word text z = behind_by word text (cut (is_word word) true text) z refl
+pub cut_behind : (word text : List ℕ) → is_word word [] ≡ false → Behind word text (after_cut (found_token (is_word word) true text))
+cut_behind word text z = behind_by word text (found_token (is_word word) true text) z refl
 
 -- moves
 pub perhaps_is : (text : List ℕ) (o : Option Move) → PerhapsMove text o → o ≡ move_of text
@@ -45,19 +45,19 @@ pub is_perhaps : (text : List ℕ) → PerhapsMove text (move_of text)
 is_perhaps text = perhaps_by text (move_of text) refl
 
 -- up to a choice
-pub up_to : (text value : List ℕ) → UpToChoice text value → value ≡ trimmed (before_choice (cut is_choice true text) text)
+pub up_to : (text value : List ℕ) → UpToChoice text value → value ≡ trimmed (before_choice (found_token is_choice true text) text)
 up_to text value (inl h) = h.1 ∙ ap (λ o. trimmed (before_choice o text)) (sym (none_cut is_choice text refl h.0))
 up_to text value (inr h) = h.2 ∙ ap (λ o. trimmed (before_choice o text)) (sym (first_cut is_choice text h.0 refl h.1))
 
-up_by : (text : List ℕ) (o : Option Found) → cut is_choice true text ≡ o → UpToChoice text (trimmed (before_choice o text))
+up_by : (text : List ℕ) (o : Option Found) → found_token is_choice true text ≡ o → UpToChoice text (trimmed (before_choice o text))
 up_by text None e = inl (cut_none is_choice text e, refl)
 up_by text (Some part) e = inr (part, cut_first is_choice text part refl e, refl)
 
-pub is_up : (text : List ℕ) → UpToChoice text (trimmed (before_choice (cut is_choice true text) text))
-is_up text = up_by text (cut is_choice true text) refl
+pub is_up : (text : List ℕ) → UpToChoice text (trimmed (before_choice (found_token is_choice true text) text))
+is_up text = up_by text (found_token is_choice true text) refl
 
 -- The values of a text are those from its first choice on.
-from_by : (text : List ℕ) (o : Option Found) → cut is_choice true text ≡ o → values (from_choice o text) ≡ values text
+from_by : (text : List ℕ) (o : Option Found) → found_token is_choice true text ≡ o → values (from_choice o text) ≡ values text
 from_by text None e = values_none [] refl ∙ sym (values_none text e)
 from_by text (Some q) e =
     let f = cut_first is_choice text q refl e in
@@ -68,31 +68,31 @@ from_by text (Some q) e =
     ∙ values_some (q.word ++ q.after) part word
     ∙ sym (values_some text q e)
 
-from_all : (text : List ℕ) → values (from_choice (cut is_choice true text) text) ≡ values text
-from_all text = from_by text (cut is_choice true text) refl
+from_all : (text : List ℕ) → values (from_choice (found_token is_choice true text) text) ≡ values text
+from_all text = from_by text (found_token is_choice true text) refl
 
 -- the values with the first one, or without it
 one_more : Bool → List ℕ → List (List ℕ) → List (List ℕ)
 one_more b value others = cond b (value ∷ others) others
 
-values_by : (text : List ℕ) (part : Found) → cut is_choice true text ≡ Some part → values text ≡ one_more (is_word (codes "var") part.word) (trimmed (before_choice (cut is_choice true part.after) part.after)) (values part.after)
+values_by : (text : List ℕ) (part : Found) → found_token is_choice true text ≡ Some part → values text ≡ one_more (is_word (codes "var") part.word) (trimmed (before_choice (found_token is_choice true part.after) part.after)) (values part.after)
 unfolding one_more
-values_by text part e = values_some text part e ∙ ap (one_more (is_word (codes "var") part.word) (trimmed (before_choice (cut is_choice true part.after) part.after))) (from_all part.after)
+values_by text part e = values_some text part e ∙ ap (one_more (is_word (codes "var") part.word) (trimmed (before_choice (found_token is_choice true part.after) part.after))) (from_all part.after)
 
 pub values_are : (text : List ℕ) (vs : List (List ℕ)) → HasValues text vs → values text ≡ vs
 unfolding one_more
 values_are text _ (HasValues.Ended h) = values_none text (none_cut is_choice text refl h)
 values_are text _ (HasValues.Var {value = value} {values = vs} part f w u h) =
     values_by text part (first_cut is_choice text part refl f)
-    ∙ ap (λ b. one_more b (trimmed (before_choice (cut is_choice true part.after) part.after)) (values part.after)) (text_same part.word (codes "var") w)
+    ∙ ap (λ b. one_more b (trimmed (before_choice (found_token is_choice true part.after) part.after)) (values part.after)) (text_same part.word (codes "var") w)
     ∙ ap (λ v. v ∷ values part.after) (sym (up_to part.after value u))
     ∙ ap (λ t. value ∷ t) (values_are part.after vs h)
 values_are text _ (HasValues.Default {values = vs} part f w h) =
     values_by text part (first_cut is_choice text part refl f)
-    ∙ ap (λ t. one_more (is_word (codes "var") t) (trimmed (before_choice (cut is_choice true part.after) part.after)) (values part.after)) w
+    ∙ ap (λ t. one_more (is_word (codes "var") t) (trimmed (before_choice (found_token is_choice true part.after) part.after)) (values part.after)) w
     ∙ values_are part.after vs h
 
-values_by_word : (b : Bool) (text : List ℕ) (part : Found) (vs : List (List ℕ)) → IsFirst is_choice text part → is_word (codes "var") part.word ≡ b → HasValues part.after vs → HasValues text (one_more b (trimmed (before_choice (cut is_choice true part.after) part.after)) vs)
+values_by_word : (b : Bool) (text : List ℕ) (part : Found) (vs : List (List ℕ)) → IsFirst is_choice text part → is_word (codes "var") part.word ≡ b → HasValues part.after vs → HasValues text (one_more b (trimmed (before_choice (found_token is_choice true part.after) part.after)) vs)
 unfolding one_more
 values_by_word true text part vs f e h = HasValues.Var part f (same_text part.word (codes "var") e) (is_up part.after) h
 values_by_word false text part vs f e h = HasValues.Default part f (same_text part.word (codes "default") (either (is_word (codes "default") part.word) (is_word (codes "var") part.word) f.passes e)) h
@@ -113,7 +113,7 @@ shorter text part f =
     some_bytes [] h = absurd (cc)
     some_bytes (b ∷ bs) h = omega arith
 
-has_by : (text : List ℕ) (o : Option Found) → cut is_choice true text ≡ o → ((us : List ℕ) → length us < length text → HasValues us (values us)) → HasValues text (values text)
+has_by : (text : List ℕ) (o : Option Found) → found_token is_choice true text ≡ o → ((us : List ℕ) → length us < length text → HasValues us (values us)) → HasValues text (values text)
 has_by text None e i = subst (λ (vs : List (List ℕ)). HasValues text vs) (sym (values_none text e)) (HasValues.Ended (cut_none is_choice text e))
 has_by text (Some part) e i =
     let f = cut_first is_choice text part refl e in
@@ -122,7 +122,7 @@ has_by text (Some part) e i =
 
 has_within : (n : ℕ) (text : List ℕ) → length text < n → HasValues text (values text)
 has_within zero text l = absurd (omega (arith, l))
-has_within (suc n) text l = has_by text (cut is_choice true text) refl (λ us k. has_within n us (omega (arith, l, k)))
+has_within (suc n) text l = has_by text (found_token is_choice true text) refl (λ us k. has_within n us (omega (arith, l, k)))
 
 pub has_values : (text : List ℕ) → HasValues text (values text)
 has_values text = has_within (suc (length text)) text (omega arith)

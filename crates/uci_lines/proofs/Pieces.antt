@@ -6,7 +6,7 @@ use Rattle.std.specs.List.{onto_first, list_all}
 use Rattle.std.specs.Option.{option_map}
 use Rattle.std.proofs.lemmas.Bool.{and_parts, or_parts}
 use Rattle.peer_words.specs.Tokens.{is_white, is_token, trimmed, first_token, rest}
-use Rattle.uci_lines.specs.Cuts.{Found, onto_part, cut, is_word, is_choice}
+use Rattle.uci_lines.specs.Cuts.{Found, onto_part, found_token, is_word, is_choice}
 use Rattle.uci_lines.specs.Choices.{pieces, values_among, values, before_choice, from_choice}
 use Rattle.uci_lines.proofs.Fronts.{BeginsWhite, front, behind, front-white, behind-white, front-byte, behind-byte, first_is, rest_is}
 use Rattle.uci_lines.proofs.Cutting.{Cuts, cut_is, part_at, step, first_before, first_none, cut_token}
@@ -55,13 +55,13 @@ no_more : (b : ℕ) (o : Option Found) → option_map (onto_part b) o ≡ None �
 no_more b None k = refl
 no_more b (Some part) k = absurd (cc)
 
-none_step : (t : Bool) (fresh : Bool) (b : ℕ) (bs : List ℕ) → (fresh && is_choice (front (b ∷ bs))) ≡ t → cut is_choice fresh (b ∷ bs) ≡ None → (cut is_choice (is_white b) bs ≡ None → pieces (is_white b) bs ≡ bs ∷ []) → pieces fresh (b ∷ bs) ≡ (b ∷ bs) ∷ []
+none_step : (t : Bool) (fresh : Bool) (b : ℕ) (bs : List ℕ) → (fresh && is_choice (front (b ∷ bs))) ≡ t → found_token is_choice fresh (b ∷ bs) ≡ None → (found_token is_choice (is_white b) bs ≡ None → pieces (is_white b) bs ≡ bs ∷ []) → pieces fresh (b ∷ bs) ≡ (b ∷ bs) ∷ []
 none_step true fresh b bs e h k = let no : Some (part_at (b ∷ bs)) ≡ None = sym (rw e refl) ∙ h in absurd (cc)
 none_step false fresh b bs e h k =
-    let later : option_map (onto_part b) (cut is_choice (is_white b) bs) ≡ None = sym (step is_choice fresh b bs e) ∙ h in
-    pass fresh b bs e ∙ ap (onto_first b) (k (no_more b (cut is_choice (is_white b) bs) later))
+    let later : option_map (onto_part b) (found_token is_choice (is_white b) bs) ≡ None = sym (step is_choice fresh b bs e) ∙ h in
+    pass fresh b bs e ∙ ap (onto_first b) (k (no_more b (found_token is_choice (is_white b) bs) later))
 
-pub pieces_none : (fresh : Bool) (text : List ℕ) → cut is_choice fresh text ≡ None → pieces fresh text ≡ text ∷ []
+pub pieces_none : (fresh : Bool) (text : List ℕ) → found_token is_choice fresh text ≡ None → pieces fresh text ≡ text ∷ []
 pieces_none fresh [] h = refl
 pieces_none fresh (b ∷ bs) h = none_step (fresh && is_choice (front (b ∷ bs))) fresh b bs refl h (pieces_none (is_white b) bs)
 
@@ -90,15 +90,15 @@ further_pieces b bs fresh (Some q) part h k =
     let same : onto_part b q ≡ part = cc in
     ap (onto_first b) (k q refl) ∙ ap given same
 
-some_step : (t : Bool) (fresh : Bool) (b : ℕ) (bs : List ℕ) (part : Found) → (fresh && is_choice (front (b ∷ bs))) ≡ t → cut is_choice fresh (b ∷ bs) ≡ Some part → ((q : Found) → cut is_choice (is_white b) bs ≡ Some q → pieces (is_white b) bs ≡ given q) → pieces fresh (b ∷ bs) ≡ given part
+some_step : (t : Bool) (fresh : Bool) (b : ℕ) (bs : List ℕ) (part : Found) → (fresh && is_choice (front (b ∷ bs))) ≡ t → found_token is_choice fresh (b ∷ bs) ≡ Some part → ((q : Found) → found_token is_choice (is_white b) bs ≡ Some q → pieces (is_white b) bs ≡ given q) → pieces fresh (b ∷ bs) ≡ given part
 some_step true fresh b bs part e h k =
     let some : Some (part_at (b ∷ bs)) ≡ Some part = sym (rw e refl) ∙ h in
     let same : part_at (b ∷ bs) ≡ part = cc in
     here_pieces fresh b bs e ∙ ap given same
 some_step false fresh b bs part e h k =
-    pass fresh b bs e ∙ further_pieces b bs (is_white b) (cut is_choice (is_white b) bs) part (sym (step is_choice fresh b bs e) ∙ h) k
+    pass fresh b bs e ∙ further_pieces b bs (is_white b) (found_token is_choice (is_white b) bs) part (sym (step is_choice fresh b bs e) ∙ h) k
 
-pub pieces_some : (fresh : Bool) (text : List ℕ) (part : Found) → cut is_choice fresh text ≡ Some part → pieces fresh text ≡ given part
+pub pieces_some : (fresh : Bool) (text : List ℕ) (part : Found) → found_token is_choice fresh text ≡ Some part → pieces fresh text ≡ given part
 pieces_some fresh [] part h = absurd (cc)
 pieces_some fresh (b ∷ bs) part h = some_step (fresh && is_choice (front (b ∷ bs))) fresh b bs part refl h (λ q k. pieces_some (is_white b) bs q k)
 
@@ -106,7 +106,7 @@ pieces_some fresh (b ∷ bs) part h = some_step (fresh && is_choice (front (b �
 no_value : (piece : List ℕ) (others : List (List ℕ)) → is_choice (first_token piece) ≡ false → values_among (piece ∷ others) ≡ values_among others
 no_value piece others h = rw (or_parts (is_word (codes "default") (first_token piece)) (is_word (codes "var") (first_token piece)) h).1 refl
 
-pub values_none : (text : List ℕ) → cut is_choice true text ≡ None → values text ≡ []
+pub values_none : (text : List ℕ) → found_token is_choice true text ≡ None → values text ≡ []
 unfolding values
 values_none text h = ap values_among (pieces_none true text h) ∙ no_value text [] (first_none is_choice text refl h)
 
@@ -145,7 +145,7 @@ nothing : [] ≡ values []
 unfolding values
 nothing = refl
 
-behind_word : (word after : List ℕ) (o : Option Found) → is_token word ≡ true → BeginsWhite after → cut is_choice true after ≡ o → values_among (join_first word (pieces true after)) ≡ with_value (is_word (codes "var") word) (trimmed (before_choice o after)) (values (from_choice o after))
+behind_word : (word after : List ℕ) (o : Option Found) → is_token word ≡ true → BeginsWhite after → found_token is_choice true after ≡ o → values_among (join_first word (pieces true after)) ≡ with_value (is_word (codes "var") word) (trimmed (before_choice o after)) (values (from_choice o after))
 unfolding join_first
 behind_word word after None h w e =
     ap (λ ps. values_among (join_first word ps)) (pieces_none true after e)
@@ -157,24 +157,24 @@ behind_word word after (Some q) h w e =
     ∙ piece_values word q.before (join_first q.word (pieces true q.after)) h (white_part q.before (q.word ++ q.after) after c.whole w)
     ∙ ap (with_value (is_word (codes "var") word) (trimmed q.before)) (sym (from_values q after c))
 
-pub values_some : (text : List ℕ) (part : Found) → cut is_choice true text ≡ Some part → values text ≡ with_value (is_word (codes "var") part.word) (trimmed (before_choice (cut is_choice true part.after) part.after)) (values (from_choice (cut is_choice true part.after) part.after))
+pub values_some : (text : List ℕ) (part : Found) → found_token is_choice true text ≡ Some part → values text ≡ with_value (is_word (codes "var") part.word) (trimmed (before_choice (found_token is_choice true part.after) part.after)) (values (from_choice (found_token is_choice true part.after) part.after))
 unfolding values
 values_some text part h =
     let c = cut_is is_choice true text part h in
     ap values_among (pieces_some true text part h)
     ∙ no_value part.before (join_first part.word (pieces true part.after)) (first_before is_choice text part refl h)
-    ∙ behind_word part.word part.after (cut is_choice true part.after) (word_is_token is_choice text part refl c) c.begins_white refl
+    ∙ behind_word part.word part.after (found_token is_choice true part.after) (word_is_token is_choice text part refl c) c.begins_white refl
 
 -- as a call that reads a value knows it
-pub value_here : (text : List ℕ) (part : Found) (value others : List ℕ) → Some part ≡ cut is_choice true text → value ≡ trimmed (before_choice (cut is_choice true part.after) part.after) → others ≡ from_choice (cut is_choice true part.after) part.after → is_word (codes "var") part.word ≡ true → values text ≡ value ∷ values others
+pub value_here : (text : List ℕ) (part : Found) (value others : List ℕ) → Some part ≡ found_token is_choice true text → value ≡ trimmed (before_choice (found_token is_choice true part.after) part.after) → others ≡ from_choice (found_token is_choice true part.after) part.after → is_word (codes "var") part.word ≡ true → values text ≡ value ∷ values others
 value_here text part value others e f g h =
-    values_some text part (sym e) ∙ rw h (ap (λ t. t ∷ values (from_choice (cut is_choice true part.after) part.after)) (sym f) ∙ ap (λ t. value ∷ values t) (sym g))
+    values_some text part (sym e) ∙ rw h (ap (λ t. t ∷ values (from_choice (found_token is_choice true part.after) part.after)) (sym f) ∙ ap (λ t. value ∷ values t) (sym g))
 
-pub value_later : (text : List ℕ) (part : Found) (others : List ℕ) → Some part ≡ cut is_choice true text → others ≡ from_choice (cut is_choice true part.after) part.after → is_word (codes "var") part.word ≡ false → values others ≡ values text
+pub value_later : (text : List ℕ) (part : Found) (others : List ℕ) → Some part ≡ found_token is_choice true text → others ≡ from_choice (found_token is_choice true part.after) part.after → is_word (codes "var") part.word ≡ false → values others ≡ values text
 value_later text part others e g h =
     ap values g ∙ sym (values_some text part (sym e) ∙ rw h refl)
 
-pub after_shorter : (text : List ℕ) (part : Found) (others : List ℕ) → Some part ≡ cut is_choice true text → length others ≤ length part.after → length others < length text
+pub after_shorter : (text : List ℕ) (part : Found) (others : List ℕ) → Some part ≡ found_token is_choice true text → length others ≤ length part.after → length others < length text
 after_shorter text part others e h =
     let c = cut_is is_choice true text part (sym e) in
     let token = word_is_token is_choice text part refl c in

@@ -12,13 +12,13 @@ use Rattle.chess_board.specs.Position.{Position as AnyPosition}
 use Rattle.chess_board.specs.Play.{IsPosition}
 use Rattle.fen_text.specs.declared.fault.FenFault.{FenFault}
 use Rattle.fen_text.specs.Fen.{position_of}
-use Rattle.fen_text.specs.Written.{written, fields_text}
+use Rattle.fen_text.specs.Written.{position_fen, fields_text}
 use Rattle.fen_text.proofs.Cut.{Above, IsWord}
 use Rattle.fen_text.proofs.Boards.{word-board}
 use Rattle.fen_text.proofs.Others.{word-side, word-rights, word-passant, word-count}
 use Rattle.fen_text.proofs.Back.{reads_back}
 use Rattle.uci_lines.specs.Written.{is_moves, fen_by, is_fen, fields_before, split_onto}
-use Rattle.uci_lines.specs.OrderReading.{is_start, is_played, moves_by, moves_in, placed, set_up, fen_in, start_in, position_in}
+use Rattle.uci_lines.specs.OrderReading.{is_start, is_played, moves_by, moves_in, position_order_from, set_up, fen_in, start_in, position_in}
 use Rattle.uci_lines.proofs.Stripped.{word_after}
 use Rattle.uci_lines.proofs.Counts.{same_text, text_same}
 
@@ -70,14 +70,14 @@ moves_takes (b ∷ bs) moves h = by_takes (b ∷ bs) (after (codes " moves ") (b
 abbrev pub PositionIs : List ℕ → Order → Type 0
 PositionIs text c = (fen : Option (List ℕ)) × (moves : List ℕ) × (c ≡ Position fen moves) × (is_start fen ≡ true) × (is_played moves ≡ true) × (text ≡ start_text fen ++ moves_text moves)
 
-placed_takes : (fen : Option (List ℕ)) (text others : List ℕ) (o : Option (List ℕ)) (c : Order) → is_start fen ≡ true → text ≡ start_text fen ++ others → moves_in others ≡ o → placed fen o ≡ Some c → PositionIs text c
+placed_takes : (fen : Option (List ℕ)) (text others : List ℕ) (o : Option (List ℕ)) (c : Order) → is_start fen ≡ true → text ≡ start_text fen ++ others → moves_in others ≡ o → position_order_from fen o ≡ Some c → PositionIs text c
 placed_takes fen text others None c s e f h = absurd (cc)
 placed_takes fen text others (Some moves) c s e f h =
     let m = moves_takes others moves f in
     let same : Position fen moves ≡ c = cc in
     (fen, moves, sym same, s, m.fits, e ∙ ap (λ t. start_text fen ++ t) m.whole)
 
-set_up_takes : (text : List ℕ) (t : Bool) (halves : List ℕ × List ℕ) (c : Order) → is_fen halves.0 ≡ t → text ≡ codes "fen " ++ (halves.0 ++ halves.1) → cond t (placed (Some halves.0) (moves_in halves.1)) None ≡ Some c → PositionIs text c
+set_up_takes : (text : List ℕ) (t : Bool) (halves : List ℕ × List ℕ) (c : Order) → is_fen halves.0 ≡ t → text ≡ codes "fen " ++ (halves.0 ++ halves.1) → cond t (position_order_from (Some halves.0) (moves_in halves.1)) None ≡ Some c → PositionIs text c
 set_up_takes text true halves c e f h = placed_takes (Some halves.0) text halves.1 (moves_in halves.1) c e (f ∙ sym (append_assoc (codes "fen ") halves.0 halves.1)) refl h
 set_up_takes text false halves c e f h = absurd (cc)
 
@@ -140,8 +140,8 @@ words_before (word ∷ next ∷ words) blanks more l w h =
         ∙ word_before (suc n) first (32 ∷ (others ++ rest)) a
         ∙ ap (λ (halves : List ℕ × List ℕ). moved first (split_onto 32 halves)) later
 
-written_halves : (p : AnyPosition) (more : List ℕ) → p.half ≤ 99999 → p.full ≤ 99999 → BeginsBlank more → fields_before 5 (written p ++ more) ≡ (written p, more)
-unfolding written
+written_halves : (p : AnyPosition) (more : List ℕ) → p.half ≤ 99999 → p.full ≤ 99999 → BeginsBlank more → fields_before 5 (position_fen p ++ more) ≡ (position_fen p, more)
+unfolding position_fen
 written_halves p more h f w =
     words_before (fields_text p) 5 more refl
     (word-board p.men, (word-side p.side, (word-rights p.rights, (word-passant p.passant, (word-count p.half (omega arith), (word-count p.full (omega arith), tt))))))
@@ -150,13 +150,13 @@ written_halves p more h f w =
 fen_halves_by : (text more : List ℕ) (r : Result AnyPosition FenFault) → fen_by r text ≡ true → BeginsBlank more → fields_before 5 (text ++ more) ≡ (text, more)
 fen_halves_by text more (Err fault) h w = absurd (cc)
 fen_halves_by text more (Ok p) h w =
-    let full = and_parts (bytes_eq (written p) text && leb p.half 99999) (leb p.full 99999) h in
-    let half = and_parts (bytes_eq (written p) text) (leb p.half 99999) full.0 in
+    let full = and_parts (bytes_eq (position_fen p) text && leb p.half 99999) (leb p.full 99999) h in
+    let half = and_parts (bytes_eq (position_fen p) text) (leb p.half 99999) full.0 in
     let a : leb p.half 99999 ≡ true = half.1 in
     let b : leb p.full 99999 ≡ true = full.1 in
     let low : p.half ≤ 99999 = grind (arith, nat_tests) in
     let top : p.full ≤ 99999 = grind (arith, nat_tests) in
-    let same : written p ≡ text = same_text (written p) text half.0 in
+    let same : position_fen p ≡ text = same_text (position_fen p) text half.0 in
     subst (λ (t : List ℕ). fields_before 5 (t ++ more) ≡ (t, more)) same (written_halves p more low top w)
 
 fen_halves : (text more : List ℕ) → is_fen text ≡ true → BeginsBlank more → fields_before 5 (text ++ more) ≡ (text, more)
@@ -167,16 +167,16 @@ moves_blank [] = tt
 moves_blank (b ∷ bs) = refl
 
 pub position_again : (fen : Option (List ℕ)) (moves : List ℕ) → is_start fen ≡ true → is_played moves ≡ true → position_in (start_text fen ++ moves_text moves) ≡ Some (Position fen moves)
-position_again None moves s h = ap (placed None) (moves_again moves h)
+position_again None moves s h = ap (position_order_from None) (moves_again moves h)
 position_again (Some fen) moves s h =
     ap (λ t. fen_in (after (codes "fen ") t)) (append_assoc (codes "fen ") fen (moves_text moves))
     ∙ ap set_up (fen_halves fen (moves_text moves) s (moves_blank moves))
-    ∙ ap (λ t. cond t (placed (Some fen) (moves_in (moves_text moves))) None) s
-    ∙ ap (placed (Some fen)) (moves_again moves h)
+    ∙ ap (λ t. cond t (position_order_from (Some fen) (moves_in (moves_text moves))) None) s
+    ∙ ap (position_order_from (Some fen)) (moves_again moves h)
 
 -- The text of every position may stand in an order.
-pub written_fits : (p : AnyPosition) → IsPosition p → is_fen (written p) ≡ true
+pub written_fits : (p : AnyPosition) → IsPosition p → is_fen (position_fen p) ≡ true
 written_fits p q =
     let half : leb p.half 99999 ≡ true = le-leb p.half 99999 q.half in
     let full : leb p.full 99999 ≡ true = le-leb p.full 99999 q.full.1 in
-    ap (λ r. fen_by r (written p)) (reads_back p q) ∙ rw (text_same (written p) (written p) refl, half, full) refl
+    ap (λ r. fen_by r (position_fen p)) (reads_back p q) ∙ rw (text_same (position_fen p) (position_fen p) refl, half, full) refl

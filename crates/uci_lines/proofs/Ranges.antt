@@ -1,7 +1,7 @@
 -- The last number after a word.
 use Rattle.std.proofs.Common.{◌≡◌, ℕ, ℤ, List, [], ◌∷◌, ◌++◌, Bool, true, false, Option, Some, None, codes, cond, refl, sym, ap, ◌∙◌, subst}
 use Rattle.std.specs.Option.{option_or}
-use Rattle.peer_words.specs.Numbers.{signed}
+use Rattle.peer_words.specs.Numbers.{signed_number}
 use Rattle.uci_lines.specs.Cuts.{is_word}
 use Rattle.uci_lines.specs.Options.{SpinRange, first_signed, limited, range_from}
 use Rattle.uci_lines.specs.Spells.{IsLast}
@@ -50,7 +50,7 @@ max_is r (t ∷ ts) = max_is (limited r t ts) ts ∙ ap (λ o. last_from (codes 
 
 -- no number after the word
 abbrev pub HasNone : List ℕ → List (List ℕ) → Type 0
-HasNone word ts = (bs : List (List ℕ)) (t : List ℕ) (cs : List (List ℕ)) → ts ≡ bs ++ (word ∷ t ∷ cs) → signed t ≡ None
+HasNone word ts = (bs : List (List ℕ)) (t : List ℕ) (cs : List (List ℕ)) → ts ≡ bs ++ (word ∷ t ∷ cs) → signed_number t ≡ None
 
 behind_first : (word t : List ℕ) (ts : List (List ℕ)) → HasNone word (t ∷ ts) → HasNone word ts
 behind_first word t ts h bs u cs e = h (t ∷ bs) u cs (ap (λ us. t ∷ us) e)
@@ -66,25 +66,25 @@ kept word old (t ∷ ts) h =
     kept word (newer word old t ts) ts (behind_first word t ts h) ∙ none_here word t ts (is_word word t) old refl h
 
 -- the value at the last such word
-pub passes_by : (word t : List ℕ) (n : ℤ) (b : Bool) → is_word word t ≡ b → signed word ≡ None → signed t ≡ Some n → b ≡ false
+pub passes_by : (word t : List ℕ) (n : ℤ) (b : Bool) → is_word word t ≡ b → signed_number word ≡ None → signed_number t ≡ Some n → b ≡ false
 passes_by word t n false e z h = refl
-passes_by word t n true e z h = absurd (clash (sym z ∙ ap signed (sym (same_text t word e)) ∙ h))
+passes_by word t n true e z h = absurd (clash (sym z ∙ ap signed_number (sym (same_text t word e)) ∙ h))
   where
     clash : None ≡ Some n → ⊥
     clash k = absurd (cc)
 
-at_last : (word digits : List ℕ) (old : Option ℤ) (others : List (List ℕ)) (n : ℤ) → signed word ≡ None → signed digits ≡ Some n → HasNone word others → last_from word old (word ∷ digits ∷ others) ≡ Some n
+at_last : (word digits : List ℕ) (old : Option ℤ) (others : List (List ℕ)) (n : ℤ) → signed_number word ≡ None → signed_number digits ≡ Some n → HasNone word others → last_from word old (word ∷ digits ∷ others) ≡ Some n
 at_last word digits old others n z h k =
-    ap (λ b. last_from word (cond b (option_or (signed digits) old) old) (digits ∷ others)) (text_same word word refl)
+    ap (λ b. last_from word (cond b (option_or (signed_number digits) old) old) (digits ∷ others)) (text_same word word refl)
     ∙ ap (λ o. last_from word (option_or o old) (digits ∷ others)) h
     ∙ ap (λ b. last_from word (cond b (option_or (first_signed others) (Some n)) (Some n)) others) (passes_by word digits n (is_word word digits) refl z h)
     ∙ kept word (Some n) others k
 
-up_to_last : (word digits : List ℕ) (old : Option ℤ) (before others : List (List ℕ)) (n : ℤ) → signed word ≡ None → signed digits ≡ Some n → HasNone word others → last_from word old (before ++ (word ∷ digits ∷ others)) ≡ Some n
+up_to_last : (word digits : List ℕ) (old : Option ℤ) (before others : List (List ℕ)) (n : ℤ) → signed_number word ≡ None → signed_number digits ≡ Some n → HasNone word others → last_from word old (before ++ (word ∷ digits ∷ others)) ≡ Some n
 up_to_last word digits old [] others n z h k = at_last word digits old others n z h k
 up_to_last word digits old (t ∷ ts) others n z h k = up_to_last word digits (newer word old t (ts ++ (word ∷ digits ∷ others))) ts others n z h k
 
-pub last_is : (word : List ℕ) (ts : List (List ℕ)) (n : ℤ) → signed word ≡ None → IsLast word ts n → last_from word None ts ≡ Some n
+pub last_is : (word : List ℕ) (ts : List (List ℕ)) (n : ℤ) → signed_number word ≡ None → IsLast word ts n → last_from word None ts ≡ Some n
 last_is word ts n z l = ap (last_from word None) l.whole ∙ up_to_last word l.digits None l.before l.others n z l.reads l.last
 
 -- and back
@@ -121,7 +121,7 @@ one_further word t ts n l = record {
   last = l.last;
 }
 
-here_last : (word t u : List ℕ) (us : List (List ℕ)) (n : ℤ) → is_word word t ≡ true → signed u ≡ Some n → HasNone word (u ∷ us) → IsLast word (t ∷ u ∷ us) n
+here_last : (word t u : List ℕ) (us : List (List ℕ)) (n : ℤ) → is_word word t ≡ true → signed_number u ≡ Some n → HasNone word (u ∷ us) → IsLast word (t ∷ u ∷ us) n
 here_last word t u us n e r h = record {
   before = [];
   digits = u;

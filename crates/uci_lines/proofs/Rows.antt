@@ -3,8 +3,8 @@ use Rattle.std.proofs.Common.{◌≡◌, ℕ, ℤ, int_lt, ◌↔◌, List, Bool
 use Rattle.std.specs.Int.{int_min, int_max}
 use Rattle.chess_board.specs.declared.board.Move.{Move}
 use Rattle.peer_words.specs.Tokens.{tokens, trimmed, first_token, rest}
-use Rattle.uci_lines.specs.Cuts.{Found, cut, is_word, is_known, is_choice}
-use Rattle.uci_lines.specs.Choices.{values, before_choice, chosen}
+use Rattle.uci_lines.specs.Cuts.{Found, found_token, is_word, is_known, is_choice}
+use Rattle.uci_lines.specs.Choices.{values, before_choice, choice_text}
 use Rattle.chess_board.specs.Spelling.{move_of}
 use Rattle.uci_lines.specs.Options.{is_on, range_from, no_range, spin, spin_in, shown_text, text_after, shape_named, option_line, option_with, option_said}
 use Rattle.uci_lines.specs.Infos.{no_facts, facts_in}
@@ -32,15 +32,15 @@ text_by None = refl
 text_by (Some part) = refl
 
 up_from : List ℕ → List ℕ
-up_from text = trimmed (before_choice (cut is_choice true text) text)
+up_from text = trimmed (before_choice (found_token is_choice true text) text)
 
-chosen_by : (o : Option Found) → chosen o ≡ up_from (after_cut o)
+chosen_by : (o : Option Found) → choice_text o ≡ up_from (after_cut o)
 unfolding up_from
 chosen_by None = refl
 chosen_by (Some part) = refl
 
 default_cut : List ℕ → Option Found
-default_cut text = cut (is_word (codes "default")) true text
+default_cut text = found_token (is_word (codes "default")) true text
 
 -- FROM THE RELATION TO WHAT IS READ
 
@@ -82,15 +82,15 @@ begun line word text b =
 name_is : (text : List ℕ) (t : List ℕ) → first_token text ≡ codes "name" → t ≡ rest text → name_said text ≡ Name t
 name_is text t e f = ap (λ w. cond (is_word (codes "name") w) (Name (rest text)) Nothing) e ∙ ap (λ r. Name r) (sym f)
 
-best_is : (text others : List ℕ) (best hint : Option Move) → PerhapsMove (first_token text) best → others ≡ after_cut (cut (is_word (codes "ponder")) true (rest text)) → PerhapsMove (first_token others) hint → best_said text ≡ Best best hint
+best_is : (text others : List ℕ) (best hint : Option Move) → PerhapsMove (first_token text) best → others ≡ after_cut (found_token (is_word (codes "ponder")) true (rest text)) → PerhapsMove (first_token others) hint → best_said text ≡ Best best hint
 best_is text others best hint b e h =
-    ap (λ m. Best m (hint_in (cut (is_word (codes "ponder")) true (rest text)))) (sym (perhaps_is (first_token text) best b))
-    ∙ ap (λ m. Best best m) (hint_by (cut (is_word (codes "ponder")) true (rest text)) ∙ ap (λ t. move_of (first_token t)) (sym e) ∙ sym (perhaps_is (first_token others) hint h))
+    ap (λ m. Best m (hint_in (found_token (is_word (codes "ponder")) true (rest text)))) (sym (perhaps_is (first_token text) best b))
+    ∙ ap (λ m. Best best m) (hint_by (found_token (is_word (codes "ponder")) true (rest text)) ∙ ap (λ t. move_of (first_token t)) (sym e) ∙ sym (perhaps_is (first_token others) hint h))
 
 option_is : (text name : List ℕ) (shape : OptionKind) → Declares text name shape → option_said text ≡ OptionLine name shape
 unfolding option_said
 option_is text name shape h =
-    ap (λ w. cond (is_word (codes "name") w) (option_with (cut (is_word (codes "type")) true (rest text))) Nothing) h.0
+    ap (λ w. cond (is_word (codes "name") w) (option_with (found_token (is_word (codes "type")) true (rest text))) Nothing) h.0
     ∙ ap option_with (first_cut (is_word (codes "type")) (rest text) h.1 refl h.2)
     ∙ ap (option_line (trimmed (h.1).before)) (shape_is (first_token (h.1).after) (rest (h.1).after) shape h.4)
     ∙ ap (λ n. OptionLine n shape) (sym h.3)
@@ -169,7 +169,7 @@ name_holds false line text e b = tt
 best_holds : (line text : List ℕ) → Begins line (codes "bestmove") text → Holds line (best_said text)
 unfolding Holds
 best_holds line text b =
-    let o = cut (is_word (codes "ponder")) true (rest text) in (
+    let o = found_token (is_word (codes "ponder")) true (rest text) in (
       text,
       b,
       is_perhaps (first_token text),
@@ -183,15 +183,15 @@ unfolding Holds Fits
 shape_holds line text part None b n f s = tt
 shape_holds line text part (Some shape) b n f s = (text, b, (n, part, f, refl, s))
 
-part_holds : (line text : List ℕ) (o : Option Found) → Begins line (codes "option") text → first_token text ≡ codes "name" → cut (is_word (codes "type")) true (rest text) ≡ o → Holds line (option_with o)
+part_holds : (line text : List ℕ) (o : Option Found) → Begins line (codes "option") text → first_token text ≡ codes "name" → found_token (is_word (codes "type")) true (rest text) ≡ o → Holds line (option_with o)
 unfolding Holds
 part_holds line text None b n e = tt
 part_holds line text (Some part) b n e =
     shape_holds line text part (shape_named (first_token part.after) (rest part.after)) b n (cut_first (is_word (codes "type")) (rest text) part refl e) (shape_fits (first_token part.after) (rest part.after))
 
-option_by : (t : Bool) (line text : List ℕ) → is_word (codes "name") (first_token text) ≡ t → Begins line (codes "option") text → Holds line (cond t (option_with (cut (is_word (codes "type")) true (rest text))) Nothing)
+option_by : (t : Bool) (line text : List ℕ) → is_word (codes "name") (first_token text) ≡ t → Begins line (codes "option") text → Holds line (cond t (option_with (found_token (is_word (codes "type")) true (rest text))) Nothing)
 unfolding Holds
-option_by true line text e b = part_holds line text (cut (is_word (codes "type")) true (rest text)) b (same_text (first_token text) (codes "name") e) refl
+option_by true line text e b = part_holds line text (found_token (is_word (codes "type")) true (rest text)) b (same_text (first_token text) (codes "name") e) refl
 option_by false line text e b = tt
 
 option_holds : (line text : List ℕ) → Begins line (codes "option") text → Holds line (option_said text)
@@ -219,14 +219,14 @@ part_message line part f =
     word_holds (is_word (codes "info") part.word) line part.word (codes "info") _ _ refl (λ w. info_holds line part.after (part, f, w, refl)) (λ e.
     option_holds line part.after (part, f, same_text part.word (codes "option") (last_or (is_word (codes "id") part.word) (is_word (codes "uciok") part.word) (is_word (codes "readyok") part.word) (is_word (codes "bestmove") part.word) (is_word (codes "info") part.word) (is_word (codes "option") part.word) a b c d e f.passes), refl))))))
 
-message_by : (line : List ℕ) (o : Option Found) → cut is_known true line ≡ o → Holds line (said_by o)
+message_by : (line : List ℕ) (o : Option Found) → found_token is_known true line ≡ o → Holds line (said_by o)
 unfolding Holds
 message_by line None e = tt
 message_by line (Some part) e = part_message line part (cut_first is_known line part refl e)
 
 message_holds : (line : List ℕ) → Holds line (engine_message line)
 unfolding engine_message
-message_holds line = message_by line (cut is_known true line) refl
+message_holds line = message_by line (found_token is_known true line) refl
 
 holds_spells : (line : List ℕ) (m : EngineMsg) → engine_message line ≡ m → Holds line m → SpellsMessage line m
 unfolding Holds

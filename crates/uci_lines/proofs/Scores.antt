@@ -9,7 +9,7 @@ use Rattle.uci_lines.specs.declared.messages.Score.{Score}
 use Rattle.uci_lines.specs.declared.messages.Score.TheVariants.{Cp, Mate}
 use Rattle.uci_lines.specs.declared.info.InfoField.{InfoField}
 use Rattle.uci_lines.specs.declared.info.InfoField.TheVariants as fields
-use Rattle.uci_lines.specs.Cuts.{Found, cut, is_word, is_known}
+use Rattle.uci_lines.specs.Cuts.{Found, found_token, is_word, is_known}
 use Rattle.uci_lines.specs.Infos.{field_named, first_score, hear, ends_info, facts_from, facts_in, no_facts}
 use Rattle.uci_lines.specs.Messages as says
 use Rattle.uci_lines.specs.Info.{Info}
@@ -77,7 +77,7 @@ option_small true (Some part) = line_small (trimmed part.before) (shape_named (f
 
 said_option_small : (text : List ℕ) → SaysSmall (option_said text)
 unfolding option_said
-said_option_small text = option_small (is_word (codes "name") (first_token text)) (cut (is_word (codes "type")) true (rest text))
+said_option_small text = option_small (is_word (codes "name") (first_token text)) (found_token (is_word (codes "type")) true (rest text))
 
 name_small : (b : Bool) (text : List ℕ) → SaysSmall (cond b (says.Name text) says.Nothing)
 name_small true text = tt
@@ -101,7 +101,7 @@ by_small (Some part) = after_small part.word part.after
 
 message_small : (line : List ℕ) → SaysSmall (engine_message line)
 unfolding engine_message
-message_small line = by_small (cut is_known true line)
+message_small line = by_small (found_token is_known true line)
 
 pub scores_are_centis : ScoresAreCentis
 scores_are_centis line f e = subst (λ (x : EngineMsg). SaysSmall x) e (message_small line)

@@ -19,14 +19,14 @@ exact_by (Some n) word = if bytes_eq (decimal n) word then Some n else None
 abbrev pub exact_count : List ℕ → Option ℕ
 exact_count word = exact_by (count word) word
 
-abbrev pub counted : Option ℕ → List ℕ → Option (ℕ × List ℕ)
-counted None others = None
-counted (Some n) others = Some (n, others)
+abbrev pub count_with_rest : Option ℕ → List ℕ → Option (ℕ × List ℕ)
+count_with_rest None others = None
+count_with_rest (Some n) others = Some (n, others)
 
 -- the count at the front, up to white space, and what follows it
 abbrev pub number_in : Option (List ℕ) → Option (ℕ × List ℕ)
 number_in None = None
-number_in (Some text) = counted (exact_count (before_first is_white text)) (drop (token_end text) text)
+number_in (Some text) = count_with_rest (exact_count (before_first is_white text)) (drop (token_end text) text)
 
 -- a word at the front and a count after it
 unfoldable pub number_behind : List ℕ → List ℕ → Option (ℕ × List ℕ)

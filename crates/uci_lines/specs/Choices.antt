@@ -2,10 +2,10 @@
 use Rattle.std.specs.Prelude.{ℕ, List, [], ◌∷◌, codes, length, drop, Bool, true, ◌&&◌, if◌then◌else◌, Option, Some, None}
 use Rattle.std.specs.List.{before_first, onto_first}
 use Rattle.peer_words.specs.Tokens.{is_white, trimmed, first_token, rest}
-use Rattle.uci_lines.specs.Cuts.{Found, cut, is_word, is_choice}
+use Rattle.uci_lines.specs.Cuts.{Found, found_token, is_word, is_choice}
 
 -- A text, cut before each token that is `default` or `var`. The first piece is what is before all of
--- them; each other begins with its word. fresh: as for `cut`.
+-- them; each other begins with its word. fresh: as for `found_token`.
 abbrev pub pieces : Bool → List ℕ → List (List ℕ)
 pieces fresh [] = [] ∷ []
 pieces fresh (b ∷ bs) =
@@ -33,10 +33,10 @@ abbrev pub from_choice : Option Found → List ℕ → List ℕ
 from_choice None text = []
 from_choice (Some part) text = drop (length part.before) text
 
-abbrev pub chosen : Option Found → List ℕ
-chosen None = []
-chosen (Some part) = trimmed (before_choice (cut is_choice true part.after) part.after)
+abbrev pub choice_text : Option Found → List ℕ
+choice_text None = []
+choice_text (Some part) = trimmed (before_choice (found_token is_choice true part.after) part.after)
 
 -- what follows the first `default`, up to the next `default` or `var`
 abbrev pub default_value : List ℕ → List ℕ
-default_value text = chosen (cut (is_word (codes "default")) true text)
+default_value text = choice_text (found_token (is_word (codes "default")) true text)

@@ -19,12 +19,12 @@ onto_part b part = record { before = b ∷ part.before; word = part.word; after 
 
 -- Where the first token that passes is. A token begins at the front only if the front is fresh:
 -- the start of the line, or after white space.
-abbrev pub cut : (List ℕ → Bool) → Bool → List ℕ → Option Found
-cut p fresh [] = None
-cut p fresh (b ∷ bs) =
+abbrev pub found_token : (List ℕ → Bool) → Bool → List ℕ → Option Found
+found_token p fresh [] = None
+found_token p fresh (b ∷ bs) =
     if fresh && p (before_first is_white (b ∷ bs))
     then Some (record { before = []; word = before_first is_white (b ∷ bs); after = drop (token_end (b ∷ bs)) (b ∷ bs) })
-    else option_map (onto_part b) (cut p (is_white b) bs)
+    else option_map (onto_part b) (found_token p (is_white b) bs)
 
 abbrev pub is_word : List ℕ → List ℕ → Bool
 is_word word token = bytes_eq token word

@@ -2,7 +2,7 @@
 use Rattle.std.specs.Prelude.{ℕ, List, codes, true, if◌then◌else◌, Option, Some, None}
 use Rattle.peer_words.specs.Tokens.{first_token, rest}
 use Rattle.chess_board.specs.declared.board.Move.{Move}
-use Rattle.uci_lines.specs.Cuts.{Found, cut, is_word, is_known}
+use Rattle.uci_lines.specs.Cuts.{Found, found_token, is_word, is_known}
 use Rattle.chess_board.specs.Spelling.{move_of}
 use Rattle.uci_lines.specs.Options.{option_said}
 use Rattle.uci_lines.specs.Infos.{facts_in}
@@ -19,7 +19,7 @@ hint_in (Some part) = move_of (first_token part.after)
 
 -- after `bestmove`
 abbrev pub best_said : List ℕ → EngineMsg
-best_said text = Best (move_of (first_token text)) (hint_in (cut (is_word (codes "ponder")) true (rest text)))
+best_said text = Best (move_of (first_token text)) (hint_in (found_token (is_word (codes "ponder")) true (rest text)))
 
 -- a known word, with what follows it
 abbrev pub said_after : List ℕ → List ℕ → EngineMsg
@@ -37,4 +37,4 @@ said_by (Some part) = said_after part.word part.after
 
 -- what is before the first known word is ignored
 unfoldable pub engine_message : List ℕ → EngineMsg
-engine_message line = said_by (cut is_known true line)
+engine_message line = said_by (found_token is_known true line)

@@ -3,9 +3,9 @@ use Rattle.std.specs.Prelude.{ℤ, int_lt, ℕ, List, [], ◌∷◌, codes, Bool
 use Rattle.std.specs.Int.{int_min, int_max}
 use Rattle.std.specs.Option.{option_or}
 use Rattle.peer_words.specs.Tokens.{tokens, trimmed, first_token, rest}
-use Rattle.peer_words.specs.Numbers.{signed}
+use Rattle.peer_words.specs.Numbers.{signed_number}
 use Rattle.uci_lines.specs.declared.range.SpinRange.{SpinRange as Numbers}
-use Rattle.uci_lines.specs.Cuts.{Found, cut, is_word}
+use Rattle.uci_lines.specs.Cuts.{Found, found_token, is_word}
 use Rattle.uci_lines.specs.Choices.{values, default_value}
 use Rattle.uci_lines.specs.Messages.{OptionKind, Check, Spin, Combo, Button, Text, EngineMsg, OptionLine, Nothing}
 
@@ -25,7 +25,7 @@ range_of n = record { default = n.default; min = n.min; max = n.max }
 
 abbrev pub first_signed : List (List ℕ) → Option ℤ
 first_signed [] = None
-first_signed (t ∷ ts) = signed t
+first_signed (t ∷ ts) = signed_number t
 
 -- what a token says of the range, with the tokens after it
 abbrev pub limited : SpinRange → List ℕ → List (List ℕ) → SpinRange
@@ -61,11 +61,11 @@ text_after (Some part) = shown_text (trimmed part.after)
 -- the kind of an option by its word, with the rest of the line
 abbrev pub shape_named : List ℕ → List ℕ → Option OptionKind
 shape_named word text =
-    if is_word (codes "check") word then Some (Check (is_on (cut (is_word (codes "default")) true text)))
+    if is_word (codes "check") word then Some (Check (is_on (found_token (is_word (codes "default")) true text)))
     else (if is_word (codes "spin") word then spin_in (range_from no_range (tokens text))
     else (if is_word (codes "combo") word then Some (Combo (default_value text) (values text))
     else (if is_word (codes "button") word then Some Button
-    else (if is_word (codes "string") word then Some (Text (text_after (cut (is_word (codes "default")) true text)))
+    else (if is_word (codes "string") word then Some (Text (text_after (found_token (is_word (codes "default")) true text)))
     else None))))
 
 abbrev pub option_line : List ℕ → Option OptionKind → EngineMsg
@@ -80,4 +80,4 @@ option_with (Some part) = option_line (trimmed part.before) (shape_named (first_
 -- what follows `option`
 unfoldable pub option_said : List ℕ → EngineMsg
 option_said text =
-    if is_word (codes "name") (first_token text) then option_with (cut (is_word (codes "type")) true (rest text)) else Nothing
+    if is_word (codes "name") (first_token text) then option_with (found_token (is_word (codes "type")) true (rest text)) else Nothing

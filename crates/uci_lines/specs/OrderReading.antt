@@ -3,7 +3,7 @@ use Rattle.std.specs.Prelude.{◌≡◌, ℕ, List, [], ◌∷◌, ◌++◌, cod
 use Rattle.std.specs.Str.{bytes_eq}
 use Rattle.chess_board.specs.Position.{Position as AnyPosition}
 use Rattle.chess_board.specs.Play.{IsPosition}
-use Rattle.fen_text.specs.Written.{written}
+use Rattle.fen_text.specs.Written.{position_fen}
 use Rattle.uci_lines.specs.declared.orders.GoControl.{GoControl}
 use Rattle.uci_lines.specs.declared.orders.GoControl.TheVariants.{Infinite, MoveTime, Clock}
 use Rattle.uci_lines.specs.Behind.{after, number_behind, perhaps_number}
@@ -67,19 +67,20 @@ abbrev pub moves_in : List ℕ → Option (List ℕ)
 moves_in [] = Some []
 moves_in (b ∷ bs) = moves_by (after (codes " moves ") (b ∷ bs))
 
-abbrev pub placed : Option (List ℕ) → Option (List ℕ) → Option Order
-placed fen None = None
-placed fen (Some moves) = Some (Position fen moves)
+abbrev pub position_order_from : Option (List ℕ) → Option (List ℕ) → Option Order
+position_order_from fen None = None
+position_order_from fen (Some moves) = Some (Position fen moves)
 
 abbrev pub set_up : List ℕ × List ℕ → Option Order
-set_up halves = if is_fen halves.0 then placed (Some halves.0) (moves_in halves.1) else None
+set_up halves =
+    if is_fen halves.0 then position_order_from (Some halves.0) (moves_in halves.1) else None
 
 abbrev pub fen_in : Option (List ℕ) → Option Order
 fen_in None = None
 fen_in (Some text) = set_up (fields_before 5 text)
 
 abbrev pub start_in : Option (List ℕ) → List ℕ → Option Order
-start_in (Some others) text = placed None (moves_in others)
+start_in (Some others) text = position_order_from None (moves_in others)
 start_in None text = fen_in (after (codes "fen ") text)
 
 -- after `position `
@@ -170,4 +171,4 @@ pub record SpellsOrder (line : List ℕ) (order : Order) : Type 0 where
 
 -- The text of every position may stand in an order.
 abbrev pub TakesPositions : Type 0
-TakesPositions = (p : AnyPosition) → IsPosition p → is_fen (written p) ≡ true
+TakesPositions = (p : AnyPosition) → IsPosition p → is_fen (position_fen p) ≡ true

@@ -3,7 +3,7 @@ use Rattle.std.specs.Prelude.{◌≡◌, ◌≢◌, ◌⊎◌, ℕ, ℤ, int_lt,
 use Rattle.std.specs.Int.{int_min, int_max}
 use Rattle.std.specs.List.{list_all}
 use Rattle.peer_words.specs.Tokens.{is_white, is_token, tokens, trimmed, first_token, rest}
-use Rattle.peer_words.specs.Numbers.{count, centis, signed}
+use Rattle.peer_words.specs.Numbers.{count, centis, signed_number}
 use Rattle.chess_board.specs.declared.board.Move.{Move}
 use Rattle.chess_board.specs.Text.{Spells as MoveSpells}
 use Rattle.uci_lines.specs.declared.messages.Score.TheVariants.{Cp, Mate}
@@ -56,8 +56,8 @@ pub record IsLast (word : List ℕ) (ts : List (List ℕ)) (n : ℤ) : Type 0 wh
   pub digits : List ℕ
   pub others : List (List ℕ)
   pub whole : ts ≡ before ++ (word ∷ digits ∷ others)
-  pub reads : signed digits ≡ Some n
-  pub last : (bs : List (List ℕ)) (t : List ℕ) (cs : List (List ℕ)) → others ≡ bs ++ (word ∷ t ∷ cs) → signed t ≡ None
+  pub reads : signed_number digits ≡ Some n
+  pub last : (bs : List (List ℕ)) (t : List ℕ) (cs : List (List ℕ)) → others ≡ bs ++ (word ∷ t ∷ cs) → signed_number t ≡ None
 
 -- what is before the first `default` or `var`, trimmed
 abbrev pub UpToChoice : List ℕ → List ℕ → Type 0

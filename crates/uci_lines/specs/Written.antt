@@ -9,7 +9,7 @@ use Rattle.chess_board.specs.Position.{Position}
 use Rattle.chess_board.specs.Text.{text_of}
 use Rattle.fen_text.specs.declared.fault.FenFault.{FenFault}
 use Rattle.fen_text.specs.Fen.{position_of}
-use Rattle.fen_text.specs.Written.{written}
+use Rattle.fen_text.specs.Written.{position_fen}
 use Rattle.uci_lines.specs.Behind.{after}
 use Rattle.chess_board.specs.Spelling.{move_of}
 use Rattle.peer_words.specs.Bytes.{blank}
@@ -50,7 +50,8 @@ abbrev pub is_moves : List ℕ → Bool
 is_moves text = list_all is_written_move (slice_split is_blank_byte text)
 
 abbrev pub fen_by : Result Position FenFault → List ℕ → Bool
-fen_by (Ok p) text = bytes_eq (written p) text && nat_le p.half top_count && nat_le p.full top_count
+fen_by (Ok p) text =
+    bytes_eq (position_fen p) text && nat_le p.half top_count && nat_le p.full top_count
 fen_by (Err fault) text = false
 
 -- the text of a position as it is written, with counts of at most five digits, as each position has

@@ -3,7 +3,7 @@ ghost use Rattle.std.specs.Prelude.{◌≡◌, true, drop};
 ghost use Rattle.std.specs.List.{before_first};
 ghost use Rattle.peer_words.specs.Tokens.{is_white, token_end};
 ghost use Rattle.std.specs.Option.{option_map};
-ghost use Rattle.uci_lines.specs.Cuts.{cut, stops, found_of};
+ghost use Rattle.uci_lines.specs.Cuts.{found_token, stops, found_of};
 
 use peer_words::{is_white, split_at_white};
 
@@ -68,7 +68,7 @@ fn is_known(word: &[u8]) -> bool
 
 /// The first token at which the text is to be cut.
 pub(crate) fn find_word(text: &[u8], stop: Delimiter) -> Option<FoundToken<'_>>
-    ensures { option_map found_of result ≡ cut (stops stop) true text.now }
+    ensures { option_map found_of result ≡ found_token (stops stop) true text.now }
 {
     let mut is_fresh = true;
     for (i, byte) in text.iter().enumerate() {

@@ -2,7 +2,7 @@
 ghost use Rattle.std.specs.Prelude.{◌≡◌, ◌∷◌, [], true, codes, length, ◌≤◌, ◌<◌, MatchOption, IfSome};
 ghost use Rattle.std.specs.Option.{option_map};
 ghost use Rattle.peer_words.specs.Tokens.{tokens, trimmed};
-ghost use Rattle.uci_lines.specs.Cuts.{cut, is_word, is_choice};
+ghost use Rattle.uci_lines.specs.Cuts.{found_token, is_word, is_choice};
 ghost use Rattle.uci_lines.specs.Choices.{values, before_choice, from_choice, default_value};
 ghost use Rattle.uci_lines.specs.Options.{is_on, text_after, shape_named, option_with, option_said};
 ghost use Rattle.uci_lines.specs.Writable.{CanWrite};
@@ -14,7 +14,7 @@ use crate::range::read_range;
 use peer_words::{split_token, trim};
 
 fn is_on(text: &[u8]) -> bool
-    ensures { result ≡ is_on (cut (is_word (codes "default")) true text.now) }
+    ensures { result ≡ is_on (found_token (is_word (codes "default")) true text.now) }
 {
     match find_word(text, Delimiter::Default) {
         Some(found) => is_word(split_token(found.after).0, "true"),
@@ -23,7 +23,7 @@ fn is_on(text: &[u8]) -> bool
 }
 
 fn text_default(text: &[u8]) -> &[u8]
-    ensures { result.now ≡ text_after (cut (is_word (codes "default")) true text.now) }
+    ensures { result.now ≡ text_after (found_token (is_word (codes "default")) true text.now) }
 {
     match find_word(text, Delimiter::Default) {
         Some(found) => {
@@ -36,7 +36,7 @@ fn text_default(text: &[u8]) -> &[u8]
 
 /// What is before the first `default` or `var`.
 fn before_choice(text: &[u8]) -> &[u8]
-    ensures { result.now ≡ before_choice (cut is_choice true text.now) text.now }
+    ensures { result.now ≡ before_choice (found_token is_choice true text.now) text.now }
 {
     match find_word(text, Delimiter::Choice) {
         Some(found) => found.before,
@@ -55,8 +55,9 @@ fn combo_default(text: &[u8]) -> &[u8]
 
 /// What is before the first `default` or `var`, trimmed, and what begins with it.
 fn split_choice(text: &[u8]) -> (&[u8], &[u8])
-    ensures value { result.0.now ≡ trimmed (before_choice (cut is_choice true text.now) text.now) }
-    ensures others { result.1.now ≡ from_choice (cut is_choice true text.now) text.now }
+    ensures value { result.0.now
+        ≡ trimmed (before_choice (found_token is_choice true text.now) text.now) }
+    ensures others { result.1.now ≡ from_choice (found_token is_choice true text.now) text.now }
     ensures shorter { length result.1.now ≤ length text.now }
 {
     match find_word(text, Delimiter::Choice) {
@@ -109,7 +110,8 @@ fn read_kind<'a>(word: &[u8], text: &'a [u8]) -> Option<OptionKind<'a>>
 }
 
 fn option_after(text: &[u8]) -> Option<OptionMsg<'_>>
-    ensures { declared_by result ≡ option_with (cut (is_word (codes "type")) true text.now) }
+    ensures { declared_by result
+        ≡ option_with (found_token (is_word (codes "type")) true text.now) }
 {
     let found = find_word(text, Delimiter::Kind)?;
     let (word, others) = split_token(found.after);

@@ -5,7 +5,7 @@ use Rattle.std.specs.Option.{option_map}
 use Rattle.std.proofs.lemmas.Bool.{and_parts, not-true}
 use Rattle.peer_words.specs.Tokens.{tokens, trimmed}
 use Rattle.peer_words.proofs.TokenLists.{tokens_trimmed}
-use Rattle.uci_lines.specs.Cuts.{Found, cut}
+use Rattle.uci_lines.specs.Cuts.{Found, found_token}
 use Rattle.uci_lines.specs.Spells.{IsNoneOf}
 use Rattle.uci_lines.proofs.CutTokens.{cut_tokens}
 use Rattle.uci_lines.proofs.FirstTokens.{cut_first, cut_none}
@@ -40,7 +40,7 @@ pub record Splits (text before behind : List ℕ) : Type 0 where
   pub before_is : tokens before ≡ before_moves (tokens text)
   pub behind_is : tokens behind ≡ behind_moves (tokens text)
 
-splits_part : (text : List ℕ) (part : Found) → cut is_moves true text ≡ Some part → Splits text part.before (trimmed part.after)
+splits_part : (text : List ℕ) (part : Found) → found_token is_moves true text ≡ Some part → Splits text part.before (trimmed part.after)
 splits_part text part h =
     let cut_is = cut_tokens is_moves text part refl h in
     let first = cut_first is_moves text part refl h in
@@ -57,7 +57,7 @@ back_of : Option (List ℕ × List ℕ) → List ℕ
 back_of None = []
 back_of (Some parts) = parts.1
 
-some_at : (text before after : List ℕ) (o : Option Found) → cut is_moves true text ≡ o → Some (before, after) ≡ option_map sides o → Splits text before (trimmed after)
+some_at : (text before after : List ℕ) (o : Option Found) → found_token is_moves true text ≡ o → Some (before, after) ≡ option_map sides o → Splits text before (trimmed after)
 unfolding front_of back_of
 some_at text before after None e h = absurd (cc)
 some_at text before after (Some part) e h =
@@ -66,14 +66,14 @@ some_at text before after (Some part) e h =
     let back : after ≡ part.after = ap back_of h in
     record { before_is = ap tokens front ∙ s.before_is; behind_is = ap (λ t. tokens (trimmed t)) back ∙ s.behind_is }
 
-pub splits_some : (text before after : List ℕ) → Some (before, after) ≡ option_map sides (cut is_moves true text) → Splits text before (trimmed after)
-splits_some text before after h = some_at text before after (cut is_moves true text) refl h
+pub splits_some : (text before after : List ℕ) → Some (before, after) ≡ option_map sides (found_token is_moves true text) → Splits text before (trimmed after)
+splits_some text before after h = some_at text before after (found_token is_moves true text) refl h
 
-none_at : (text : List ℕ) (o : Option Found) → cut is_moves true text ≡ o → None ≡ option_map sides o → Splits text text []
+none_at : (text : List ℕ) (o : Option Found) → found_token is_moves true text ≡ o → None ≡ option_map sides o → Splits text text []
 none_at text (Some part) e h = absurd (cc)
 none_at text None e h =
     let none = cut_none is_moves text e in
     record { before_is = sym (before_none (tokens text) none); behind_is = sym (behind_none (tokens text) none) }
 
-pub splits_none : (text : List ℕ) → None ≡ option_map sides (cut is_moves true text) → Splits text text []
-splits_none text h = none_at text (cut is_moves true text) refl h
+pub splits_none : (text : List ℕ) → None ≡ option_map sides (found_token is_moves true text) → Splits text text []
+splits_none text h = none_at text (found_token is_moves true text) refl h

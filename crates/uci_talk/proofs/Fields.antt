@@ -6,7 +6,7 @@ use Rattle.chess_board.specs.declared.board.Side.{Side}
 use Rattle.chess_board.specs.declared.board.Rights.{Rights}
 use Rattle.chess_board.specs.Board.{Men}
 use Rattle.chess_board.specs.Position.{Position}
-use Rattle.fen_text.specs.Fen.{position_of_fields, spelled}
+use Rattle.fen_text.specs.Fen.{position_of_fields, position_from_fields}
 use Rattle.fen_text.specs.Fields.{side_of, rights_of, passant_of, count_of}
 use Rattle.fen_text.specs.Squares.{board_of}
 use Rattle.uci_lines.specs.Spells.{IsNoneOf}
@@ -23,7 +23,7 @@ record AreSome (men : Option Men) (side : Option Side) (rights : Option Rights) 
   full_is : is_some full ≡ true
 
 all_some : (men : Option Men) (side : Option Side) (rights : Option Rights) (passant : Option (Option ℕ)) (half full : Option ℕ) (p : Position)
-    → spelled men side rights passant half full ≡ Ok p → AreSome men side rights passant half full
+    → position_from_fields men side rights passant half full ≡ Ok p → AreSome men side rights passant half full
 all_some None side rights passant half full p h = absurd (cc)
 all_some (Some men) None rights passant half full p h = absurd (cc)
 all_some (Some men) (Some side) None passant half full p h = absurd (cc)

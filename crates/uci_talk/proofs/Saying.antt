@@ -14,7 +14,7 @@ use Rattle.fen_text.specs.Fen.{position_of_fields}
 use Rattle.uci_lines.specs.Cuts.{is_word}
 use Rattle.uci_lines.specs.Spells.{IsNoneOf}
 use Rattle.uci_lines.proofs.Counts.{same_text}
-use Rattle.uci_talk.specs.Lines.{Line, played, played_if_legal, led, is_moves, before_moves, behind_moves, if_right, standard_if_alone, start_in, line_to, line_from, line_in}
+use Rattle.uci_talk.specs.Lines.{Line, moved_position, played_if_legal, position_after_texts, is_moves, before_moves, behind_moves, if_right, standard_if_alone, start_in, line_to, line_from, line_in}
 use Rattle.uci_talk.specs.Speaks.{Leads, Starts, Speaks}
 use Rattle.uci_talk.proofs.Cuts.{before_at, before_none, behind_at, behind_none}
 use Rattle.chess_board.proofs.LegalMoves.{is_legal, legal_is}
@@ -23,24 +23,24 @@ use Rattle.uci_talk.proofs.Fields.{fields_none}
 
 -- MOVES
 
-leads_legal : (b : Bool) (ts : List (List ℕ)) (t : List ℕ) (p q : Position) (m : Move) → move_of t ≡ Some m → legal p m ≡ b → ((r : Position) → led ts (Some r) ≡ Some q → Leads r ts q) → led ts (cond b (Some (played p m)) None) ≡ Some q → Leads p (t ∷ ts) q
-leads_legal true ts t p q m e l i h = Leads.Goes m (move_spells t m e) (is_legal p m l) (i (played p m) h)
+leads_legal : (b : Bool) (ts : List (List ℕ)) (t : List ℕ) (p q : Position) (m : Move) → move_of t ≡ Some m → legal p m ≡ b → ((r : Position) → position_after_texts ts (Some r) ≡ Some q → Leads r ts q) → position_after_texts ts (cond b (Some (moved_position p m)) None) ≡ Some q → Leads p (t ∷ ts) q
+leads_legal true ts t p q m e l i h = Leads.Goes m (move_spells t m e) (is_legal p m l) (i (moved_position p m) h)
 leads_legal false ts t p q m e l i h = let none = led_none ts in absurd (cc)
 
-leads_text : (o : Option Move) (ts : List (List ℕ)) (t : List ℕ) (p q : Position) → move_of t ≡ o → ((r : Position) → led ts (Some r) ≡ Some q → Leads r ts q) → led ts (played_if_legal p o) ≡ Some q → Leads p (t ∷ ts) q
+leads_text : (o : Option Move) (ts : List (List ℕ)) (t : List ℕ) (p q : Position) → move_of t ≡ o → ((r : Position) → position_after_texts ts (Some r) ≡ Some q → Leads r ts q) → position_after_texts ts (played_if_legal p o) ≡ Some q → Leads p (t ∷ ts) q
 leads_text None ts t p q e i h = let none = led_none ts in absurd (cc)
 leads_text (Some m) ts t p q e i h = leads_legal (legal p m) ts t p q m e refl i h
 
-led_leads : (ts : List (List ℕ)) (p q : Position) → led ts (Some p) ≡ Some q → Leads p ts q
+led_leads : (ts : List (List ℕ)) (p q : Position) → position_after_texts ts (Some p) ≡ Some q → Leads p ts q
 led_leads [] p q h = let same : p ≡ q = cc in subst (λ (r : Position). Leads p [] r) same Leads.Stays
 led_leads (t ∷ ts) p q h = leads_text (move_of t) ts t p q refl (λ r k. led_leads ts r q k) h
 
-leads_led : (p : Position) (ts : List (List ℕ)) (q : Position) → Leads p ts q → led ts (Some p) ≡ Some q
+leads_led : (p : Position) (ts : List (List ℕ)) (q : Position) → Leads p ts q → position_after_texts ts (Some p) ≡ Some q
 leads_led p _ _ Leads.Stays = refl
 leads_led p _ q (Leads.Goes {t = t} {ts = ts} m s l h) =
-    ap (λ o. led ts (played_if_legal p o)) (spells_move t m s)
-    ∙ ap (λ b. led ts (cond b (Some (played p m)) None)) (legal_is p m l)
-    ∙ leads_led (played p m) ts q h
+    ap (λ o. position_after_texts ts (played_if_legal p o)) (spells_move t m s)
+    ∙ ap (λ b. position_after_texts ts (cond b (Some (moved_position p m)) None)) (legal_is p m l)
+    ∙ leads_led (moved_position p m) ts q h
 
 -- THE START
 
@@ -91,9 +91,9 @@ whole (t ∷ ts) = whole_by (is_moves t) t ts refl (whole ts)
 record Parts (start : Option Position) (moves : List (List ℕ)) (said : Line) : Type 0 where
   start_is : start ≡ Some said.start
   moves_are : moves ≡ said.moves
-  led_to : led moves (Some said.start) ≡ Some said.end
+  led_to : position_after_texts moves (Some said.start) ≡ Some said.end
 
-parts_to : (p : Position) (moves : List (List ℕ)) (o : Option Position) (said : Line) → led moves (Some p) ≡ o → line_to p moves o ≡ Some said → Parts (Some p) moves said
+parts_to : (p : Position) (moves : List (List ℕ)) (o : Option Position) (said : Line) → position_after_texts moves (Some p) ≡ o → line_to p moves o ≡ Some said → Parts (Some p) moves said
 parts_to p moves None said e h = absurd (cc)
 parts_to p moves (Some q) said e h =
     let same : record { start = p; moves = moves; end = q } ≡ said = some_same h in
@@ -102,7 +102,7 @@ parts_to p moves (Some q) said e h =
     record {
       start_is = ap Some start;
       moves_are = ap (λ (l : Line). l.moves) same;
-      led_to = ap (λ r. led moves (Some r)) (sym start) ∙ e ∙ ap Some end;
+      led_to = ap (λ r. position_after_texts moves (Some r)) (sym start) ∙ e ∙ ap Some end;
     }
   where
     some_same : {A : Type 0} {a b : A} → Some a ≡ Some b → a ≡ b
@@ -110,7 +110,7 @@ parts_to p moves (Some q) said e h =
 
 parts_from : (start : Option Position) (moves : List (List ℕ)) (said : Line) → line_from start moves ≡ Some said → Parts start moves said
 parts_from None moves said h = absurd (cc)
-parts_from (Some p) moves said h = parts_to p moves (led moves (Some p)) said refl h
+parts_from (Some p) moves said h = parts_to p moves (position_after_texts moves (Some p)) said refl h
 
 pub line_speaks : (ts : List (List ℕ)) (said : Line) → line_in ts ≡ Some said → Speaks ts said
 line_speaks ts said h =

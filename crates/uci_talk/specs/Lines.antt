@@ -17,18 +17,18 @@ pub record Line : Type 0 where
   pub end : Position
 
 -- the position after a move
-abbrev pub played : Position → Move → Position
-played p m = position_after p m.from.index m.to.index m.promotion
+abbrev pub moved_position : Position → Move → Position
+moved_position p m = position_after p m.from.index m.to.index m.promotion
 
 abbrev pub played_if_legal : Position → Option Move → Option Position
 played_if_legal p None = None
-played_if_legal p (Some m) = if legal p m then Some (played p m) else None
+played_if_legal p (Some m) = if legal p m then Some (moved_position p m) else None
 
 -- the position after the moves of these texts, if each is legal in its turn
-abbrev pub led : List (List ℕ) → Option Position → Option Position
-led [] p = p
-led (t ∷ ts) None = None
-led (t ∷ ts) (Some p) = led ts (played_if_legal p (move_of t))
+abbrev pub position_after_texts : List (List ℕ) → Option Position → Option Position
+position_after_texts [] p = p
+position_after_texts (t ∷ ts) None = None
+position_after_texts (t ∷ ts) (Some p) = position_after_texts ts (played_if_legal p (move_of t))
 
 abbrev pub is_moves : List ℕ → Bool
 is_moves t = is_word (codes "moves") t
@@ -68,7 +68,7 @@ line_to p moves (Some q) = Some (record { start = p; moves = moves; end = q })
 
 abbrev pub line_from : Option Position → List (List ℕ) → Option Line
 line_from None moves = None
-line_from (Some p) moves = line_to p moves (led moves (Some p))
+line_from (Some p) moves = line_to p moves (position_after_texts moves (Some p))
 
 -- what the tokens after `position` say
 abbrev pub line_in : List (List ℕ) → Option Line

@@ -7,13 +7,13 @@ use Rattle.chess_board.specs.Laws.{IsLegal}
 use Rattle.chess_board.specs.Play.{start_position}
 use Rattle.chess_board.specs.Text.{Spells}
 use Rattle.fen_text.specs.Fen.{position_of_fields}
-use Rattle.uci_talk.specs.Lines.{Line, played}
+use Rattle.uci_talk.specs.Lines.{Line, moved_position}
 
 -- The moves that these texts spell, each legal in its turn, lead from a position to another.
 pub data Leads : Position → List (List ℕ) → Position → Type 0 where
   Stays : {p : Position} → Leads p [] p
   Goes : {p q : Position} → {t : List ℕ} → {ts : List (List ℕ)} → (m : Move)
-      → Spells t m → IsLegal p m.from.index m.to.index m.promotion → Leads (played p m) ts q → Leads p (t ∷ ts) q
+      → Spells t m → IsLegal p m.from.index m.to.index m.promotion → Leads (moved_position p m) ts q → Leads p (t ∷ ts) q
 
 -- `startpos`, or `fen` and the fields of a position
 pub data Starts : List (List ℕ) → Position → Type 0 where

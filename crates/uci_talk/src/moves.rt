@@ -3,14 +3,14 @@ ghost use Rattle.std.specs.Prelude.{◌≡◌, Some, true};
 ghost use Rattle.peer_words.specs.Tokens.{tokens};
 ghost use Rattle.chess_board.specs.Place.{legal};
 ghost use Rattle.chess_board.specs.Spelling.{move_of};
-ghost use Rattle.uci_talk.specs.Lines.{led, played, played_if_legal};
+ghost use Rattle.uci_talk.specs.Lines.{position_after_texts, moved_position, played_if_legal};
 
 use chess_board::{Move, Position, read_move};
 use peer_words::next_token;
 
 fn play(at: &Position, m: Move) -> Position
     requires { legal at.now m ≡ true }
-    ensures { result ≡ played at.now m }
+    ensures { result ≡ moved_position at.now m }
 {
     at.play(m)
 }
@@ -25,7 +25,7 @@ fn play_text(at: &Position, text: &[u8]) -> Option<Position>
 
 /// The position after the moves of a text, if each is legal in its turn.
 pub fn play_all(start: Position, moves: &[u8]) -> Option<Position>
-    ensures { result ≡ led (tokens moves.now) (Some start) }
+    ensures { result ≡ position_after_texts (tokens moves.now) (Some start) }
 {
     let mut at = start;
     let mut others = moves;

@@ -3,7 +3,7 @@ ghost use Rattle.std.specs.Prelude.{◌≡◌, ◌∷◌, ◌<◌, [], length, d
 ghost use Rattle.std.specs.List.{before_first};
 ghost use Rattle.std.specs.Option.{option_map};
 ghost use Rattle.peer_words.specs.Tokens.{tokens, is_white, token_end};
-ghost use Rattle.uci_lines.specs.Cuts.{cut};
+ghost use Rattle.uci_lines.specs.Cuts.{found_token};
 ghost use Rattle.uci_talk.specs.Lines.{before_moves, behind_moves, is_moves, sides};
 
 use peer_words::{is_white, next_token, split_at_white, trim};
@@ -21,7 +21,7 @@ pub(crate) fn behind_first(line: &[u8]) -> &[u8]
 /// What is before and after the first token `moves`.
 fn find_moves(text: &[u8]) -> Option<(&[u8], &[u8])>
     ensures { option_map (λ p. (p.0.now, p.1.now)) result
-        ≡ option_map sides (cut is_moves true text.now) }
+        ≡ option_map sides (found_token is_moves true text.now) }
 {
     let mut is_fresh = true;
     for (i, byte) in text.iter().enumerate() {

@@ -10,7 +10,7 @@ use Rattle.clap.specs.Words.{Row}
 use Rattle.event_pipe.specs.declared.message.Peer.TheVariants as peers
 use Rattle.event_pipe.specs.Arrivals.{line_limit, piece_event}
 use Rattle.event_pipe.specs.Message.{is_end}
-use Rattle.event_pipe.specs.Rule.{ended}
+use Rattle.event_pipe.specs.Rule.{has_last_event}
 use Rattle.line_io.specs.Event.{has_feed}
 use Rattle.line_io.specs.Lines.{Whole, TooLong, is_feed, parts, piece_of, line_feed}
 use Rattle.mediator.specs.First.{AreOpening, first_events}
@@ -46,7 +46,7 @@ no_end false line h = refl
 both : (a b : Bool) → a ≡ false → b ≡ false → (a || b) ≡ false
 both a b e f = rw (e, f) refl
 
-lines_open : (os : List (List ℕ)) → list_any has_feed os ≡ false → ended (first_events (flat_map option_line os)) ≡ false
+lines_open : (os : List (List ℕ)) → list_any has_feed os ≡ false → has_last_event (first_events (flat_map option_line os)) ≡ false
 lines_open [] h = refl
 lines_open (o ∷ os) h =
     let n = neither _ _ h in
@@ -54,7 +54,7 @@ lines_open (o ∷ os) h =
     let rest = flat_map option_line os in
     let cut : parts (option_line o ++ rest) ≡ line ∷ parts rest =
     ap parts (append_assoc line (line_feed ∷ []) rest) ∙ parts_line line rest n.0 in
-    ap (λ (ps : List (List ℕ)). ended (map (piece_event peers.Iface) (map (piece_of line_limit) ps))) cut
+    ap (λ (ps : List (List ℕ)). has_last_event (map (piece_event peers.Iface) (map (piece_of line_limit) ps))) cut
     ∙ both _ _ (no_end (nat_le (length line) line_limit) line (option_is_no_quit o)) (lines_open os n.1)
 
 pub are_opening : (rows : List Row) → has_feed_within rows ≡ false → AreOpening (first_lines rows)

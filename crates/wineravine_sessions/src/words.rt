@@ -85,7 +85,7 @@ const RUNS: [Asked; 7] = [
         engine: &["toy"],
         ..ALONE
     },
-    // all behind the engine is its own
+    // all after the engine is its own
     Asked {
         words: &["toy", "-c", "--Resign", "x"],
         engine: &["toy", "-c", "--Resign", "x"],

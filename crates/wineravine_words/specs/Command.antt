@@ -26,7 +26,7 @@ abbrev pub set_option_rule : Rule
 set_option_rule =
     record (new_rule (codes "Option")) { long = Some (codes "Option"); action = Some Append; value_names = 1 }
 
--- the engine's program, and behind it all words, whatever these are
+-- the engine's program, and after it all words, whatever these are
 abbrev pub engine_rule : Rule
 engine_rule =
     record (new_rule (codes "ENGINE")) {

@@ -211,7 +211,7 @@ fn run_of(alloc: Global, found: &ArgMatches) -> Result<WineravineRequest, WrongW
     }
 }
 
-/// Reads the words behind the program's name.
+/// Reads the words after the program's name.
 pub fn read_words(alloc: Global, words: &[Vec<u8>]) -> Result<AskedProgram, WrongWords>
     ensures asked { IfOk result (Ask (bytes_of words.now)) }
     ensures wrong { IfErr result (Fail (bytes_of words.now)) }

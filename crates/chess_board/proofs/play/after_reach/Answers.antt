@@ -2,7 +2,7 @@ use Rattle.std.proofs.Common.{◌≡◌, true, false, sym, ap, ◌∙◌}
 use Rattle.chess_board.specs.declared.board.Side.{Side}
 use Rattle.chess_board.specs.Position.{Position}
 use Rattle.chess_board.specs.Rules.{promotes}
-use Rattle.chess_board.specs.Play.{settled}
+use Rattle.chess_board.specs.Play.{with_legal_passant}
 use Rattle.chess_board.proofs.Tried.{checked_same, left_unfit, left_unsafe, left_some}
 use Rattle.chess_board.proofs.play.after_reach.Goals as goal
 
@@ -31,4 +31,4 @@ returns c =
     let fit : promotes p.side c.args.kind m.to.index m.promotion ≡ true = ap (λ (s : Side). promotes s c.args.kind m.to.index m.promotion) (sym side) ∙ sym c.has_promotion.ensures ∙ c.if-not-has_promotion.false in
     let men = ap (λ (q : Position). q.men) (c.left.view_is ∙ c.followed-left.ensures.value) in
     left_some p m c.args.kind c.settle.result c.requires.man c.requires.reach fit (checked_same _ false _ _ _ _ c.is_in_check.ensures men side c.if-is_in_check.false)
-    (c.settle.ensures ∙ ap settled c.followed-left.ensures.value)
+    (c.settle.ensures ∙ ap with_legal_passant c.followed-left.ensures.value)

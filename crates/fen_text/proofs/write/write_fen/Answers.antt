@@ -2,7 +2,7 @@
 use Rattle.std.proofs.Common.{◌≡◌, List, ℕ, Option, decimal, ◌++◌, ◌∷◌, [], ap, ◌∙◌, append_assoc}
 use Rattle.chess_board.specs.declared.board.Rights.{Rights}
 use Rattle.fen_text.specs.Fen.{position_of}
-use Rattle.fen_text.specs.Written.{written, side_text, rights_text, passant_text}
+use Rattle.fen_text.specs.Written.{position_fen, side_text, rights_text, passant_text}
 use Rattle.fen_text.proofs.Back.{reads_back}
 use Rattle.fen_text.proofs.write.write_fen.Goals as goal
 
@@ -12,7 +12,7 @@ assembled b s r q h f t0 t1 t2 t3 t4 t5 t6 t7 t8 t9 t10 t11 e0 e1 e2 e3 e4 e5 e6
     rw (e11, e10, e9, e8, e7, e6, e5, e4, e3, e2, e1, e0) (simp append_assoc)
 
 pub returns-clause-text : goal.returns-clause-text
-unfolding written
+unfolding position_fen
 returns-clause-text c =
     assembled _ _ _ _ _ _ _ _ _ _ _ _ _ _ _ _ _ _ c.new-text.ensures c.write_board.ensures.text c.push.ensures.items
     (c.push-2.ensures.items ∙ ap (λ (s : List ℕ). c.push.new.self.items ++ s) (c.side_letter.ensures ∙ ap side_text c.side.ensures)) c.push-3.ensures.items

@@ -1,4 +1,4 @@
--- Behind the place the position does not stand.
+-- After the place the position does not stand.
 use Rattle.std.proofs.Common.{◌≡◌, ◌≤◌, drop}
 use Rattle.game_record.specs.Ending.{stood_in}
 use Rattle.game_record.proofs.game.last_stood.Given as goal

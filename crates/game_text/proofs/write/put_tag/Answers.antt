@@ -2,7 +2,7 @@ use Rattle.std.proofs.Common.{◌∙◌, ap, sym, true, false, length, arith}
 use Rattle.std.specs.Prelude.{codes}
 use Rattle.line_io.specs.Out.{with}
 use Rattle.line_io.proofs.Puts.{put_none, put_three}
-use Rattle.fen_text.specs.Written.{written}
+use Rattle.fen_text.specs.Written.{position_fen}
 use Rattle.fen_text.proofs.Lengths.{length-written}
 use Rattle.game_record.proofs.Lines.{after_put}
 use Rattle.game_text.proofs.Spaced.{tag_by}
@@ -15,7 +15,7 @@ returns-then-is_standard-clause-text c =
 
 pub returns-clause-text : goal.returns-clause-text
 returns-clause-text c =
-    put_three c.args.out.now c.put.new.self c.put-2.new.self c.put-3.new.self (codes "[FEN \"") (written c.args.start.now) (codes "\"]\n")
+    put_three c.args.out.now c.put.new.self c.put-2.new.self c.put-3.new.self (codes "[FEN \"") (position_fen c.args.start.now) (codes "\"]\n")
     c.put.ensures (c.put-2.ensures ∙ ap (with c.put.new.self) (c.as_slice.ensures.value ∙ c.write_fen.ensures.text)) c.put-3.ensures
     ∙ ap (with c.args.out.now) (sym (tag_by c.is_standard.result false c.args.start.now c.is_standard.ensures c.if-is_standard.false))
 

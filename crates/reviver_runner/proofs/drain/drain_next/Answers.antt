@@ -1,6 +1,6 @@
 use Rattle.std.proofs.Common.{◌∙◌, ◌++◌, ◌∷◌, [], ap, refl, sym}
 use Rattle.line_io.specs.Event.{Event, event_of}
-use Rattle.event_pipe.specs.Ends.{taken}
+use Rattle.event_pipe.specs.Ends.{events_taken}
 use Rattle.event_pipe.specs.Message.{is_good}
 use Rattle.reviver_runner.proofs.DrainSteps.{order_heard, may_order, drained_order, drained_passed}
 use Rattle.reviver_runner.proofs.drain.drain_next.Goals as goal
@@ -17,8 +17,8 @@ hear-requires-clause-good g c = ap is_good c.event-event.ensures ∙ c.take-sent
 pub returns-then-is_order-clause-drained : goal.returns-then-is_order-clause-drained
 returns-then-is_order-clause-drained g c =
     drained_order _ _ (event_of c.event-event.result) (sym c.is_order.ensures ∙ c.if-is_order.true) c.requires.over
-    (c.take-sent.ensures.gets ∙ ap (λ (e : Event). taken c.args.looping.now.from ++ e ∷ []) (sym c.event-event.ensures)) c.hear.ensures.state c.hear.ensures.offers.output c.hear.ensures.offers.log
+    (c.take-sent.ensures.gets ∙ ap (λ (e : Event). events_taken c.args.looping.now.from ++ e ∷ []) (sym c.event-event.ensures)) c.hear.ensures.state c.hear.ensures.offers.output c.hear.ensures.offers.log
 
 pub returns-in-IfaceLong-clause-drained : goal.returns-in-IfaceLong-clause-drained
 returns-in-IfaceLong-clause-drained g c =
-    drained_passed _ _ c.requires.over refl (c.take-sent.ensures.gets ∙ ap (λ (e : Event). taken c.args.looping.now.from ++ e ∷ []) (sym c.event-event.ensures ∙ ap event_of c.in-IfaceLong.is))
+    drained_passed _ _ c.requires.over refl (c.take-sent.ensures.gets ∙ ap (λ (e : Event). events_taken c.args.looping.now.from ++ e ∷ []) (sym c.event-event.ensures ∙ ap event_of c.in-IfaceLong.is))

@@ -1,9 +1,9 @@
--- A life goes on, behind those that have ended.
+-- A life goes on, after those that have ended.
 use Rattle.std.proofs.Common.{◌≡◌, ◌+◌}
 use Rattle.std.specs.Prelude.{map, string_bytes}
 use Rattle.std.specs.VecDeque.{deque_len, deque_capacity}
-use Rattle.event_pipe.specs.Ends.{sent}
-use Rattle.life_runner.specs.Looped.{shown}
+use Rattle.event_pipe.specs.Ends.{events_sent}
+use Rattle.life_runner.specs.Looped.{loop_reports}
 use Rattle.reviver_runner.specs.Lives.{Goes, GoesOn, HostGoes, host_shown}
 use Rattle.reviver_runner.specs.Parts.{KeepsEnds}
 use Rattle.reviver_runner.proofs.outcome.run_lives.Given as goal
@@ -19,6 +19,6 @@ invariant-loop g l = record {
   host : HostGoes (map string_bytes l.fn.runs.words.items) (host_shown g.H.Host.books g.H.Host.faults g.H.Host.asked l.fn.host)
       (host_shown g.H.Host.books g.H.Host.faults g.H.Host.asked l.host) (deque_len l.runs.ended);
   going : GoesOn g.H.EngineSource.Source.state g.H.EngineSink.Sink.state (g.H.Host.books l.fn.host).says (g.H.Host.books l.fn.host).tells
-      (shown g.O.Sink.state g.H.Log.Sink.state l.fn.parts.looping l.fn.output) (shown g.O.Sink.state g.H.Log.Sink.state l.parts.looping l.output)
-      (sent l.parts.to) l.runs.ended.items l.runs.tally l.run;
+      (loop_reports g.O.Sink.state g.H.Log.Sink.state l.fn.parts.looping l.fn.output) (loop_reports g.O.Sink.state g.H.Log.Sink.state l.parts.looping l.output)
+      (events_sent l.parts.to) l.runs.ended.items l.runs.tally l.run;
 }

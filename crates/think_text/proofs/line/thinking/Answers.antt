@@ -7,7 +7,7 @@ use Rattle.uci_lines.specs.Info.{info_of}
 use Rattle.chess_board.specs.declared.board.Move.{Move}
 use Rattle.chess_board.specs.Position.{Position}
 use Rattle.cecp_lines.specs.Replies.{Reply, reply_of, reply_text, HasWritableMoves}
-use Rattle.think_text.specs.Line.{legal_run, played, spaced, written}
+use Rattle.think_text.specs.Line.{legal_run, moved_position, spaced_moves, written}
 use Rattle.think_text.proofs.Heard.{score_small}
 use Rattle.think_text.proofs.Lines.{told_front, front_fits, line_done}
 use Rattle.think_text.proofs.line.thinking.Goals as goal
@@ -23,7 +23,7 @@ write_reply-requires-clause-room c =
     let s = c.args.spelling in
     let p = c.args.at.now in
     let first : Move = c.in-Some.first.m in
-    let later : List Move = legal_run (played p first) (run (tokens c.in-Some.first.others.now)) in
+    let later : List Move = legal_run (moved_position p first) (run (tokens c.in-Some.first.others.now)) in
     let told = told_front s (info_of c.args.info.now) c.in-Some-Some.depth c.in-Some-Some.score c.args.hint (written s p first) _ _ _ c.front_of-front.ensures
     (c.bytes_of.ensures ∙ c.hint_text-hint.ensures) (c.as_slice.ensures.value ∙ c.written-text.ensures) in
     let fits = front_fits c.args.out.now s (info_of c.args.info.now) p c.args.hint c.in-Some-Some.depth c.in-Some-Some.score first later
@@ -35,14 +35,14 @@ write_moves-requires c =
     let s = c.args.spelling in
     let p = c.args.at.now in
     let first : Move = c.in-Some.first.m in
-    let later : List Move = legal_run (played p first) (run (tokens c.in-Some.first.others.now)) in
+    let later : List Move = legal_run (moved_position p first) (run (tokens c.in-Some.first.others.now)) in
     let front : Reply = reply_of c.front_of-front.result in
     let told = told_front s (info_of c.args.info.now) c.in-Some-Some.depth c.in-Some-Some.score c.args.hint (written s p first) _ _ _ c.front_of-front.ensures
     (c.bytes_of.ensures ∙ c.hint_text-hint.ensures) (c.as_slice.ensures.value ∙ c.written-text.ensures) in
     let fits = front_fits c.args.out.now s (info_of c.args.info.now) p c.args.hint c.in-Some-Some.depth c.in-Some-Some.score first later
     front c.in-Some-Some.is-0 c.in-Some-Some.is-1 c.in-Some.ensures.2 told c.requires.room in
-    let left : length (spaced s c.in-Some.first.after (legal_run c.in-Some.first.after (run (tokens c.in-Some.first.others.now)))) ≡ length (spaced s (played p first) later) =
-    ap (λ (q : Position). length (spaced s q (legal_run q (run (tokens c.in-Some.first.others.now))))) c.in-Some.ensures.1 in
+    let left : length (spaced_moves s c.in-Some.first.after (legal_run c.in-Some.first.after (run (tokens c.in-Some.first.others.now)))) ≡ length (spaced_moves s (moved_position p first) later) =
+    ap (λ (q : Position). length (spaced_moves s q (legal_run q (run (tokens c.in-Some.first.others.now))))) c.in-Some.ensures.1 in
     rw c.write_reply.ensures (omega (arith, fits, left, length-append c.args.out.now.text (reply_text front)))
 
 pub returns-clause-text : goal.returns-clause-text
@@ -50,13 +50,13 @@ returns-clause-text c =
     let s = c.args.spelling in
     let p = c.args.at.now in
     let first : Move = c.in-Some.first.m in
-    let later : List Move = legal_run (played p first) (run (tokens c.in-Some.first.others.now)) in
+    let later : List Move = legal_run (moved_position p first) (run (tokens c.in-Some.first.others.now)) in
     let front : Reply = reply_of c.front_of-front.result in
     let told = told_front s (info_of c.args.info.now) c.in-Some-Some.depth c.in-Some-Some.score c.args.hint (written s p first) _ _ _ c.front_of-front.ensures
     (c.bytes_of.ensures ∙ c.hint_text-hint.ensures) (c.as_slice.ensures.value ∙ c.written-text.ensures) in
-    let left : spaced s c.in-Some.first.after (legal_run c.in-Some.first.after (run (tokens c.in-Some.first.others.now))) ≡ spaced s (played p first) later =
-    ap (λ (q : Position). spaced s q (legal_run q (run (tokens c.in-Some.first.others.now)))) c.in-Some.ensures.1 in
-    c.write_moves.ensures ∙ ap (λ (out : Text). with out (spaced s c.in-Some.first.after (legal_run c.in-Some.first.after (run (tokens c.in-Some.first.others.now))))) c.write_reply.ensures
+    let left : spaced_moves s c.in-Some.first.after (legal_run c.in-Some.first.after (run (tokens c.in-Some.first.others.now))) ≡ spaced_moves s (moved_position p first) later =
+    ap (λ (q : Position). spaced_moves s q (legal_run q (run (tokens c.in-Some.first.others.now)))) c.in-Some.ensures.1 in
+    c.write_moves.ensures ∙ ap (λ (out : Text). with out (spaced_moves s c.in-Some.first.after (legal_run c.in-Some.first.after (run (tokens c.in-Some.first.others.now))))) c.write_reply.ensures
     ∙ ap (λ (t : List ℕ). with (with c.args.out.now (reply_text front)) t) left
     ∙ line_done c.args.out.now s (info_of c.args.info.now) p c.args.hint c.in-Some-Some.depth c.in-Some-Some.score first later
     front c.in-Some-Some.is-0 c.in-Some-Some.is-1 c.in-Some.ensures.2 told

@@ -2,12 +2,12 @@
 use Rattle.std.proofs.Common.{◌≡◌, ◌++◌, length}
 use Rattle.peer_words.specs.Tokens.{tokens}
 use Rattle.uci_lines.specs.Moves.{run}
-use Rattle.think_text.specs.Line.{legal_run, spaced}
+use Rattle.think_text.specs.Line.{legal_run, spaced_moves}
 use Rattle.think_text.proofs.line.write_moves.Given as goal
 
 abbrev pub invariant-loop-next : goal.invariant-loop-next
 invariant-loop-next l = record {
-  text : l.out.text ++ spaced l.spelling l.position (legal_run l.position (run (tokens l.others))) ≡ l.initial.out.text ++ spaced l.spelling l.initial.position (legal_run l.initial.position (run (tokens l.initial.others)));
+  text : l.out.text ++ spaced_moves l.spelling l.position (legal_run l.position (run (tokens l.others))) ≡ l.initial.out.text ++ spaced_moves l.spelling l.initial.position (legal_run l.initial.position (run (tokens l.initial.others)));
   room : l.out.room ≡ l.initial.out.room;
 }
 

@@ -1,11 +1,11 @@
 use Rattle.std.proofs.Common.{◌≡◌, Some, length}
 use Rattle.peer_words.specs.Tokens.{tokens}
-use Rattle.uci_talk.specs.Lines.{led}
+use Rattle.uci_talk.specs.Lines.{position_after_texts}
 use Rattle.uci_talk.proofs.moves.play_all.Given as goal
 
 -- what is left leads on to the same position
 abbrev pub invariant-loop-text : goal.invariant-loop-text
-invariant-loop-text l = led (tokens l.others) (Some l.at) ≡ led (tokens l.fn.moves) (Some l.fn.start)
+invariant-loop-text l = position_after_texts (tokens l.others) (Some l.at) ≡ position_after_texts (tokens l.fn.moves) (Some l.fn.start)
 
 abbrev pub decreases-loop-text : goal.decreases-loop-text
 decreases-loop-text l = length l.others

@@ -4,7 +4,7 @@ use Rattle.engine_revival.specs.declared.revival.TheConstants.{UP_ROOM}
 use Rattle.engine_revival.specs.Lists.{batch_text}
 use Rattle.engine_revival.specs.Dialogue.{said_in}
 use Rattle.engine_revival.specs.Rooms.{IsRoomy}
-use Rattle.engine_revival.specs.Steps.{answer_of, answer_text, given, settled_orders}
+use Rattle.engine_revival.specs.Steps.{answer_of, answer_text, line_passed_up, settled_orders}
 use Rattle.engine_revival.specs.View.{View}
 use Rattle.engine_revival.proofs.Rooms.{hearing_roomy, settled_roomy, given_short}
 use Rattle.engine_revival.proofs.Marks.{answer_short, call_marks, no_lines}
@@ -23,7 +23,7 @@ settle-requires-clause-up c =
     omega (
       arith,
       ap (λ (t : Text). length t.text) c.hear.ensures.up,
-      length-append was.up.text (given was.state c.args.line.now),
+      length-append was.up.text (line_passed_up was.state c.args.line.now),
       given_short was.state c.args.line.now,
       ap (λ (v : View). length v.up.text) c.clear.ensures,
       ap (λ (v : View). v.up.room) c.clear.ensures,
@@ -42,7 +42,7 @@ returns-clause-keeps c =
       ap (λ (t : Text). length t.text) c.settle.ensures.up,
       ap (λ (t : Text). length t.text) c.hear.ensures.up,
       length-append c.hear.new.up.text (answer_text (answer_of c.hear.new.self)),
-      length-append was.up.text (given was.state c.args.line.now),
+      length-append was.up.text (line_passed_up was.state c.args.line.now),
       given_short was.state c.args.line.now,
       answer_short (answer_of c.hear.new.self),
       ap (λ (v : View). length v.up.text) c.clear.ensures,

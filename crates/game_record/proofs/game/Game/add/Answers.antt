@@ -2,7 +2,7 @@
 use Rattle.std.proofs.Common.{◌≡◌, ℕ, ◌+◌, ◌<◌, length, refl, sym, ap, subst, ◌∙◌, arith, [], ◌∷◌}
 use Rattle.std.proofs.lemmas.List.{length-map}
 use Rattle.chess_board.specs.Position.{Position}
-use Rattle.game_record.specs.Game.{Game, ply_of, plies_of, played, IsPlayable, now_of, now_after, positions_of}
+use Rattle.game_record.specs.Game.{Game, ply_of, plies_of, position_after_ply, IsPlayable, now_of, now_after, positions_of}
 use Rattle.game_record.specs.Ending.{stood_in}
 use Rattle.game_record.specs.Keeps.{most_plies}
 use Rattle.game_record.proofs.Courses.{keeps_push}
@@ -39,4 +39,4 @@ invariant_of-self c =
     keeps_push c.self.inside.start c.self.inside.moves.items _ c.self.inside.later.items _ c.self.inside.times.items _ c.args.m c.args.after _ _ _ _ _ _ _ _ _
     c.self.invariant c.push_reserved.ensures.items c.push_reserved-2.ensures.items c.push_reserved-3.ensures.items
     c.push_reserved.ensures.capacity c.push_reserved-2.ensures.capacity c.push_reserved-3.ensures.capacity
-    (c.requires.after ∙ ap (λ (p : Position). played p (ply_of c.args.m)) now) stood end legal few
+    (c.requires.after ∙ ap (λ (p : Position). position_after_ply p (ply_of c.args.m)) now) stood end legal few

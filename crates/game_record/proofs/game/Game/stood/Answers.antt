@@ -2,7 +2,7 @@
 use Rattle.std.proofs.Common.{◌≡◌, ◌∷◌, List, length, sym, subst, ap, ◌∙◌, arith}
 use Rattle.std.proofs.lemmas.List.{length-map}
 use Rattle.chess_board.specs.Position.{Position}
-use Rattle.game_record.specs.Game.{Game, ply_of, plies_of, played, IsPlayable, now_of, now_after, positions_of}
+use Rattle.game_record.specs.Game.{Game, ply_of, plies_of, position_after_ply, IsPlayable, now_of, now_after, positions_of}
 use Rattle.game_record.specs.Ending.{stood_in}
 use Rattle.game_record.specs.Keeps.{left_behind}
 use Rattle.game_record.proofs.Replays.{length-later}
@@ -22,7 +22,7 @@ last_stood-requires-clause-behind c =
     let few = c.self.invariant.few in
     let plies = length-map moves ply_of in
     let playable = subst (λ (p : Position). IsPlayable p (ply_of c.args.m)) now c.requires.legal in
-    let after = c.requires.after ∙ ap (λ (p : Position). played p (ply_of c.args.m)) now in
+    let after = c.requires.after ∙ ap (λ (p : Position). position_after_ply p (ply_of c.args.m)) now in
     let none = new_behind start moves c.args.m c.args.after.now c.facts.ensures.position c.self.invariant.legal (omega arith) playable after in
     ap (λ (xs : List Position). stood_in c.args.after.now (left_behind c.args.after.now (start ∷ xs))) (c.as_slice.ensures.value ∙ c.self.invariant.positions_are) ∙ none
 

@@ -6,7 +6,7 @@ use Rattle.chess_board.specs.Position.{Position}
 use Rattle.line_io.specs.Out.{with}
 use Rattle.line_io.proofs.Puts.{put_three}
 use Rattle.game_record.specs.Game.{Ply, ply_of, plies_of, AreLegal}
-use Rattle.game_record.specs.Line.{start_text, told, moves_text, position_text}
+use Rattle.game_record.specs.Line.{start_text, plies_and_hint, moves_text, position_text}
 use Rattle.game_record.proofs.Lines.{after_put, line_fits, officers}
 use Rattle.game_record.proofs.game.Game.write_position.Goals as goal
 
@@ -31,13 +31,13 @@ write_told-requires-clause-room c =
     let put = after_put c.args.out.now c.put.new.self _ c.put.ensures in
     let started = after_put c.put.new.self c.write_start.new.out _ c.write_start.ensures in
     let start = ap (λ (p : Position). length (start_text p)) c.start.ensures in
-    let moves = ap (λ (ms : List Ply). length (moves_text (told ms (option_map ply_of c.args.hint)))) c.moves.ensures.moves in
+    let moves = ap (λ (ms : List Ply). length (moves_text (plies_and_hint ms (option_map ply_of c.args.hint)))) c.moves.ensures.moves in
     omega arith
 
 pub returns : goal.returns
 unfolding position_text
 returns c =
     let hint = option_map ply_of c.args.hint in
-    put_three c.args.out.now c.put.new.self c.write_start.new.out c.write_told.new.out (codes "position ") (start_text c.start.result.now) (moves_text (told (plies_of c.moves.result.now) hint)) c.put.ensures c.write_start.ensures c.write_told.ensures
-    ∙ ap (λ (p : Position). with c.args.out.now (codes "position " ++ (start_text p ++ moves_text (told (plies_of c.moves.result.now) hint)))) c.start.ensures
-    ∙ ap (λ (ms : List Ply). with c.args.out.now (codes "position " ++ (start_text c.args.self.now.start ++ moves_text (told ms hint)))) c.moves.ensures.moves
+    put_three c.args.out.now c.put.new.self c.write_start.new.out c.write_told.new.out (codes "position ") (start_text c.start.result.now) (moves_text (plies_and_hint (plies_of c.moves.result.now) hint)) c.put.ensures c.write_start.ensures c.write_told.ensures
+    ∙ ap (λ (p : Position). with c.args.out.now (codes "position " ++ (start_text p ++ moves_text (plies_and_hint (plies_of c.moves.result.now) hint)))) c.start.ensures
+    ∙ ap (λ (ms : List Ply). with c.args.out.now (codes "position " ++ (start_text c.args.self.now.start ++ moves_text (plies_and_hint ms hint)))) c.moves.ensures.moves

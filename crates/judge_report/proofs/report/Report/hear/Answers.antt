@@ -5,7 +5,7 @@ use Rattle.session_judge.specs.declared.talk.JudgedTalk.{JudgedTalk}
 use Rattle.session_judge.specs.Clean.{verdict}
 use Rattle.session_judge.specs.Rules.{broken}
 use Rattle.session_judge.specs.Talks.{after}
-use Rattle.judge_report.specs.Reports.{brought_out, summed}
+use Rattle.judge_report.specs.Reports.{brought_out, report_before_end}
 use Rattle.judge_report.specs.Texts.{unlawful_line}
 use Rattle.judge_report.proofs.Reading.{ending_ok, ending_err, put_ok, put_err, talk_ok, talk_err}
 use Rattle.judge_report.proofs.report.Report.hear.Goals as goal
@@ -27,7 +27,7 @@ returns-clause-put c =
           w.text-is
           ∙ put_err c.args.self.now n d (broken c.args.self.now d) w.in-Err.rule held w.put_refusal.new.out
           (w.in-Err.ensures.step ∙ ap (λ (u : JudgedTalk). verdict (broken u d)) c.self.view_is)
-          (w.put_refusal.ensures ∙ ap (λ (u : JudgedTalk). with held (summed u ++ unlawful_line n w.in-Err.rule)) (w.in-Err.ensures.err ∙ c.self.view_is))
+          (w.put_refusal.ensures ∙ ap (λ (u : JudgedTalk). with held (report_before_end u ++ unlawful_line n w.in-Err.rule)) (w.in-Err.ensures.err ∙ c.self.view_is))
     ]
 
 pub returns-clause-ending : goal.returns-clause-ending

@@ -3,7 +3,7 @@ use Rattle.line_io.specs.Lines.{Whole}
 use Rattle.line_io.specs.Out.{Text, with}
 use Rattle.line_io.specs.Event.{event_of}
 use Rattle.line_io.proofs.Puts.{put_again}
-use Rattle.script_lines.specs.Marks.{Mark, Happens, ToIface, ToEngine, mark_of, marked}
+use Rattle.script_lines.specs.Marks.{Mark, Happens, ToIface, ToEngine, mark_of, mark_if_read}
 use Rattle.script_lines.specs.StepLine.{step_line, step_number}
 use Rattle.script_migration.specs.declared.migration.Migration.{Migration}
 use Rattle.script_migration.specs.Begun.{beginning_by}
@@ -17,7 +17,7 @@ returns-in-Ok-Event-clause-puts c =
     let b = c.begin-last.ensures.begins in
     let line = c.args.line.now in
     let next = c.next_number-next.result in
-    let is : mark_of line ≡ Some (Happens (event_of c.in-Ok-Event.field-0-0)) = sym c.read_mark.ensures.exact ∙ ap marked (c.in-Ok-Event.is ∙ ap (λ x. Ok x) c.in-Ok-Event.field-0-is) in
+    let is : mark_of line ≡ Some (Happens (event_of c.in-Ok-Event.field-0-0)) = sym c.read_mark.ensures.exact ∙ ap mark_if_read (c.in-Ok-Event.is ∙ ap (λ x. Ok x) c.in-Ok-Event.field-0-is) in
     record {
       more = beginning_by s.last s.settings ++ (line_text (step_line next) ++ line_text line);
       put = c.put_line.ensures ∙ ap (λ (t : Text). with t (line_text line)) (c.put_number.ensures.put ∙ ap (λ (t : Text). with t (line_text (step_line next))) b.put)
@@ -41,7 +41,7 @@ returns-in-Err-clause-puts c =
       more = beginning_by s.last s.settings;
       put = c.begin-last.ensures.begins.put;
       goes = λ s0 lines front m n.
-          unmarked_put s0 s lines front m (Whole c.args.line.now) c.args.number (sym c.read_mark.ensures.exact ∙ ap marked c.in-Err.is) n;
+          unmarked_put s0 s lines front m (Whole c.args.line.now) c.args.number (sym c.read_mark.ensures.exact ∙ ap mark_if_read c.in-Err.is) n;
     }
 
 pub returns-in-Ok-ToIface : goal.returns-in-Ok-ToIface
@@ -50,7 +50,7 @@ returns-in-Ok-ToIface c =
     let b = c.begin-last.ensures.begins in
     let line = c.args.line.now in
     let put = c.put_line-in-Ok-ToIface.ensures in
-    let is : mark_of line ≡ Some (ToIface c.in-Ok-ToIface.field-0-0.now) = sym c.read_mark.ensures.exact ∙ ap marked (c.in-Ok-ToIface.is ∙ ap (λ x. Ok x) c.in-Ok-ToIface.field-0-is) in
+    let is : mark_of line ≡ Some (ToIface c.in-Ok-ToIface.field-0-0.now) = sym c.read_mark.ensures.exact ∙ ap mark_if_read (c.in-Ok-ToIface.is ∙ ap (λ x. Ok x) c.in-Ok-ToIface.field-0-is) in
     record {
       may = λ _. sound_begun s c.begin-last.new.self c.args.text.now c.begin-last.new.text c.begin-last.result c.requires.may b c.begin-last.ensures.below;
       of_line = tt;
@@ -73,7 +73,7 @@ returns-in-Ok-ToEngine c =
     let b = c.begin-last.ensures.begins in
     let line = c.args.line.now in
     let put = c.put_line-in-Ok-ToEngine.ensures in
-    let is : mark_of line ≡ Some (ToEngine c.in-Ok-ToEngine.field-0-0.now) = sym c.read_mark.ensures.exact ∙ ap marked (c.in-Ok-ToEngine.is ∙ ap (λ x. Ok x) c.in-Ok-ToEngine.field-0-is) in
+    let is : mark_of line ≡ Some (ToEngine c.in-Ok-ToEngine.field-0-0.now) = sym c.read_mark.ensures.exact ∙ ap mark_if_read (c.in-Ok-ToEngine.is ∙ ap (λ x. Ok x) c.in-Ok-ToEngine.field-0-is) in
     record {
       may = λ _. sound_begun s c.begin-last.new.self c.args.text.now c.begin-last.new.text c.begin-last.result c.requires.may b c.begin-last.ensures.below;
       of_line = tt;

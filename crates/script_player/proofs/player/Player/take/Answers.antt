@@ -1,13 +1,13 @@
 use Rattle.std.proofs.Common.{◌∙◌, sym, ap, subst}
 use Rattle.line_io.specs.Lines.{Whole}
-use Rattle.script_player.specs.Stages.{IsNumbered, said}
+use Rattle.script_player.specs.Stages.{IsNumbered, line_said_of}
 use Rattle.script_player.specs.Versions.{kind_of}
 use Rattle.script_player.proofs.Plays.{comes_may, starts_numbered, told_numbered}
 use Rattle.script_player.proofs.player.Player.take.Goals as goal
 
 pub step-requires-clause-may : goal.step-requires-clause-may
 step-requires-clause-may c =
-    comes_may c.args.self.now.stage c.args.self.now.core.ends (kind_of (Whole c.args.line.now)) _ (sym c.says.ensures ∙ ap said c.in-Comes.is)
+    comes_may c.args.self.now.stage c.args.self.now.core.ends (kind_of (Whole c.args.line.now)) _ (sym c.says.ensures ∙ ap line_said_of c.in-Comes.is)
 
 pub returns-in-Comes-clause-stage : goal.returns-in-Comes-clause-stage
 returns-in-Comes-clause-stage c = subst IsNumbered (sym c.told-self.ensures) (told_numbered c.args.self.now.stage c.requires.stage)
@@ -15,4 +15,4 @@ returns-in-Comes-clause-stage c = subst IsNumbered (sym c.told-self.ensures) (to
 pub returns-in-Starts-clause-stage : goal.returns-in-Starts-clause-stage
 returns-in-Starts-clause-stage c =
     subst IsNumbered (sym c.started-self.ensures)
-    (starts_numbered c.args.self.now.stage c.args.self.now.core.ends (kind_of (Whole c.args.line.now)) _ (sym c.says.ensures ∙ ap said c.in-Starts.is))
+    (starts_numbered c.args.self.now.stage c.args.self.now.core.ends (kind_of (Whole c.args.line.now)) _ (sym c.says.ensures ∙ ap line_said_of c.in-Starts.is))

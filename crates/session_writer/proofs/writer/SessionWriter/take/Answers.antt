@@ -3,7 +3,7 @@ use Rattle.line_io.specs.Lines.{Whole}
 use Rattle.line_io.proofs.Puts.{put_none}
 use Rattle.script_player.specs.declared.stage.ScriptStage.{ScriptStage}
 use Rattle.script_player.specs.declared.stage.ScriptStage.TheVariants as stages
-use Rattle.script_player.specs.Stages.{IsNumbered, said}
+use Rattle.script_player.specs.Stages.{IsNumbered, line_said_of}
 use Rattle.script_player.specs.Versions.{LineSaid, kind_of, stage_started}
 use Rattle.script_player.proofs.Plays.{comes_may, starts_numbered}
 use Rattle.session_writer.specs.Writing.{Does}
@@ -18,7 +18,7 @@ no_start (stages.Numbered k) n e = cc
 
 pub step-requires-clause-may : goal.step-requires-clause-may
 step-requires-clause-may g c =
-    comes_may c.args.self.now.stage c.args.self.now.core.ends (kind_of (Whole c.args.line.now)) _ (sym c.says.ensures ∙ ap said c.in-Comes.is)
+    comes_may c.args.self.now.stage c.args.self.now.core.ends (kind_of (Whole c.args.line.now)) _ (sym c.says.ensures ∙ ap line_said_of c.in-Comes.is)
 
 pub returns-in-Starts-clause-takes : goal.returns-in-Starts-clause-takes
 returns-in-Starts-clause-takes g c =
@@ -26,7 +26,7 @@ returns-in-Starts-clause-takes g c =
     record {
       more = [];
       put = put_none c.args.text.now;
-      holds = subst (λ (s : LineSaid). Does g.T.Teller.means c.args.number self.core self.stage s self.core c.started-self.result []) (sym (ap said c.in-Starts.is) ∙ c.says.ensures)
+      holds = subst (λ (s : LineSaid). Does g.T.Teller.means c.args.number self.core self.stage s self.core c.started-self.result []) (sym (ap line_said_of c.in-Starts.is) ∙ c.says.ensures)
           (refl, c.started-self.ensures, refl);
     }
 
@@ -35,6 +35,6 @@ returns-in-Starts-clause-may g c = record {
   new = λ s. absurd (no_start c.args.self.now.stage c.in-Starts.step (sym c.started-self.ensures ∙ s));
   at = λ _. c.requires.may.at c.requires.opened;
   numbered = subst IsNumbered (sym c.started-self.ensures)
-      (starts_numbered c.args.self.now.stage c.args.self.now.core.ends (kind_of (Whole c.args.line.now)) _ (sym c.says.ensures ∙ ap said c.in-Starts.is));
+      (starts_numbered c.args.self.now.stage c.args.self.now.core.ends (kind_of (Whole c.args.line.now)) _ (sym c.says.ensures ∙ ap line_said_of c.in-Starts.is));
   reached = c.requires.may.reached;
 }

@@ -1,7 +1,7 @@
 -- What is left of the bytes completes the lines.
 use Rattle.std.proofs.Common.{◌≡◌, ◌++◌, drop, true, false}
-use Rattle.event_pipe.specs.Ends.{KeepsSender, sent}
-use Rattle.event_pipe.specs.Rule.{ended}
+use Rattle.event_pipe.specs.Ends.{KeepsSender, events_sent}
+use Rattle.event_pipe.specs.Rule.{has_last_event}
 use Rattle.tap_runner.specs.Lines.{pieces_of, line_after}
 use Rattle.tap_runner.specs.Marks.{piece_events}
 use Rattle.tap_runner.proofs.part.OpenLine.hear.Given as goal
@@ -13,7 +13,7 @@ invariant-loop-byte g l = record {
   line : line_after l.self.line (drop l.byte-index l.bytes) ≡ line_after l.fn.self.line l.bytes;
   lacked : l.fn.self.has_lacked ≡ true → l.self.has_lacked ≡ true;
   sends : l.self.has_lacked ≡ false
-      → sent l.to ++ piece_events l.fn.self.peer (pieces_of l.self.line (drop l.byte-index l.bytes))
-      ≡ sent l.fn.to ++ piece_events l.fn.self.peer (pieces_of l.fn.self.line l.bytes);
-  going : ended (sent l.to) ≡ false;
+      → events_sent l.to ++ piece_events l.fn.self.peer (pieces_of l.self.line (drop l.byte-index l.bytes))
+      ≡ events_sent l.fn.to ++ piece_events l.fn.self.peer (pieces_of l.fn.self.line l.bytes);
+  going : has_last_event (events_sent l.to) ≡ false;
 }
