@@ -1,22 +1,24 @@
 -- What a reader has sent.
-use Rattle.std.proofs.Common.{◌≡◌, inr, ℕ, suc, List, [], ◌∷◌, ◌++◌, length, Bool, true, false, cond, ◌||◌, Option, Some, None, IfSome, Result, Ok, Err, IsTrue, refl, sym, ap, subst, ◌∙◌, arith, append-nil, append_assoc}
+use Rattle.std.proofs.Common.{◌≡◌, inl, inr, ℕ, ◌+◌, ◌≤◌, suc, List, [], ◌∷◌, ◌++◌, length, Bool, true, false, cond, ◌||◌, Option, Some, None, IfSome, Result, Ok, Err, IsTrue, refl, sym, ap, subst, ◌∙◌, arith, append-nil, append_assoc}
 use Rattle.std.proofs.lemmas.List.{map-append}
 use Rattle.std.specs.Prelude.{nat_le}
 use Rattle.std.specs.List.{list_any}
 use Rattle.std.specs.Io.KnownBytes.{Consumes, IsAtEnd}
 use Rattle.std.proofs.KnownBytes.{Appends-nil, Appends-trans, Consumes-nil, Consumes-trans}
-use Rattle.std.proofs.lemmas.Bool.{or_parts}
+use Rattle.std.proofs.lemmas.Bool.{cases_lt, or_parts}
 use Rattle.line_io.specs.Event.{Event, has_feed, is_line}
 use Rattle.line_io.specs.Event as events
 use Rattle.line_io.specs.Source.{Supplied}
 use Rattle.line_io.specs.Causes.{HasCause}
-use Rattle.line_io.specs.Lines.{Piece, Whole, TooLong, Held, Given, Gave, Advances, EndsAt, Reads, rest, items, empty_reader}
+use Rattle.line_io.specs.Lines.{Piece, Whole, TooLong, Held, Given, Gave, Advances, EndsAt, IsReady, IsWaiting, Reads, feed_at, read_room, rest, items, empty_reader}
 use Rattle.line_io.specs.Lending.{outcome, AnswersWhen}
 use Rattle.line_io.specs.Runs.{Runs, Call, goes_on, pieces_of, whole, LinesSoFar, LinesAtEnd, LinesAtFault}
 use Rattle.line_io.specs.Runs as runs
 use Rattle.line_io.specs.declared.lines.Item.{Item}
 use Rattle.line_io.specs.declared.faults.ReadFault.{ReadFault}
+use Rattle.line_io.proofs.Answered.{answers_fault, fault_given}
 use Rattle.line_io.proofs.Calls.{over_now}
+use Rattle.line_io.proofs.Found.{feed_le}
 use Rattle.event_pipe.specs.declared.message.Peer.{Peer}
 use Rattle.event_pipe.specs.declared.message.Peer.TheVariants as peers
 use Rattle.event_pipe.specs.declared.message.MessageBody.TheVariants as says
@@ -26,7 +28,7 @@ use Rattle.event_pipe.specs.declared.reader.ReadEnd.TheVariants as read_ends
 use Rattle.event_pipe.specs.Counts.{Tells}
 use Rattle.event_pipe.specs.Message.{sent_event, is_end, is_good}
 use Rattle.event_pipe.specs.Rule.{has_last_event}
-use Rattle.event_pipe.specs.Arrivals.{piece_event, piece_events, last_event, arrivals, is_close, has_close_event, Goes, Heard, Arrived}
+use Rattle.event_pipe.specs.Arrivals.{piece_event, piece_events, last_event, arrivals, is_close, has_close_event, LastRead, Goes, Heard, Arrived}
 
 or_assoc : (a b c : Bool) → (a || (b || c)) ≡ ((a || b) || c)
 or_assoc true b c = refl
@@ -106,6 +108,23 @@ pub at_end_after : (b : Bool) (old new : Held) (l0 lo ln : Option (List ℕ)) (x
 at_end_after true old new l0 lo ln xs got b r s f g h e = end_kept l0 lo ln xs r (f b) (subst (Consumes lo ln) (g b) s)
 at_end_after false old new l0 lo ln xs got b r s f g h e = over_now l0 ln (h (b, e))
 
+-- THE LAST READ
+
+nothing_read : (p : Peer) → LastRead p []
+nothing_read p = record { first = []; last = []; is = refl; going = refl; few = omega arith }
+
+not_over : (b : Bool) (x : ℕ) (xs : List ℕ) → (b ≡ true → x ∷ xs ≡ []) → b ≡ false
+not_over true x xs f = let e = f refl in cc
+not_over false x xs f = refl
+
+-- what reads something has no whole line
+waiting : (old : Held) (x : ℕ) (xs : List ℕ) → (IsReady old → x ∷ xs ≡ []) → IsWaiting old
+waiting old x xs idle =
+    elim (cases_lt (feed_at old.bytes) (length old.bytes)) [
+      | inl l ↦ let e = idle (inl l) in cc
+      | inr ge ↦ (omega (arith, feed_le old.bytes), not_over old.ended x xs (λ e. idle (inr e)))
+    ]
+
 -- TURNS
 
 pub heard_open : (p : Peer) (held : Held) (s : Supplied) (sent : List Event) → held ≡ empty_reader 65536 → sent ≡ [] → Heard p held s s sent
@@ -117,6 +136,7 @@ heard_open p held s sent h e = record {
   calls = 0;
   runs = subst (λ (x : Held). Runs 65536 x [] [] 0) (sym h) runs.begins;
   at_end = λ x. let n : false ≡ true = sym (ap (λ (x : Held). x.ended) h) ∙ x in cc;
+  last_read = nothing_read p;
   sent_is = e;
   going = ap has_last_event e;
   same = refl;
@@ -146,8 +166,24 @@ module _ (p : Peer) (old new : Held) (s0 so sn : Supplied) (before now : List Ev
   sent_last : (e : Event) → now ≡ before ++ e ∷ [] → now ≡ piece_events p h.given ++ e ∷ []
   sent_last e s = s ∙ ap (λ (es : List Event). es ++ e ∷ []) h.sent_is
 
-  pub heard_more : Goes p old new so sn before now turns.More → Heard p new s0 sn now
-  heard_more g =
+  -- a reader that waits gave all whole lines
+  none_came : LinesAtFault → IsWaiting old → has_last_event (piece_events p (whole 65536 h.got)) ≡ false
+  none_came law waits =
+      let fault : ReadFault = record {} in
+      let call : Call old old [] (Err fault) = record { advances = fault_given old old refl waits; answers = answers_fault old old fault refl waits } in
+      let all = law 65536 h.calls old old h.got [] h.given (Err fault) h.runs call refl in
+      ap (λ (ps : List Piece). has_last_event (piece_events p ps)) (ap (whole 65536) (sym (append-nil h.got)) ∙ sym all) ∙ events_going
+
+  last_after : LinesAtFault → (got : List ℕ) → (IsReady old → got ≡ []) → length got ≤ read_room old.limit → LastRead p (h.got ++ got)
+  last_after law [] idle few = subst (LastRead p) (sym (append-nil h.got)) h.last_read
+  last_after law (x ∷ xs) idle few =
+      record { first = h.got; last = x ∷ xs; is = refl; going = none_came law (waiting old x xs idle); few = subst (λ n. length (x ∷ xs) ≤ read_room n) h.limit few }
+
+  last_of : LinesAtFault → (t : ReaderTurn) (g : Goes p old new so sn before now t) → LastRead p (h.got ++ g.got)
+  last_of law t g = last_after law g.got g.call.advances.idle g.call.advances.few
+
+  pub heard_more : LinesAtFault → Goes p old new so sn before now turns.More → Heard p new s0 sn now
+  heard_more fault_law g =
       let s = g.sends in
       let more = pieces_of (outcome g.result) in
       record {
@@ -158,18 +194,20 @@ module _ (p : Peer) (old new : Held) (s0 so sn : Supplied) (before now : List Ev
         calls = suc h.calls;
         runs = runs.goes h.runs g.call s.0;
         at_end = end_after turns.More g;
+        last_read = last_of fault_law turns.More g;
         sent_is = s.1 ∙ ap (λ (es : List Event). es ++ piece_events p more) h.sent_is ∙ sym (map-append (piece_event p) h.given more);
         going = ap has_last_event s.1 ∙ any_append is_end before (piece_events p more) ∙ ap (λ b. b || has_last_event (piece_events p more)) h.going ∙ s.2;
         same = g.count.same refl ∙ h.same;
       }
 
-  pub arrived_done : LinesAtEnd → Goes p old new so sn before now turns.Done → Arrived p s0 sn now read_ends.Done
-  arrived_done law g =
+  pub arrived_done : LinesAtFault → LinesAtEnd → Goes p old new so sn before now turns.Done → Arrived p s0 sn now read_ends.Done
+  arrived_done fault_law law g =
       let s = g.sends in
       let all = law 65536 h.calls old new h.got g.got h.given g.result h.runs g.call s.0 in
       record {
         got = h.got ++ g.got;
         reads = all_got turns.Done g;
+        last_read = last_of fault_law turns.Done g;
         over = over_by (last_event p) (last_ends p) s.1;
         all = λ _. sent_last (last_event p) s.1 ∙ sym (arrivals_all p h.given events_going) ∙ ap (arrivals p) all;
         at_end = λ _ _. end_after turns.Done g (g.call.answers.end.0 s.0).0;
@@ -178,8 +216,8 @@ module _ (p : Peer) (old new : Held) (s0 so sn : Supplied) (before now : List Ev
         count = counted _ _ _ _ _ h.same refl g.count;
       }
 
-  pub arrived_quit : LinesSoFar → Goes p old new so sn before now turns.Quit → Arrived p s0 sn now read_ends.Done
-  arrived_quit law g =
+  pub arrived_quit : LinesAtFault → LinesSoFar → Goes p old new so sn before now turns.Quit → Arrived p s0 sn now read_ends.Done
+  arrived_quit fault_law law g =
       let s = g.sends in
       let piece = s.0 in
       let all = law 65536 (suc h.calls) new (h.got ++ g.got) [] (h.given ++ pieces_of (outcome g.result)) (runs.goes h.runs g.call s.3) (λ _. refl) in
@@ -188,6 +226,7 @@ module _ (p : Peer) (old new : Held) (s0 so sn : Supplied) (before now : List Ev
       record {
         got = h.got ++ g.got;
         reads = all_got turns.Quit g;
+        last_read = last_of fault_law turns.Quit g;
         over = over_by (piece_event p piece) s.2 s.4;
         all = λ _. sent_last (piece_event p piece) s.4 ∙ sym (arrivals_last p h.given (rest new []) piece events_going s.2) ∙ ap (arrivals p) (sym given);
         at_end = λ _ c.
@@ -205,6 +244,7 @@ module _ (p : Peer) (old new : Held) (s0 so sn : Supplied) (before now : List Ev
       record {
         got = h.got ++ g.got;
         reads = all_got turns.Fault g;
+        last_read = last_of law turns.Fault g;
         over = over_by (last_event p) (last_ends p) s.1;
         all = λ x. cc;
         at_end = λ x. cc;
@@ -213,14 +253,15 @@ module _ (p : Peer) (old new : Held) (s0 so sn : Supplied) (before now : List Ev
         count = counted _ _ _ _ _ h.same refl g.count;
       }
 
-  pub arrived_cut : LinesSoFar → Goes p old new so sn before now turns.NoMemory → Arrived p s0 sn now read_ends.NoMemory
-  arrived_cut law g =
+  pub arrived_cut : LinesAtFault → LinesSoFar → Goes p old new so sn before now turns.NoMemory → Arrived p s0 sn now read_ends.NoMemory
+  arrived_cut fault_law law g =
       let s = g.sends in
       let more = pieces_of (outcome g.result) in
       let all = law 65536 (suc h.calls) new (h.got ++ g.got) [] (h.given ++ more) (runs.goes h.runs g.call s.0) (λ _. refl) in
       record {
         got = h.got ++ g.got;
         reads = all_got turns.NoMemory g;
+        last_read = last_of fault_law turns.NoMemory g;
         over = over_by (last_event p) (last_ends p) s.1;
         all = λ x. cc;
         at_end = λ x. cc;
@@ -239,6 +280,7 @@ pub arrived_none : (p : Peer) (s : Supplied) (now : List Event) → now ≡ last
 arrived_none p s now e = record {
   got = [];
   reads = record { given = Appends-nil s.given; left = Consumes-nil s.left };
+  last_read = nothing_read p;
   over = ap has_last_event e ∙ ap (λ b. b || false) (last_ends p);
   all = λ x. cc;
   at_end = λ x. cc;

@@ -1,10 +1,10 @@
 -- What arrives of a side: the events of its lines, up to its end.
-use Rattle.std.specs.Prelude.{◌≡◌, ℕ, List, [], ◌∷◌, ◌++◌, map, Bool, true, false, if◌then◌else◌, IfSome, Result, IsErr, IsTrue}
+use Rattle.std.specs.Prelude.{◌≡◌, ℕ, ◌+◌, ◌≤◌, List, [], ◌∷◌, ◌++◌, length, map, Bool, true, false, if◌then◌else◌, IfSome, Result, IsErr, IsTrue}
 use Rattle.std.specs.List.{list_any}
 use Rattle.std.specs.Io.KnownBytes.{IsAtEnd}
 use Rattle.line_io.specs.Event.{Event, IfaceEnd, EngineEnd}
 use Rattle.line_io.specs.Source.{Supplied}
-use Rattle.line_io.specs.Lines.{Piece, Whole, TooLong, Held, Gave, Reads, EndsAt, items}
+use Rattle.line_io.specs.Lines.{Piece, Whole, TooLong, Held, Gave, Reads, EndsAt, items, read_room}
 use Rattle.line_io.specs.Lending.{outcome, is_end as is_end_answer}
 use Rattle.line_io.specs.Runs.{Runs, Call, goes_on, pieces_of, whole}
 use Rattle.line_io.specs.declared.lines.Item.{Item}
@@ -56,6 +56,15 @@ pub record CutShort (p : Peer) (lines : List Piece) (sent : List Event) : Type 0
   pub sent_is : sent ≡ piece_events p front ++ last_event p ∷ []
   pub going : has_last_event (piece_events p front) ≡ false
 
+-- What the last read gave comes after the bytes that had come before, among whose lines is no `quit`. So once the line `quit` has
+-- come nothing more is read.
+pub record LastRead (p : Peer) (got : List ℕ) : Type 0 where
+  pub first : List ℕ
+  pub last : List ℕ
+  pub is : got ≡ first ++ last
+  pub going : has_last_event (piece_events p (whole line_limit first)) ≡ false
+  pub few : length last ≤ read_room line_limit
+
 abbrev pub is_read_fault : ReadEnd → Bool
 is_read_fault (read_ends.Fault f) = true
 is_read_fault r = false
@@ -64,6 +73,8 @@ is_read_fault r = false
 pub record Arrived (p : Peer) (before after : Supplied) (sent : List Event) (r : ReadEnd) : Type 0 where
   pub got : List ℕ
   pub reads : Reads before after got
+  -- no read was made after a `quit`
+  pub last_read : LastRead p got
   -- its side has ended
   pub over : has_last_event sent ≡ true
   -- all that arrives
@@ -108,6 +119,7 @@ pub record Heard (p : Peer) (held : Held) (before after : Supplied) (sent : List
   pub calls : ℕ
   pub runs : Runs line_limit held got given calls
   pub at_end : held.ended ≡ true → IfSome before.left (λ _. IsAtEnd after.left)
+  pub last_read : LastRead p got
   pub sent_is : sent ≡ piece_events p given
   pub going : has_last_event sent ≡ false
   pub same : after.faults ≡ before.faults

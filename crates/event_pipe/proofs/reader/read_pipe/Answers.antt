@@ -23,16 +23,16 @@ loop-preserved g c =
       sender = c.read_turn.ensures.keeps.0;
       peer = c.read_turn.ensures.keeps.1 ∙ c.loop.invariant.peer;
       channel = c.read_turn.ensures.keeps.2 ∙ c.loop.invariant.channel;
-      heard = heard_more c.args.to.now.peer _ _ _ _ _ _ _ c.loop.invariant.heard (goes_as _ _ _ _ _ _ _ _ _ _ c.loop.invariant.peer c.in-More.is c.read_turn.ensures.goes);
+      heard = heard_more c.args.to.now.peer _ _ _ _ _ _ _ c.loop.invariant.heard c.lines_of_all_calls.ensures.at_fault (goes_as _ _ _ _ _ _ _ _ _ _ c.loop.invariant.peer c.in-More.is c.read_turn.ensures.goes);
     }
 
 pub returns-in-Done-clause-arrived : goal.returns-in-Done-clause-arrived
 returns-in-Done-clause-arrived g c =
-    arrived_done c.args.to.now.peer _ _ _ _ _ _ _ c.loop.invariant.heard c.lines_of_all_calls.ensures.at_end (goes_as _ _ _ _ _ _ _ _ _ _ c.loop.invariant.peer c.in-Done.is c.read_turn.ensures.goes)
+    arrived_done c.args.to.now.peer _ _ _ _ _ _ _ c.loop.invariant.heard c.lines_of_all_calls.ensures.at_fault c.lines_of_all_calls.ensures.at_end (goes_as _ _ _ _ _ _ _ _ _ _ c.loop.invariant.peer c.in-Done.is c.read_turn.ensures.goes)
 
 pub returns-in-Quit-clause-arrived : goal.returns-in-Quit-clause-arrived
 returns-in-Quit-clause-arrived g c =
-    arrived_quit c.args.to.now.peer _ _ _ _ _ _ _ c.loop.invariant.heard c.lines_of_all_calls.ensures.so_far (goes_as _ _ _ _ _ _ _ _ _ _ c.loop.invariant.peer c.in-Quit.is c.read_turn.ensures.goes)
+    arrived_quit c.args.to.now.peer _ _ _ _ _ _ _ c.loop.invariant.heard c.lines_of_all_calls.ensures.at_fault c.lines_of_all_calls.ensures.so_far (goes_as _ _ _ _ _ _ _ _ _ _ c.loop.invariant.peer c.in-Quit.is c.read_turn.ensures.goes)
 
 pub returns-in-Fault-clause-arrived : goal.returns-in-Fault-clause-arrived
 returns-in-Fault-clause-arrived g c =
@@ -40,4 +40,4 @@ returns-in-Fault-clause-arrived g c =
 
 pub returns-in-NoMemory-clause-arrived : goal.returns-in-NoMemory-clause-arrived
 returns-in-NoMemory-clause-arrived g c =
-    arrived_cut c.args.to.now.peer _ _ _ _ _ _ _ c.loop.invariant.heard c.lines_of_all_calls.ensures.so_far (goes_as _ _ _ _ _ _ _ _ _ _ c.loop.invariant.peer c.in-NoMemory.is c.read_turn.ensures.goes)
+    arrived_cut c.args.to.now.peer _ _ _ _ _ _ _ c.loop.invariant.heard c.lines_of_all_calls.ensures.at_fault c.lines_of_all_calls.ensures.so_far (goes_as _ _ _ _ _ _ _ _ _ _ c.loop.invariant.peer c.in-NoMemory.is c.read_turn.ensures.goes)
