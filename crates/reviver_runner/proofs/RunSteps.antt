@@ -1,5 +1,5 @@
 -- What a run of all lives leaves.
-use Rattle.std.proofs.Common.{◌≡◌, ◌∙◌, ◌⊎◌, ℕ, suc, ◌+◌, ◌≤◌, List, [], ◌∷◌, ◌++◌, map, length, Bool, true, false, ◌||◌, Option, Some, None, is_some, refl, sym, ap, subst, arith, inl, inr}
+use Rattle.std.proofs.Common.{◌≡◌, ◌∙◌, ◌⊎◌, ℕ, suc, ◌+◌, ◌≤◌, List, [], ◌∷◌, ◌++◌, map, length, Bool, true, false, ◌||◌, Option, Some, None, is_some, if◌then◌else◌, refl, sym, ap, subst, arith, inl, inr}
 use mathlib.Core.Bool.{or-true}
 use Rattle.line_io.specs.Source.{Supplied, Received}
 use Rattle.event_pipe.specs.Counts.{Tells}
@@ -7,6 +7,7 @@ use Rattle.child_engine.specs.Hosts.{Books, Told, RisesBy, IsUnused, IsStarted, 
 use Rattle.child_engine.specs.declared.host.Faults.{Faults}
 use Rattle.child_engine.specs.declared.host.HostFault.{HostFault}
 use Rattle.host_run.specs.declared.failures.Failures.{Failures}
+use Rattle.host_run.specs.Asked.{logs_asked_by}
 use Rattle.host_run.specs.Early.{AreEarly, only_memory, only_start}
 use Rattle.host_run.specs.Logs.{is_failed, fresh_log}
 use Rattle.sink_offers.specs.Took.{LogTook}
@@ -82,6 +83,7 @@ revived_from lives i o f f' b after failures x =
       events = x.events;
       heard = x.heard;
       told = x.told;
+      memory = x.memory;
       each = x.each;
       refused = x.refused;
       up = x.up;
@@ -151,6 +153,26 @@ pub why_refused : (start : Option HostFault) (refused engine_start memory : Bool
 why_refused None refused engine_start memory e h s m = let z : true ≡ false = sym h ∙ e in cc
 why_refused (Some faults.Failed) refused engine_start memory e h s m = inl s
 why_refused (Some faults.NoMemory) refused engine_start memory e h s m = inr (m refl)
+
+-- a log for which there was no memory
+unlogged : (fault : Option HostFault) (log : Bool) (n : ℕ) → (is_no_memory fault ≡ true → n ≡ 0) → logs_asked_by fault ≡ (if log then 1 else n) → is_no_memory fault ≡ true → (n ≡ 0) × (log ≡ false)
+unlogged None log n none asked m = cc
+unlogged (Some faults.Failed) log n none asked m = cc
+unlogged (Some faults.NoMemory) true n none asked m = absurd (omega (arith, asked))
+unlogged (Some faults.NoMemory) false n none asked m = (none refl, refl)
+
+-- a life for which there was no memory
+unbegun : (start : Option HostFault) (refused engine_start : Bool) → refused ≡ is_some start → engine_start ≡ is_failed start → is_no_memory start ≡ true → (refused ≡ true) × (engine_start ≡ false)
+unbegun None refused engine_start r s m = cc
+unbegun (Some faults.Failed) refused engine_start r s m = cc
+unbegun (Some faults.NoMemory) refused engine_start r s m = (r, s)
+
+-- why there was no log, or no other life
+pub unopened : (fault start : Option HostFault) (one other log refused engine_start : Bool) (n : ℕ) → one ≡ is_no_memory fault → other ≡ is_no_memory start → (is_no_memory fault ≡ true → n ≡ 0)
+    → logs_asked_by fault ≡ (if log then 1 else n) → refused ≡ is_some start → engine_start ≡ is_failed start → (one ≡ true) ⊎ (other ≡ true)
+    → ((n ≡ 0) × (log ≡ false)) ⊎ ((refused ≡ true) × (engine_start ≡ false))
+unopened fault start one other log refused engine_start n e f none asked r s (inl m) = inl (unlogged fault log n none asked (sym e ∙ m))
+unopened fault start one other log refused engine_start n e f none asked r s (inr m) = inr (unbegun start refused engine_start r s (sym f ∙ m))
 
 pub or_left : (x a b : Bool) → x ≡ (a || b) → a ≡ true → x ≡ true
 or_left x true b e h = e

@@ -84,13 +84,22 @@ pub record RanLives {S K : Type 0} (source : S → Supplied) (sink : K → Recei
   pub handed : HandsOut before.state.lives (length ended) host.books host'.books host.counts host'.counts refused
   pub asked : StartsEngines words host.asked host'.asked host.books host'.books (is_failed refused)
 
--- why there was no memory: a reader of a life or of the interface had none, or a log or a life was not opened
+-- what the readers and the writes to each life came to is reported
 pub record TellsRun (upper : ReadEnd) (lives : List Life) (failures : Failures) : Type 0 where
   pub iface_read : failures.iface_read ≡ is_read_fault upper
   pub engine_read : failures.engine_read ≡ list_any (λ l. is_read_fault l.end) lives
   pub engine_write : failures.engine_write ≡ list_any (λ l. l.broken) lives
   pub iface_memory : failures.memory ≡ false → lacked_memory upper ≡ false
   pub life_memory : failures.memory ≡ false → list_any (λ l. lacked_memory l.end) lives ≡ false
+
+-- why a run that was made reports no memory: the interface's reader or one of a life had none for a line, or there was none
+-- to open the log, or none to start a life again
+abbrev pub LackedMemory : Books → ReadEnd → List Life → List Event → Failures → Type 0
+LackedMemory books upper lives events failures =
+    (lacked_memory upper ≡ true)
+    ⊎ ((list_any (λ l. lacked_memory l.end) lives ≡ true)
+    ⊎ (((books.logs_out ≡ 0) × (failures.log ≡ false))
+    ⊎ ((has_refusal events ≡ true) × (failures.engine_start ≡ false))))
 
 -- The revival of so many lives heard these events, in the order in which they came. Its orders are what arrived of the interface,
 -- without long lines; and of each life there are its lines, and a mark of its end.
@@ -132,6 +141,7 @@ pub record Revived (lives : ℕ) (before after : Outside) (failures : Failures) 
   pub events : List Event
   pub heard : Heard lives before.input after.input upper runs events
   pub told : TellsRun upper runs failures
+  pub memory : failures.memory ≡ true → LackedMemory after.books upper runs events failures
   pub each : AreLives before.books.says before.books.tells runs
   pub refused : has_refusal events ≡ true → (failures.engine_start ≡ true) ⊎ (failures.memory ≡ true)
   pub up : LogTook (lines_up (opening lives) events) failures.iface_write before.output after.output

@@ -1,14 +1,15 @@
 use Rattle.std.proofs.Common.{◌∙◌, ap, refl, sym, ◌||◌, Bool, ℕ}
+use Rattle.std.proofs.lemmas.Bool.{or_cases}
 use Rattle.child_engine.specs.Hosts.{Books}
 use Rattle.host_run.specs.Logs.{closed_logs}
 use Rattle.host_run.specs.declared.failures.Failures.{Failures}
 use Rattle.host_run.proofs.Counts.{retold}
 use Rattle.host_run.proofs.Telling.{fresh_faults}
 use Rattle.host_run.proofs.Asked.{asked_logs, asks_more}
-use Rattle.host_run.proofs.Closes.{same_count, length_told, few_logs, told_as, log_opened, left_of, right_of}
+use Rattle.host_run.proofs.Closes.{same_count, length_told, few_logs, told_as, lacked, log_opened, left_of, right_of}
 use Rattle.sink_offers.specs.Streams.{log_state}
 use Rattle.reviver_runner.specs.Ran.{TellsRun}
-use Rattle.reviver_runner.proofs.RunSteps.{ran, close_may, log_may, may_as, lives_count, each_as, logged_as, why_refused, or_left, or_right}
+use Rattle.reviver_runner.proofs.RunSteps.{ran, close_may, log_may, may_as, lives_count, each_as, logged_as, why_refused, unopened, or_left, or_right}
 use Rattle.reviver_runner.proofs.Records.{recorded_by}
 use Rattle.reviver_runner.proofs.run.run_started.Goals as goal
 
@@ -82,6 +83,13 @@ returns-clause-leaves g c =
       events = has.events;
       heard = has.heard;
       told = told;
+      memory =
+          lacked _ _ _ _ _ _ _ _ c.either-2.ensures refl c.either.ensures c.has_lacked_memory.ensures has.tallies.memory
+          (λ m. unopened c.open_log-log.result.fault end.start _ _ c.either-3.result _ _ b4.logs_out c.is_open_memory.ensures c.is_open_memory-2.ensures
+          (λ z. logs_out_is ∙ c.open_log-log.ensures.none z)
+          (asked_logs g.H.Log.Sink.state c.open_log-log.result.log c.run_opened-ended.result.log c.open_log-log.result.fault c.is_open_failure-2.result _ _ _
+          c.open_log-log.ensures.some c.open_log-log.ensures.none c.run_opened-ended.ensures.kept has.logged.count c.is_open_failure-2.ensures c.either-3.ensures logs_out_is)
+          has.refusal c.is_open_failure.ensures (or_cases _ _ (sym c.either-memory.ensures ∙ m)));
       each = each;
       refused = λ h. why_refused _ _ _ _ has.refusal h c.is_open_failure.ensures (λ m. or_left _ _ _ c.either-2.ensures (or_right _ _ _ c.either-memory.ensures (c.is_open_memory-2.ensures ∙ m)));
       up = has.up;
