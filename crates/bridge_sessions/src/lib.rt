@@ -20,6 +20,8 @@ mod recorder;
 #[cfg(test)]
 mod refused_calls;
 #[cfg(test)]
+mod sayings;
+#[cfg(test)]
 mod talk;
 #[cfg(test)]
 mod waiting_host;

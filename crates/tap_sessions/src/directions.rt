@@ -4,8 +4,9 @@ ghost use Rattle.event_pipe.specs.Ends.{IsSender, IsFreshTaker, events_sent};
 ghost use Rattle.tap_runner.specs.Hearing.{fresh};
 
 use crate::expected::{expect_bytes, expect_true};
+use child_engine::LetGo;
 use event_pipe::{Peer, Pipe, PipeSend, PipeTake};
-use line_io::{MemSink, MemSource, Out};
+use line_io::{MemSink, MemSource, Out, Sink, Source};
 use sink_offers::{HandedStreams, Interface};
 use std::alloc::Global;
 use std::process::Abort;
@@ -116,8 +117,8 @@ fn expect_log<R: Wait + Abort>(rt: &R, alloc: Global, row: &Row, taker: PipeTake
     }
 }
 
-// Whether no read and no memory was refused, and no write, or one.
-fn is_end(end: &PassEnd, write_failed: bool) -> bool {
+/// Whether no read and no memory was refused, and no write, or one.
+pub fn is_end(end: &PassEnd, write_failed: bool) -> bool {
     !end.read_failed && end.write_failed == write_failed && !end.has_lacked_memory
 }
 
@@ -152,12 +153,19 @@ fn bytes_are_handed_on_and_lines_are_logged(rt: HostRuntime) {
     }
 }
 
-// Runs both directions between these sinks and sources.
-fn run_both<R: Threads + Wait + Sync + Abort>(
+/// Runs both directions between these sinks and sources.
+pub fn run_both<
+    I: Source + Send,
+    S: Source + Send,
+    O: LetGo + Send,
+    E: LetGo + Send,
+    L: Sink + Send,
+    R: Threads + Wait + Sync + Abort,
+>(
     rt: &R,
     alloc: Global,
-    interface: &mut Interface<MemSource, MemSink>,
-    handed: &mut HandedStreams<MemSource, MemSink, MemSink>,
+    interface: &mut Interface<I, O>,
+    handed: &mut HandedStreams<S, E, L>,
 ) -> TapEnd {
     let (bridge, child, taker) = Pipe::make(alloc).expect(rt, "memory for the channel");
     let parts = TapParts {
@@ -177,10 +185,11 @@ fn both_directions_run(rt: HostRuntime) {
         input: source(&rt, alloc, BRIDGE, 3, &[]),
         output: sink(&rt, alloc, 100, &[]),
     };
+    let log: Option<MemSink> = None;
     let mut handed = HandedStreams {
         source: source(&rt, alloc, ENGINE, 3, &[2]),
         engine: sink(&rt, alloc, 100, &[]),
-        log: None,
+        log,
     };
     let end = run_both(&rt, alloc, &mut interface, &mut handed);
     let failed = !end.bridge.read_failed && end.engine.read_failed && !end.log_failed;

@@ -6,4 +6,8 @@ mod directions;
 #[cfg(test)]
 mod expected;
 #[cfg(test)]
+mod order;
+#[cfg(test)]
+mod paced_sink;
+#[cfg(test)]
 mod program;
