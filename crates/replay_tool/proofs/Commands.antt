@@ -7,6 +7,7 @@ use Rattle.replay_tool.specs.Commands.{ReplayRequest}
 use Rattle.replay_tool.specs.Commands as asked
 use Rattle.replay_tool.specs.Does.{Does}
 use Rattle.replay_tool.specs.Drilled.{Drilled}
+use Rattle.replay_tool.specs.Driving.{DrivesTheOrdered}
 use Rattle.replay_tool.specs.Listed.{Listed}
 use Rattle.replay_tool.specs.OwnScripts.{JudgesOwnTalk, MigratesOwnScripts}
 use Rattle.command_endings.specs.Ran.{Refused}
@@ -16,6 +17,10 @@ use Rattle.judge_report.specs.Judged.{Judged}
 use Rattle.script_migration.specs.Migrated.{Migrated}
 use Rattle.revival_script.specs.Revived.{Revived}
 use Rattle.driver_script.specs.Driven.{Driven}
+use Rattle.driver_script.specs.Scripts.{events_of}
+use Rattle.driver_wire.specs.Runs.{HearsTheOrdered}
+use Rattle.line_io.specs.Lines.{items}
+use Rattle.line_io.specs.declared.limits.TheConstants.{SCRIPT_LINE}
 use Rattle.session_games.specs.GamesWritten.{GamesWritten}
 use Rattle.session_positions.specs.PositionsWritten.{PositionsWritten}
 use Rattle.replay_tool.proofs.Answers as ran
@@ -63,6 +68,19 @@ module _ (unread kept silent : Type 0) (start now : Streams) (code : ℕ) where
 
   pub driven : (command : Option ReplayRequest) → D command → command ≡ Some asked.Drive → Driven (unread × kept) start now code
   driven command d e = subst D e d
+
+  pub driven_ordered : HearsTheOrdered → (command : Option ReplayRequest) → D command → command ≡ Some asked.Drive → DrivesTheOrdered start now code
+  driven_ordered law command d e done o taken going =
+      let all = ((driven command d e).all_driven done).0 in
+      record {
+        got = all.got;
+        reads = all.reads;
+        all_read = all.all_read;
+        text = all.text;
+        driven = all.driven;
+        written = all.written;
+        heard = law o taken (events_of (items SCRIPT_LINE all.got)) all.driven.script.after going all.driven.script.goes;
+      }
 
   pub games_written : (command : Option ReplayRequest) → D command → (o : Settings) → command ≡ Some (asked.Games o) → GamesWritten o unread kept start now code
   games_written command d o e = subst D e d

@@ -3,6 +3,7 @@ pub mod Checked
 pub mod Commands
 pub mod Does
 pub mod Drilled
+pub mod Driving
 pub mod Laws
 pub mod Listed
 pub mod Moves

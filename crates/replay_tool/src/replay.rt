@@ -11,6 +11,7 @@ ghost use Rattle.replay_tool.specs.Commands as asked;
 ghost use Rattle.replay_tool.specs.Commands.{command_of, texts};
 ghost use Rattle.command_endings.specs.Diagnostics.{code_of, tail_of};
 ghost use Rattle.replay_tool.specs.Does.{Does};
+ghost use Rattle.replay_tool.specs.Driving.{DrivesTheOrdered};
 ghost use Rattle.replay_tool.specs.Drilled.{Drilled};
 ghost use Rattle.replay_tool.specs.Listed.{Listed};
 ghost use Rattle.replay_tool.specs.OwnScripts.{JudgesOwnTalk, MigratesOwnScripts};
@@ -36,6 +37,7 @@ use crate::run::ScriptRun;
 use crate::verdict::write_verdict;
 use command_endings::{Ending, tell, tell_short};
 use driver_script::run_drive;
+use driver_wire::engines_hear_the_ordered;
 use judge_report::run_judge;
 use line_io::{NoMemory, Out, Sink, Source, Status};
 use policy_rules::Settings;
@@ -235,6 +237,9 @@ pub fn replay_main<I: Source, O: Sink, D: Sink>(
         → Driven ((input.new ≡ input.old) × (output.new ≡ output.old))
         (streams (I.state input.old) (O.state output.old) (D.state diag.old))
         (streams (I.state input.new) (O.state output.new) (D.state diag.new)) result.code }
+    ensures drive_own { command_of (texts words.now) ≡ Some asked.Drive → DrivesTheOrdered
+        (streams (I.state input.old) (O.state output.old) (D.state diag.old))
+        (streams (I.state input.new) (O.state output.new) (D.state diag.new)) result.code }
     ensures games { (settings : AnySettings)
         → command_of (texts words.now) ≡ Some (asked.Games settings)
         → GamesWritten settings (input.new ≡ input.old) (output.new ≡ output.old)
@@ -257,6 +262,7 @@ pub fn replay_main<I: Source, O: Sink, D: Sink>(
         (streams (I.state input.old) (O.state output.old) (D.state diag.old))
         (streams (I.state input.new) (O.state output.new) (D.state diag.new)) result.code }
 {
+    engines_hear_the_ordered();
     Status {
         code: run_words(alloc, words, input, output, diag).code(),
     }

@@ -31,6 +31,9 @@ returns-clause-revive g c = does.revived _ _ _ _ _ _ _ (does.at_code _ _ _ _ _ _
 pub returns-clause-drive : goal.returns-clause-drive
 returns-clause-drive g c = does.driven _ _ _ _ _ _ _ (does.at_code _ _ _ _ _ _ _ _ c.code.ensures c.run_words.ensures)
 
+pub returns-clause-drive_own : goal.returns-clause-drive_own
+returns-clause-drive_own g c = does.driven_ordered _ _ _ _ _ _ c.engines_hear_the_ordered.ensures _ (does.at_code _ _ _ _ _ _ _ _ c.code.ensures c.run_words.ensures)
+
 pub returns-clause-games : goal.returns-clause-games
 returns-clause-games g c = does.games_written _ _ _ _ _ _ _ (does.at_code _ _ _ _ _ _ _ _ c.code.ensures c.run_words.ensures)
 
