@@ -4,7 +4,7 @@ use chess_board::Move;
 use peer_words::GoKind;
 
 /// What a `go` order says of time and depth (UCI, "go"). Times are in milliseconds.
-#[derive(Clone, Copy)]
+#[derive(Clone, Copy, PartialEq, Eq)]
 pub struct GoClocks {
     pub wtime: u64,
     pub btime: u64,
@@ -20,7 +20,7 @@ pub struct GoClocks {
 
 /// What a thinking line reports: depth in plies, score in hundredths of a pawn, time in milliseconds, nodes, and
 /// the first move of the line.
-#[derive(Clone, Copy)]
+#[derive(Clone, Copy, PartialEq, Eq)]
 pub struct Thought {
     pub depth: u64,
     pub score: i64,
@@ -67,7 +67,7 @@ pub struct OpenSearch {
 }
 
 /// What is passed up to the interface.
-#[derive(Clone, Copy)]
+#[derive(Clone, Copy, PartialEq, Eq)]
 pub enum ToIface {
     Nothing,
     /// `readyok`
@@ -79,7 +79,7 @@ pub enum ToIface {
 }
 
 /// What is written to the engine.
-#[derive(Clone, Copy)]
+#[derive(Clone, Copy, PartialEq, Eq)]
 pub enum ToEngine {
     Nothing,
     /// `xboard`, `protover 2`
@@ -102,7 +102,7 @@ pub enum ToEngine {
 }
 
 /// What becomes of the game that is known of the engine, besides what is set up.
-#[derive(Clone, Copy)]
+#[derive(Clone, Copy, PartialEq, Eq)]
 pub enum BoardChange {
     Same,
     /// The engine played a move.
@@ -112,7 +112,7 @@ pub enum BoardChange {
 }
 
 /// What comes of a call.
-#[derive(Clone, Copy)]
+#[derive(Clone, Copy, PartialEq, Eq)]
 pub struct DriverDeed {
     pub up: ToIface,
     pub down: ToEngine,
