@@ -1,12 +1,16 @@
 -- Which pawns may capture en passant.
-use Rattle.std.proofs.Common.{◌≡◌, ◌≢◌, ◌<◌, ◌≤◌, ◌+◌, ◌*◌, ℕ, Bool, true, false, ◌&&◌, None, arith, refl, eqb, ⊎_elim}
-use Rattle.std.proofs.lemmas.Bool.{cases_lt, eqb-true, and_parts}
-use Rattle.chess_board.specs.Attack.{is_pawn_strike}
-use Rattle.chess_board.specs.Board.{man_at, is_pawn, is_empty, other, rank_of, squares, some_below}
+use Rattle.std.proofs.Common.{◌≡◌, ◌<◌, ◌+◌, ◌==◌, ℕ, Bool, true, false, ◌&&◌, Some, None, arith, refl, sym, ◌∙◌, eqb}
+use Rattle.std.specs.Int.Bits.{bit_and}
+use Rattle.std.proofs.lemmas.Bool.{eqb-true, and_parts, false≢true}
+use Rattle.chess_board.specs.declared.board.Kind.TheVariants.{Pawn}
+use Rattle.chess_board.specs.declared.board.Side.{Side}
+use Rattle.chess_board.specs.declared.board.Side.TheVariants.{White, Black}
+use Rattle.chess_board.specs.Attack.{is_ahead, is_pawn_strike}
+use Rattle.chess_board.specs.Board.{Man, man_at, is_pawn, is_pawn_kind, is_of, same_side, is_empty, other, file_of, rank_of, files_apart, gap}
+use Rattle.chess_board.specs.Reach.{has, form, shape, IsSetOf}
 use Rattle.chess_board.specs.Rules.{fifth_rank, is_at, is_en_passant, is_legal, beside}
-use Rattle.chess_board.specs.Play.{can_take}
 use Rattle.chess_board.specs.Position.{Position}
-use Rattle.chess_board.proofs.Below.{some_below-none, some_below-at}
+use Rattle.chess_board.proofs.Sets.{has-both}
 
 abbrev takes : Position → ℕ → ℕ → Bool
 takes p at from = is_pawn p.side (man_at p.men from) && (is_en_passant p from at && is_legal p from at None)
@@ -15,26 +19,34 @@ false_by : (b : Bool) → (b ≡ true → ⊥) → b ≡ false
 false_by true f = absurd (f refl)
 false_by false f = refl
 
--- a pawn that may stands on its fifth rank
-rank_is : (p : Position) (at from : ℕ) → takes p at from ≡ true → rank_of from ≡ fifth_rank p.side
+-- a pawn strikes where a pawn of the other side would strike back
+gap_turned : (a b : ℕ) → gap a b ≡ gap b a
+gap_turned a b = omega arith
+
+form_by : (side : Side) (f g from at : ℕ) → f ≡ g → ((f == 1) && is_ahead side from at 1) ≡ true → shape (other side) Pawn g at from ≡ true
+form_by White f g from at same e = let parts = and_parts (f == 1) (at == from + 1) e in rw (sym same, eqb-true _ _ parts.0, parts.1) refl
+form_by Black f g from at same e = let parts = and_parts (f == 1) (from == at + 1) e in rw (sym same, eqb-true _ _ parts.0, parts.1) refl
+
+back : (side : Side) (from at : ℕ) → is_pawn_strike side from at ≡ true → form (other side) Pawn at from ≡ true
+back side from at e = form_by side (files_apart from at) (files_apart at from) (rank_of from) (rank_of at) (gap_turned (file_of from) (file_of at)) e
+
+pawn_of : (side : Side) (man : Man) → is_pawn side man ≡ true → is_of side man ≡ true
+pawn_of side None e = absurd (cc)
+pawn_of side (Some man) e = (and_parts (same_side man.0 side) (is_pawn_kind man.1) e).0
+
+strikes : (p : Position) (at from : ℕ) → takes p at from ≡ true → (is_of p.side (man_at p.men from) ≡ true) × (is_pawn_strike p.side from at ≡ true)
 unfolding is_en_passant
-rank_is p at from e =
+strikes p at from e =
     let rest = and_parts (is_pawn p.side (man_at p.men from)) (is_en_passant p from at && is_legal p from at None) e in
     let passes = (and_parts (is_en_passant p from at) (is_legal p from at None) rest.1).0 in
     let strike = is_pawn_strike p.side from at && is_empty (man_at p.men at) in
     let parts = and_parts (is_at p.passant at && eqb (rank_of from) (fifth_rank p.side)) (strike && is_pawn (other p.side) (man_at p.men (beside from at))) passes in
-    eqb-true _ _ (and_parts (is_at p.passant at) (eqb (rank_of from) (fifth_rank p.side)) parts.0).1
+    (pawn_of p.side (man_at p.men from) rest.0, (and_parts (is_pawn_strike p.side from at) (is_empty (man_at p.men at)) (and_parts strike (is_pawn (other p.side) (man_at p.men (beside from at))) parts.1).0).0)
 
-off_rank : (p : Position) (at from : ℕ) → rank_of from ≢ fifth_rank p.side → takes p at from ≡ false
-off_rank p at from off = false_by (takes p at from) (λ e. off (rank_is p at from e))
-
-pub none_before : (p : Position) (at first : ℕ) → first ≡ 8 * fifth_rank p.side → some_below first (takes p at) ≡ false
-none_before p at first e = some_below-none first (takes p at) (λ from low. off_rank p at from (λ same. absurd (omega (arith, e, same))))
-
--- none on the fifth rank, so none
-pub none_at_all : (p : Position) (at end : ℕ) → end ≡ 8 * fifth_rank p.side + 8 → some_below end (takes p at) ≡ false → can_take p at ≡ false
-unfolding can_take
-none_at_all p at end e none = some_below-none squares (takes p at) (λ from low.
-    ⊎_elim (λ (h : from < end). some_below-at end from (takes p at) none h)
-    (λ (h : end ≤ from). off_rank p at from (λ same. absurd (omega (arith, e, same))))
-    (cases_lt from end))
+-- no man beyond the squares from which a pawn could come takes
+pub none_beyond : (p : Position) (at ways own : ℕ) → IsSetOf (form (other p.side) Pawn at) ways → IsSetOf (λ s. is_of p.side (man_at p.men s)) own →
+    (s : ℕ) → s < 64 → has (bit_and ways own) s ≡ false → takes p at s ≡ false
+none_beyond p at ways own w o s low out = false_by (takes p at s) (λ e.
+    let struck = strikes p at s e in
+    let inside : (has ways s && has own s) ≡ true = rw (w s low ∙ back p.side s at struck.1, o s low ∙ struck.0) refl in
+    false≢true (sym out ∙ has-both ways own s ∙ inside))

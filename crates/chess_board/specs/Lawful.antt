@@ -1,5 +1,6 @@
 -- What holds of every position, and which positions are put together, in the words of the Laws.
-use Rattle.std.specs.Prelude.{ℕ, ◌≡◌, ◌≢◌, ◌<◌, ◌≤◌, ◌↔◌, IsTrue, IfSome, Some, Result, Ok, Err, length, count_by, min, max}
+use Rattle.std.specs.Prelude.{ℕ, ◌≡◌, ◌≢◌, ◌<◌, ◌≤◌, ◌↔◌, IsTrue, IfSome, Some}
+use Rattle.std.specs.Prelude.{Result, Ok, Err, length, count_by, min, max}
 use Rattle.chess_board.specs.declared.board.Side.{Side}
 use Rattle.chess_board.specs.declared.board.Side.TheVariants.{White, Black}
 use Rattle.chess_board.specs.declared.board.Kind.TheVariants.{Pawn, Rook, King}
@@ -12,11 +13,14 @@ use Rattle.chess_board.specs.Play.{position_if_built, top_count}
 
 -- a king and a rook of the side stand where they begin
 abbrev pub AreHome : Men → Side → ℕ → ℕ → Type 0
-AreHome men side king rook = (man_at men king ≡ Some (side, King)) × (man_at men rook ≡ Some (side, Rook))
+AreHome men side king rook =
+    (man_at men king ≡ Some (side, King)) × (man_at men rook ≡ Some (side, Rook))
 
 -- no pawn stands on the first or last rank
 abbrev pub NoEndPawn : Men → Type 0
-NoEndPawn men = (s : ℕ) (side : Side) → s < 64 → man_at men s ≡ Some (side, Pawn) → (rank_of s ≢ 0) × (rank_of s ≢ 7)
+NoEndPawn men =
+    (s : ℕ) (side : Side) → s < 64 → man_at men s ≡ Some (side, Pawn)
+    → (rank_of s ≢ 0) × (rank_of s ≢ 7)
 
 -- at most 16 men a side, and no pawn where none can be
 abbrev pub FitsBoard : Men → Type 0
@@ -39,8 +43,8 @@ pub record IsLawful (p : Position) : Type 0 where
   pub half : p.half ≤ top_count
   pub full : (1 ≤ p.full) × (p.full ≤ top_count)
 
--- The parts of a position as they were given, except for rights whose king or rook is not at home, a passant square
--- on which no legal capture is possible, and counts out of range.
+-- The parts of a position as they were given, except for rights whose king or rook is not at home,
+-- a passant square on which no legal capture is possible, and counts out of range.
 pub record Settles (given p : Position) : Type 0 where
   pub men : p.men ≡ given.men
   pub side : p.side ≡ given.side
@@ -48,7 +52,9 @@ pub record Settles (given p : Position) : Type 0 where
   pub white_long : IsTrue p.rights.wq ↔ (IsTrue given.rights.wq × AreHome given.men White 4 0)
   pub black_short : IsTrue p.rights.bk ↔ (IsTrue given.rights.bk × AreHome given.men Black 60 63)
   pub black_long : IsTrue p.rights.bq ↔ (IsTrue given.rights.bq × AreHome given.men Black 60 56)
-  pub passant : (at : ℕ) → (p.passant ≡ Some at) ↔ ((given.passant ≡ Some at) × CanTake (record p { passant = Some at }) at)
+  pub passant : (at : ℕ)
+      → (p.passant ≡ Some at)
+      ↔ ((given.passant ≡ Some at) × CanTake (record p { passant = Some at }) at)
   pub half : p.half ≡ min given.half top_count
   pub full : p.full ≡ max 1 (min given.full top_count)
 

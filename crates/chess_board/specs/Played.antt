@@ -1,5 +1,6 @@
 -- What a legal move leaves, in the words of the Laws.
-use Rattle.std.specs.Prelude.{ℕ, ◌≡◌, ◌≢◌, ◌<◌, ◌+◌, ◌-◌, ◌⊎◌, ◌↔◌, IsTrue, Option, Some, None, length, min}
+use Rattle.std.specs.Prelude.{ℕ, ◌≡◌, ◌≢◌, ◌<◌, ◌+◌, ◌-◌, ◌⊎◌, ◌↔◌}
+use Rattle.std.specs.Prelude.{IsTrue, Option, Some, None, length, min}
 use Rattle.chess_board.specs.declared.board.Side.{Side}
 use Rattle.chess_board.specs.declared.board.Kind.{Kind}
 use Rattle.chess_board.specs.declared.board.Kind.TheVariants.{Pawn, Rook, King}
@@ -21,16 +22,20 @@ Hops p piece from to corner crossed =
 abbrev pub TakesBeside : Position → Kind → ℕ → ℕ → Type 0
 TakesBeside p piece from to = (piece ≡ Pawn) × TakesPassant p from to
 
--- The man leaves its square and stands on another, in place of what stood there (article 3.1.1). A pawn captured
--- en passant is gone, and the rook of a castling has hopped. Every other square is as it was.
-pub record MovesMen (p : Position) (piece : Kind) (from to : ℕ) (promotion : Option Kind) (after : Men) : Type 0 where
+-- The man leaves its square and stands on another, in place of what stood there (article
+-- 3.1.1). A pawn captured en passant is gone, and the rook of a castling has hopped. Every
+-- other square is as it was.
+pub record MovesMen (p : Position) (piece : Kind) (from to : ℕ) (promotion : Option Kind)
+    (after : Men) : Type 0 where
   pub whole : length after ≡ 64
   pub left : man_at after from ≡ None
   pub arrived : man_at after to ≡ Some (p.side, becomes piece promotion)
   pub taken : TakesBeside p piece from to → man_at after (beside from to) ≡ None
-  pub hopped : (corner crossed : ℕ) → Hops p piece from to corner crossed → (man_at after corner ≡ None) × (man_at after crossed ≡ Some (p.side, Rook))
+  pub hopped : (corner crossed : ℕ) → Hops p piece from to corner crossed
+      → (man_at after corner ≡ None) × (man_at after crossed ≡ Some (p.side, Rook))
   pub others : (s : ℕ) → s ≢ from → s ≢ to → (TakesBeside p piece from to → s ≢ beside from to) →
-      ((corner crossed : ℕ) → Hops p piece from to corner crossed → (s ≢ corner) × (s ≢ crossed)) → man_at after s ≡ man_at p.men s
+      ((corner crossed : ℕ) → Hops p piece from to corner crossed → (s ≢ corner) × (s ≢ crossed))
+      → man_at after s ≡ man_at p.men s
 
 -- no man leaves or reaches the king's or the rook's square
 abbrev pub LeavesHome : ℕ → ℕ → ℕ → ℕ → Type 0
@@ -40,13 +45,16 @@ LeavesHome king rook from to = ((from ≢ king) × (to ≢ king)) × ((from ≢ 
 abbrev pub Passes : Side → Kind → ℕ → ℕ → ℕ → Type 0
 Passes side piece from to over =
     (piece ≡ Pawn)
-    × ((((files_apart from to ≡ 0) × (rank_of from ≡ second_rank side)) × Ahead side (rank_of from) (rank_of to) 2) × (over ≡ on_the_way from to 1))
+    × ((((files_apart from to ≡ 0) × (rank_of from ≡ second_rank side))
+    × Ahead side (rank_of from) (rank_of to) 2)
+    × (over ≡ on_the_way from to 1))
 
--- The other side is on move. A castling right is lost when its king or rook moves, or when its rook is
--- captured at home (article 3.8.2). The square that a pawn passed is the passant square, if a
--- legal capture on it is possible. The half-move count begins again after a pawn's move or a capture
--- (article 9.3), and the full-move count grows after Black's move.
-pub record Plays (p : Position) (from to : ℕ) (promotion : Option Kind) (q : Position) : Type 0 where
+-- The other side is on move. A castling right is lost when its king or rook moves, or when its rook
+-- is captured at home (article 3.8.2). The square that a pawn passed is the passant square, if a
+-- legal capture on it is possible. The half-move count begins again after a pawn's move or a
+-- capture (article 9.3), and the full-move count grows after Black's move.
+pub record Plays (p : Position) (from to : ℕ) (promotion : Option Kind)
+    (q : Position) : Type 0 where
   pub piece : Kind
   pub man : man_at p.men from ≡ Some (p.side, piece)
   pub men : MovesMen p piece from to promotion q.men
@@ -55,11 +63,15 @@ pub record Plays (p : Position) (from to : ℕ) (promotion : Option Kind) (q : P
   pub white_long : IsTrue q.rights.wq ↔ (IsTrue p.rights.wq × LeavesHome 4 0 from to)
   pub black_short : IsTrue q.rights.bk ↔ (IsTrue p.rights.bk × LeavesHome 60 63 from to)
   pub black_long : IsTrue q.rights.bq ↔ (IsTrue p.rights.bq × LeavesHome 60 56 from to)
-  pub passant : (at : ℕ) → (q.passant ≡ Some at) ↔ (Passes p.side piece from to at × CanTake (record q { passant = Some at }) at)
+  pub passant : (at : ℕ)
+      → (q.passant ≡ Some at)
+      ↔ (Passes p.side piece from to at × CanTake (record q { passant = Some at }) at)
   pub begun : (piece ≡ Pawn) ⊎ (man_at p.men to ≢ None) → q.half ≡ 0
   pub counted : piece ≢ Pawn → man_at p.men to ≡ None → q.half ≡ min (p.half + 1) top_count
   pub full : q.full ≡ full_of p.side p.full
 
 -- the position after a legal move is what the Laws say
 abbrev pub PlayLaw : Type 0
-PlayLaw = (p : Position) (from to : ℕ) (promotion : Option Kind) → IsPosition p → from < 64 → to < 64 → IsLegal p from to promotion → Plays p from to promotion (position_after p from to promotion)
+PlayLaw =
+    (p : Position) (from to : ℕ) (promotion : Option Kind) → IsPosition p → from < 64 → to < 64
+    → IsLegal p from to promotion → Plays p from to promotion (position_after p from to promotion)

@@ -1,9 +1,11 @@
 -- Where a man could go on an empty board, and sets of squares by the bits of a number.
-use Rattle.std.specs.Prelude.{ℕ, ◌≡◌, ◌<◌, Bool, true, false, ◌&&◌, ◌||◌, ◌==◌, Option, Some, None, max, nat_lt, nat_le, ◌≢◌, slice_set}
+use Rattle.std.specs.Prelude.{ℕ, ◌≡◌, ◌<◌, Bool, true, false, ◌&&◌, ◌||◌, ◌==◌}
+use Rattle.std.specs.Prelude.{Option, Some, None, max, nat_lt, nat_le, ◌≢◌, slice_set}
 use Rattle.std.specs.Int.{bit_at}
 use Rattle.chess_board.specs.declared.board.Side.{Side}
 use Rattle.chess_board.specs.declared.board.Kind.{Kind}
-use Rattle.chess_board.specs.declared.board.Kind.TheVariants.{Pawn, Knight, Bishop, Rook, Queen, King}
+use Rattle.chess_board.specs.declared.board.Kind.TheVariants.{Pawn, Knight, Bishop}
+use Rattle.chess_board.specs.declared.board.Kind.TheVariants.{Rook, Queen, King}
 use Rattle.chess_board.specs.Board.{Man, Men, man_at, same_side, gap, files_apart, rank_of}
 use Rattle.chess_board.specs.Attack.{is_ahead, attacks, is_checked}
 use Rattle.chess_board.specs.Position.{Position}
@@ -11,12 +13,17 @@ use Rattle.chess_board.specs.Rules.{reaches_to, may_land, goes, promotes, men_af
 
 -- what a man's move looks like on an empty board: by how many files, from which rank to which
 abbrev pub shape : Side → Kind → ℕ → ℕ → ℕ → Bool
-shape side Pawn files from to = nat_le files 1 && (is_ahead side from to 1 || ((files == 0) && is_ahead side from to 2))
-shape side Knight files from to = ((files == 1) && (gap from to == 2)) || ((files == 2) && (gap from to == 1))
+shape side Pawn files from to =
+    nat_le files 1 && (is_ahead side from to 1 || ((files == 0) && is_ahead side from to 2))
+shape side Knight files from to =
+    ((files == 1) && (gap from to == 2)) || ((files == 2) && (gap from to == 1))
 shape side King files from to = nat_le files 2 && nat_le (gap from to) 1
 shape side Bishop files from to = nat_lt 0 (max files (gap from to)) && (files == gap from to)
-shape side Rook files from to = nat_lt 0 (max files (gap from to)) && ((files == 0) || (gap from to == 0))
-shape side Queen files from to = nat_lt 0 (max files (gap from to)) && ((files == gap from to) || ((files == 0) || (gap from to == 0)))
+shape side Rook files from to =
+    nat_lt 0 (max files (gap from to)) && ((files == 0) || (gap from to == 0))
+shape side Queen files from to =
+    nat_lt 0 (max files (gap from to))
+    && ((files == gap from to) || ((files == 0) || (gap from to == 0)))
 
 -- whether a man could go from a square to another on an empty board, or castle so
 abbrev pub form : Side → Kind → ℕ → ℕ → Bool
@@ -57,15 +64,21 @@ Bounds p from set = (to : ℕ) → to < 64 → has set to ≡ false → reaches_
 
 -- no man of the side that stands outside the set attacks the square, wherever the other men stand
 abbrev pub Nears : Men → Side → ℕ → ℕ → Type 0
-Nears men side at set = (others : Men) (s : ℕ) → s < 64 → has set s ≡ false → man_at others s ≡ man_at men s → attacks others side s at ≡ false
+Nears men side at set =
+    (others : Men) (s : ℕ) → s < 64 → has set s ≡ false → man_at others s ≡ man_at men s
+    → attacks others side s at ≡ false
 
--- no man that stands outside the set shields a square from an attack: with him away, what attacks it from another square did before
+-- no man that stands outside the set shields a square from an attack: with him away, what attacks
+-- it from another square did before
 abbrev pub Shields : Men → Side → ℕ → ℕ → ℕ → Type 0
 Shields men side from at set =
-    (s : ℕ) → s < 64 → from ≢ s → has set s ≡ false → attacks (slice_set men s None) side from at ≡ true → attacks men side from at ≡ true
+    (s : ℕ) → s < 64 → from ≢ s → has set s ≡ false
+    → attacks (slice_set men s None) side from at ≡ true → attacks men side from at ≡ true
 
 -- a man that leaves a square outside the set leaves its king unattacked
 abbrev pub Frees : Position → ℕ → Type 0
 Frees p set =
-    (piece : Kind) (from to : ℕ) (promotion : Option Kind) → from < 64 → to < 64 → has set from ≡ false → man_at p.men from ≡ Some (p.side, piece) → promotes p.side piece to promotion ≡ true →
-    is_checked (men_after p piece from to promotion) p.side ≡ false
+    (piece : Kind) (from to : ℕ) (promotion : Option Kind) → from < 64 → to < 64
+    → has set from ≡ false → man_at p.men from ≡ Some (p.side, piece)
+    → promotes p.side piece to promotion ≡ true
+    → is_checked (men_after p piece from to promotion) p.side ≡ false

@@ -4,7 +4,8 @@ use Rattle.std.specs.List.{range_with_len}
 use Rattle.std.specs.Simd.Lanes.{mask_l}
 use Rattle.chess_board.specs.declared.board.Side.TheVariants.{White, Black}
 use Rattle.chess_board.specs.declared.board.Kind.{Kind}
-use Rattle.chess_board.specs.declared.board.Kind.TheVariants.{Pawn, Knight, Bishop, Rook, Queen, King}
+use Rattle.chess_board.specs.declared.board.Kind.TheVariants.{Pawn, Knight, Bishop}
+use Rattle.chess_board.specs.declared.board.Kind.TheVariants.{Rook, Queen, King}
 use Rattle.chess_board.specs.declared.men.Board.TheInside.{Inside}
 use Rattle.chess_board.specs.Reach.{has}
 use Rattle.chess_board.specs.Board.{Man, Men, is_of, squares}
@@ -26,15 +27,19 @@ is_a piece (Some man) = same_kind piece man.1
 -- the kind by the first of five tests that holds
 abbrev pub kind_by : Bool → Bool → Bool → Bool → Bool → Kind
 kind_by pawn knight bishop rook queen =
-    if pawn then Pawn else (if knight then Knight else (if bishop then Bishop else (if rook then Rook else (if queen then Queen else King))))
+    if pawn then Pawn
+    else (if knight then Knight
+    else (if bishop then Bishop else (if rook then Rook else (if queen then Queen else King))))
 
 abbrev pub man_by : Bool → Bool → Kind → Man
-man_by white black piece = if white then Some (White, piece) else (if black then Some (Black, piece) else None)
+man_by white black piece =
+    if white then Some (White, piece) else (if black then Some (Black, piece) else None)
 
 -- what stands on a square, by the sets
 abbrev pub man_of : Inside → ℕ → Man
 man_of a s =
-    man_by (has a.white s) (has a.black s) (kind_by (has a.pawns s) (has a.knights s) (has a.bishops s) (has a.rooks s) (has a.queens s))
+    man_by (has a.white s) (has a.black s)
+    (kind_by (has a.pawns s) (has a.knights s) (has a.bishops s) (has a.rooks s) (has a.queens s))
 
 -- what stands on each square
 abbrev pub men_of : Inside → Men
@@ -56,6 +61,7 @@ sets_of men = record {
   kings = set_of (is_a King) men;
 }
 
--- The sets are those of the men that they give: on each square no man, or one of one side and one kind.
+-- The sets are those of the men that they give: on each square no man, or one
+-- of one side and one kind.
 abbrev pub AreSets : Inside → Type 0
 AreSets a = sets_of (men_of a) ≡ a

@@ -1,5 +1,6 @@
 -- The move that a text spells, as a function of the text.
-use Rattle.std.specs.Prelude.{◌≡◌, ℕ, ◌+◌, ◌-◌, ◌*◌, Bool, true, false, nat_lt, nat_le, ◌&&◌, if◌then◌else◌, List, [], ◌∷◌, Option, Some, None, refl}
+use Rattle.std.specs.Prelude.{◌≡◌, ℕ, ◌+◌, ◌-◌, ◌*◌, Bool, true, false, nat_lt, nat_le}
+use Rattle.std.specs.Prelude.{◌&&◌, if◌then◌else◌, List, [], ◌∷◌, Option, Some, None, refl}
 use Rattle.std.proofs.lemmas.Bool.{ltb-true}
 use Rattle.chess_board.specs.declared.board.Square.{Square}
 use Rattle.chess_board.specs.declared.board.Move.{Move}
@@ -14,13 +15,15 @@ square_if n false e = None
 -- the square that a letter and a digit name
 abbrev pub square_named : ℕ → ℕ → Option Square
 square_named file rank =
-    if nat_le letter_a file && nat_le file letter_h && nat_le digit_one rank && nat_le rank digit_eight
+    if nat_le letter_a file && nat_le file letter_h && nat_le digit_one rank
+    && nat_le rank digit_eight
     then square_if ((rank - digit_one) * 8 + (file - letter_a))
     (nat_lt ((rank - digit_one) * 8 + (file - letter_a)) 64) refl
     else None
 
 abbrev pub move_from : Option Square → Option Square → Option Kind → Option Move
-move_from (Some from) (Some to) promotion = Some (record { from = from; to = to; promotion = promotion })
+move_from (Some from) (Some to) promotion =
+    Some (record { from = from; to = to; promotion = promotion })
 move_from None to promotion = None
 move_from (Some from) None promotion = None
 
@@ -31,5 +34,6 @@ move_with_promotion from to (Some piece) = move_from from to (Some piece)
 -- the move that a text spells
 unfoldable pub move_of : List ℕ → Option Move
 move_of (f ∷ r ∷ g ∷ s ∷ []) = move_from (square_named f r) (square_named g s) None
-move_of (f ∷ r ∷ g ∷ s ∷ letter ∷ []) = move_with_promotion (square_named f r) (square_named g s) (promotion_of letter)
+move_of (f ∷ r ∷ g ∷ s ∷ letter ∷ []) =
+    move_with_promotion (square_named f r) (square_named g s) (promotion_of letter)
 move_of _ = None

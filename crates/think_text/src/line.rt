@@ -11,7 +11,7 @@ ghost use Rattle.uci_lines.specs.Scores.{IsCentis};
 ghost use Rattle.think_text.specs.Line.{IsHeard, IsPlayable, HasRoom, legal_run, moved_position, value_of, spaced_moves, thinking_line, with_line, written};
 ghost use Rattle.peer_words.specs.Bytes.{blank};
 
-use crate::texts::{bytes_of, hint_text, written};
+use crate::texts::{bytes_of, hint_text, put_move, written};
 use crate::value::value_of;
 use cecp_lines::{Reply, Spelling, write_reply};
 use chess_board::{Move, Position};
@@ -57,7 +57,7 @@ fn write_spaced(spelling: Spelling, at: &Position, m: Move, out: &mut Out)
     ensures { out.new ≡ with out.old (blank ∷ written spelling at.now m) }
 {
     out.put(b" ");
-    out.put(written(spelling, at, m).as_slice());
+    put_move(spelling, at, m, out);
 }
 
 /// Writes each move after a blank, as long as each is legal in its turn.

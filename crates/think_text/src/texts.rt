@@ -1,6 +1,7 @@
 // Moves as texts.
-ghost use Rattle.std.specs.Prelude.{◌≡◌, true};
+ghost use Rattle.std.specs.Prelude.{◌≡◌, ◌+◌, ◌≤◌, true, length};
 ghost use Rattle.std.specs.Option.{option_map};
+ghost use Rattle.line_io.specs.Out.{with};
 ghost use Rattle.chess_board.specs.Place.{legal};
 ghost use Rattle.chess_board.specs.Text.{text_of};
 ghost use Rattle.cecp_lines.specs.Replies.{IsWritable};
@@ -10,6 +11,7 @@ use crate::Pondered;
 use arrayvec::ArrayVec;
 use cecp_lines::Spelling;
 use chess_board::{Move, Position, write_move};
+use line_io::Out;
 use san_text::write_san;
 
 /// A move by its squares.
@@ -30,6 +32,18 @@ pub(crate) fn written(spelling: Spelling, at: &Position, m: Move) -> ArrayVec<u8
     match spelling {
         Spelling::Coordinates => squares_of(m),
         Spelling::San => write_san(at, m),
+    }
+}
+
+/// Writes a move of a position.
+pub(crate) fn put_move(spelling: Spelling, at: &Position, m: Move, out: &mut Out)
+    requires legal { legal at.now m ≡ true }
+    requires room { length out.old.text + length (written spelling at.now m) ≤ out.old.room }
+    ensures { out.new ≡ with out.old (written spelling at.now m) }
+{
+    match spelling {
+        Spelling::Coordinates => out.put(write_move(m).as_slice()),
+        Spelling::San => out.put(write_san(at, m).as_slice()),
     }
 }
 

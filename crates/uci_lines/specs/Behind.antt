@@ -1,5 +1,6 @@
 -- What follows fixed words and numbers.
-use Rattle.std.specs.Prelude.{ℕ, List, [], ◌∷◌, drop, decimal, if◌then◌else◌, ◌==◌, Option, Some, None}
+use Rattle.std.specs.Prelude.{ℕ, List, [], ◌∷◌, drop, decimal}
+use Rattle.std.specs.Prelude.{if◌then◌else◌, ◌==◌, Option, Some, None}
 use Rattle.std.specs.List.{before_first}
 use Rattle.std.specs.Str.{bytes_eq}
 use Rattle.peer_words.specs.Tokens.{is_white, token_end}
@@ -26,7 +27,8 @@ count_with_rest (Some n) others = Some (n, others)
 -- the count at the front, up to white space, and what follows it
 abbrev pub number_in : Option (List ℕ) → Option (ℕ × List ℕ)
 number_in None = None
-number_in (Some text) = count_with_rest (exact_count (before_first is_white text)) (drop (token_end text) text)
+number_in (Some text) =
+    count_with_rest (exact_count (before_first is_white text)) (drop (token_end text) text)
 
 -- a word at the front and a count after it
 unfoldable pub number_behind : List ℕ → List ℕ → Option (ℕ × List ℕ)

@@ -1,11 +1,12 @@
 -- The parts of a combo.
-use Rattle.std.specs.Prelude.{ℕ, List, [], ◌∷◌, codes, length, drop, Bool, true, ◌&&◌, if◌then◌else◌, Option, Some, None}
+use Rattle.std.specs.Prelude.{ℕ, List, [], ◌∷◌, codes, length, drop, Bool}
+use Rattle.std.specs.Prelude.{true, ◌&&◌, if◌then◌else◌, Option, Some, None}
 use Rattle.std.specs.List.{before_first, onto_first}
 use Rattle.peer_words.specs.Tokens.{is_white, trimmed, first_token, rest}
 use Rattle.uci_lines.specs.Cuts.{Found, found_token, is_word, is_choice}
 
--- A text, cut before each token that is `default` or `var`. The first piece is what is before all of
--- them; each other begins with its word. fresh: as for `found_token`.
+-- A text, cut before each token that is `default` or `var`. The first piece is what is before all
+-- of them; each other begins with its word. fresh: as for `found_token`.
 abbrev pub pieces : Bool → List ℕ → List (List ℕ)
 pieces fresh [] = [] ∷ []
 pieces fresh (b ∷ bs) =
@@ -17,7 +18,8 @@ pieces fresh (b ∷ bs) =
 abbrev pub values_among : List (List ℕ) → List (List ℕ)
 values_among [] = []
 values_among (piece ∷ others) =
-    if is_word (codes "var") (first_token piece) then rest piece ∷ values_among others else values_among others
+    if is_word (codes "var") (first_token piece) then rest piece ∷ values_among others
+    else values_among others
 
 -- the values of a combo
 unfoldable pub values : List ℕ → List (List ℕ)

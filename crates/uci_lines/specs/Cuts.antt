@@ -1,11 +1,13 @@
 -- Lines that are cut at certain tokens.
-use Rattle.std.specs.Prelude.{ℕ, List, [], ◌∷◌, drop, codes, Bool, ◌&&◌, ◌||◌, if◌then◌else◌, Option, Some, None}
+use Rattle.std.specs.Prelude.{ℕ, List, [], ◌∷◌, drop, codes, Bool, ◌&&◌}
+use Rattle.std.specs.Prelude.{◌||◌, if◌then◌else◌, Option, Some, None}
 use Rattle.std.specs.List.{before_first}
 use Rattle.std.specs.Option.{option_map}
 use Rattle.std.specs.Str.{bytes_eq}
 use Rattle.peer_words.specs.Tokens.{is_white, token_end}
 use Rattle.uci_lines.specs.declared.cut.Delimiter.{Delimiter}
-use Rattle.uci_lines.specs.declared.cut.Delimiter.TheVariants.{Message, Kind, Default, Choice, Ponder}
+use Rattle.uci_lines.specs.declared.cut.Delimiter.TheVariants.{Message, Kind, Default}
+use Rattle.uci_lines.specs.declared.cut.Delimiter.TheVariants.{Choice, Ponder}
 use Rattle.uci_lines.specs.declared.cut.FoundToken.{FoundToken as CodeFound}
 
 -- the bytes before a token, the token, and the bytes after it
@@ -23,7 +25,11 @@ abbrev pub found_token : (List ℕ → Bool) → Bool → List ℕ → Option Fo
 found_token p fresh [] = None
 found_token p fresh (b ∷ bs) =
     if fresh && p (before_first is_white (b ∷ bs))
-    then Some (record { before = []; word = before_first is_white (b ∷ bs); after = drop (token_end (b ∷ bs)) (b ∷ bs) })
+    then Some (record {
+      before = [];
+      word = before_first is_white (b ∷ bs);
+      after = drop (token_end (b ∷ bs)) (b ∷ bs);
+    })
     else option_map (onto_part b) (found_token p (is_white b) bs)
 
 abbrev pub is_word : List ℕ → List ℕ → Bool
@@ -33,7 +39,8 @@ is_word word token = bytes_eq token word
 abbrev pub is_known : List ℕ → Bool
 is_known token =
     is_word (codes "id") token || is_word (codes "uciok") token || is_word (codes "readyok") token
-    || is_word (codes "bestmove") token || is_word (codes "info") token || is_word (codes "option") token
+    || is_word (codes "bestmove") token || is_word (codes "info") token
+    || is_word (codes "option") token
 
 -- the words with which a part of a combo begins
 abbrev pub is_choice : List ℕ → Bool
@@ -47,4 +54,8 @@ stops Choice token = is_choice token
 stops Ponder token = is_word (codes "ponder") token
 
 abbrev pub found_of : CodeFound → Found
-found_of found = record { before = found.before.now; word = found.word.now; after = found.after.now }
+found_of found = record {
+  before = found.before.now;
+  word = found.word.now;
+  after = found.after.now;
+}

@@ -19,7 +19,9 @@ hint_in (Some part) = move_of (first_token part.after)
 
 -- after `bestmove`
 abbrev pub best_said : List ℕ → EngineMsg
-best_said text = Best (move_of (first_token text)) (hint_in (found_token (is_word (codes "ponder")) true (rest text)))
+best_said text =
+    Best (move_of (first_token text))
+    (hint_in (found_token (is_word (codes "ponder")) true (rest text)))
 
 -- a known word, with what follows it
 abbrev pub said_after : List ℕ → List ℕ → EngineMsg

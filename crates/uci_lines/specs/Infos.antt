@@ -1,5 +1,6 @@
 -- What an engine reports of its search.
-use Rattle.std.specs.Prelude.{ℕ, List, [], ◌∷◌, codes, Bool, true, false, if◌then◌else◌, Option, None}
+use Rattle.std.specs.Prelude.{ℕ, List, [], ◌∷◌, codes, Bool, true}
+use Rattle.std.specs.Prelude.{false, if◌then◌else◌, Option, None}
 use Rattle.std.specs.Option.{option_or, option_map}
 use Rattle.peer_words.specs.Tokens.{tokens}
 use Rattle.peer_words.specs.Numbers.{count, centis}
@@ -70,11 +71,12 @@ abbrev pub ends_info : InfoField → Bool
 ends_info fields.Text = true
 ends_info _ = false
 
--- The tokens are read from left to right, up to `string`. What a field takes names no field itself, so
--- it may be ignored like any other token.
+-- The tokens are read from left to right, up to `string`. What a field takes names no field itself,
+-- so it may be ignored like any other token.
 abbrev pub facts_from : Info → List (List ℕ) → Info
 facts_from f [] = f
-facts_from f (t ∷ ts) = if ends_info (field_named t) then f else facts_from (hear (field_named t) f ts) ts
+facts_from f (t ∷ ts) =
+    if ends_info (field_named t) then f else facts_from (hear (field_named t) f ts) ts
 
 abbrev pub no_facts : Info
 no_facts = record {

@@ -43,6 +43,7 @@ engine_message_of (messages.Name text) = Name text.now
 engine_message_of messages.UciOk = UciOk
 engine_message_of messages.ReadyOk = ReadyOk
 engine_message_of (messages.Best best hint) = Best best hint
-engine_message_of (messages.OptionLine option) = OptionLine option.name.now (option_kind_of option.kind)
+engine_message_of (messages.OptionLine option) =
+    OptionLine option.name.now (option_kind_of option.kind)
 engine_message_of (messages.Info info) = Info (info_of info)
 engine_message_of messages.Nothing = Nothing

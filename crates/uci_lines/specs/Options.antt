@@ -1,5 +1,6 @@
 -- The declarations of options.
-use Rattle.std.specs.Prelude.{ℤ, int_lt, ℕ, List, [], ◌∷◌, codes, Bool, true, false, if◌then◌else◌, Option, Some, None}
+use Rattle.std.specs.Prelude.{ℤ, int_lt, ℕ, List, [], ◌∷◌, codes, Bool, true}
+use Rattle.std.specs.Prelude.{false, if◌then◌else◌, Option, Some, None}
 use Rattle.std.specs.Int.{int_min, int_max}
 use Rattle.std.specs.Option.{option_or}
 use Rattle.peer_words.specs.Tokens.{tokens, trimmed, first_token, rest}
@@ -7,7 +8,8 @@ use Rattle.peer_words.specs.Numbers.{signed_number}
 use Rattle.uci_lines.specs.declared.range.SpinRange.{SpinRange as Numbers}
 use Rattle.uci_lines.specs.Cuts.{Found, found_token, is_word}
 use Rattle.uci_lines.specs.Choices.{values, default_value}
-use Rattle.uci_lines.specs.Messages.{OptionKind, Check, Spin, Combo, Button, Text, EngineMsg, OptionLine, Nothing}
+use Rattle.uci_lines.specs.Messages.{OptionKind, Check, Spin, Combo, Button}
+use Rattle.uci_lines.specs.Messages.{Text, EngineMsg, OptionLine, Nothing}
 
 -- whether `default` is followed by `true`
 abbrev pub is_on : Option Found → Bool
@@ -30,9 +32,12 @@ first_signed (t ∷ ts) = signed_number t
 -- what a token says of the range, with the tokens after it
 abbrev pub limited : SpinRange → List ℕ → List (List ℕ) → SpinRange
 limited r t ts =
-    if is_word (codes "default") t then record { default = option_or (first_signed ts) r.default; min = r.min; max = r.max }
-    else (if is_word (codes "min") t then record { default = r.default; min = option_or (first_signed ts) r.min; max = r.max }
-    else (if is_word (codes "max") t then record { default = r.default; min = r.min; max = option_or (first_signed ts) r.max }
+    if is_word (codes "default") t
+    then record { default = option_or (first_signed ts) r.default; min = r.min; max = r.max }
+    else (if is_word (codes "min") t
+    then record { default = r.default; min = option_or (first_signed ts) r.min; max = r.max }
+    else (if is_word (codes "max") t
+    then record { default = r.default; min = r.min; max = option_or (first_signed ts) r.max }
     else r))
 
 abbrev pub range_from : SpinRange → List (List ℕ) → SpinRange
@@ -44,7 +49,8 @@ no_range = record { default = None; min = None; max = None }
 
 -- The default is moved into the range.
 abbrev pub spin : Option ℤ → Option ℤ → Option ℤ → Option OptionKind
-spin (Some default) (Some min) (Some max) = if int_lt max min then None else Some (Spin (int_max min (int_min default max)) min max)
+spin (Some default) (Some min) (Some max) =
+    if int_lt max min then None else Some (Spin (int_max min (int_min default max)) min max)
 spin _ _ _ = None
 
 abbrev pub spin_in : SpinRange → Option OptionKind
@@ -61,11 +67,13 @@ text_after (Some part) = shown_text (trimmed part.after)
 -- the kind of an option by its word, with the rest of the line
 abbrev pub shape_named : List ℕ → List ℕ → Option OptionKind
 shape_named word text =
-    if is_word (codes "check") word then Some (Check (is_on (found_token (is_word (codes "default")) true text)))
+    if is_word (codes "check") word
+    then Some (Check (is_on (found_token (is_word (codes "default")) true text)))
     else (if is_word (codes "spin") word then spin_in (range_from no_range (tokens text))
     else (if is_word (codes "combo") word then Some (Combo (default_value text) (values text))
     else (if is_word (codes "button") word then Some Button
-    else (if is_word (codes "string") word then Some (Text (text_after (found_token (is_word (codes "default")) true text)))
+    else (if is_word (codes "string") word
+    then Some (Text (text_after (found_token (is_word (codes "default")) true text)))
     else None))))
 
 abbrev pub option_line : List ℕ → Option OptionKind → EngineMsg
@@ -75,9 +83,12 @@ option_line name (Some shape) = OptionLine name shape
 -- the name is before the first `type`
 abbrev pub option_with : Option Found → EngineMsg
 option_with None = Nothing
-option_with (Some part) = option_line (trimmed part.before) (shape_named (first_token part.after) (rest part.after))
+option_with (Some part) =
+    option_line (trimmed part.before) (shape_named (first_token part.after) (rest part.after))
 
 -- what follows `option`
 unfoldable pub option_said : List ℕ → EngineMsg
 option_said text =
-    if is_word (codes "name") (first_token text) then option_with (found_token (is_word (codes "type")) true (rest text)) else Nothing
+    if is_word (codes "name") (first_token text)
+    then option_with (found_token (is_word (codes "type")) true (rest text))
+    else Nothing

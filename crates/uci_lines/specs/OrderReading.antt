@@ -1,5 +1,6 @@
 -- The orders that may be written, and the order that a line is.
-use Rattle.std.specs.Prelude.{◌≡◌, ℕ, List, [], ◌∷◌, ◌++◌, codes, Bool, true, false, not, ◌&&◌, if◌then◌else◌, Option, Some, None}
+use Rattle.std.specs.Prelude.{◌≡◌, ℕ, List, [], ◌∷◌, ◌++◌, codes, Bool, true}
+use Rattle.std.specs.Prelude.{false, not, ◌&&◌, if◌then◌else◌, Option, Some, None}
 use Rattle.std.specs.Str.{bytes_eq}
 use Rattle.chess_board.specs.Position.{Position as AnyPosition}
 use Rattle.chess_board.specs.Play.{IsPosition}
@@ -7,13 +8,16 @@ use Rattle.fen_text.specs.Written.{position_fen}
 use Rattle.uci_lines.specs.declared.orders.GoControl.{GoControl}
 use Rattle.uci_lines.specs.declared.orders.GoControl.TheVariants.{Infinite, MoveTime, Clock}
 use Rattle.uci_lines.specs.Behind.{after, number_behind, perhaps_number}
-use Rattle.uci_lines.specs.Written.{is_text, value_cut, holds_value, is_moves, is_fen, fields_before, is_count, is_positive}
-use Rattle.uci_lines.specs.Orders.{Order, Uci, IsReady, NewGame, Stop, PonderHit, Quit, SetOption, Position, Go, order_text}
+use Rattle.uci_lines.specs.Written.{is_text, value_cut, holds_value, is_moves}
+use Rattle.uci_lines.specs.Written.{is_fen, fields_before, is_count, is_positive}
+use Rattle.uci_lines.specs.Orders.{Order, Uci, IsReady, NewGame, Stop, PonderHit}
+use Rattle.uci_lines.specs.Orders.{Quit, SetOption, Position, Go, order_text}
 
 -- The name ends before the first ` value `.
 abbrev pub is_setting : List ℕ → Option (List ℕ) → Bool
 is_setting name None = is_text name && not (holds_value name)
-is_setting name (Some value) = is_text name && is_text value && not (holds_value (name ++ codes " value"))
+is_setting name (Some value) =
+    is_text name && is_text value && not (holds_value (name ++ codes " value"))
 
 abbrev pub is_start : Option (List ℕ) → Bool
 is_start None = true
@@ -31,7 +35,8 @@ abbrev pub is_none_of : Option ℕ → Bool
 is_none_of None = true
 is_none_of (Some n) = false
 
--- Without end there is neither pondering nor a depth. All numbers but the increments are at least 1.
+-- Without end there is neither pondering nor a depth. All numbers but the
+-- increments are at least 1.
 abbrev pub is_search : Bool → GoControl → Option ℕ → Bool
 is_search ponder Infinite depth = not ponder && is_none_of depth
 is_search ponder (MoveTime time) depth = is_positive time && is_positive_or_none depth
@@ -53,7 +58,8 @@ where_true false order = None
 -- after `setoption name `
 abbrev pub setting_by : Option (List ℕ × List ℕ) → List ℕ → Option Order
 setting_by None text = where_true (is_text text) (SetOption text None)
-setting_by (Some halves) text = where_true (is_text halves.0 && is_text halves.1) (SetOption halves.0 (Some halves.1))
+setting_by (Some halves) text =
+    where_true (is_text halves.0 && is_text halves.1) (SetOption halves.0 (Some halves.1))
 
 abbrev pub setting_in : List ℕ → Option Order
 setting_in text = setting_by (value_cut text) text
@@ -91,11 +97,15 @@ position_in text = start_in (after (codes "startpos") text) text
 abbrev pub clock_four : ℕ → ℕ → ℕ → Option (ℕ × List ℕ) → Option (GoControl × List ℕ)
 clock_four wtime btime winc None = None
 clock_four wtime btime winc (Some binc) =
-    Some (Clock wtime btime winc binc.0 (perhaps_number (codes " movestogo ") binc.1).0, (perhaps_number (codes " movestogo ") binc.1).1)
+    Some (
+      Clock wtime btime winc binc.0 (perhaps_number (codes " movestogo ") binc.1).0,
+      (perhaps_number (codes " movestogo ") binc.1).1,
+    )
 
 abbrev pub clock_three : ℕ → ℕ → Option (ℕ × List ℕ) → Option (GoControl × List ℕ)
 clock_three wtime btime None = None
-clock_three wtime btime (Some winc) = clock_four wtime btime winc.0 (number_behind (codes " binc ") winc.1)
+clock_three wtime btime (Some winc) =
+    clock_four wtime btime winc.0 (number_behind (codes " binc ") winc.1)
 
 abbrev pub clock_two : ℕ → Option (ℕ × List ℕ) → Option (GoControl × List ℕ)
 clock_two wtime None = None
@@ -124,11 +134,13 @@ is_nil [] = true
 is_nil (b ∷ bs) = false
 
 abbrev pub search_end : Bool → GoControl → Option ℕ × List ℕ → Option Order
-search_end ponder control depth = where_true (is_nil depth.1 && is_search ponder control depth.0) (Go ponder control depth.0)
+search_end ponder control depth =
+    where_true (is_nil depth.1 && is_search ponder control depth.0) (Go ponder control depth.0)
 
 abbrev pub search_with : Bool → Option (GoControl × List ℕ) → Option Order
 search_with ponder None = None
-search_with ponder (Some control) = search_end ponder control.0 (perhaps_number (codes " depth ") control.1)
+search_with ponder (Some control) =
+    search_end ponder control.0 (perhaps_number (codes " depth ") control.1)
 
 abbrev pub ponder_or : Option (List ℕ) → List ℕ → Option Order
 ponder_or (Some others) text = search_with true (control_in others)

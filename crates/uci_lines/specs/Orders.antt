@@ -1,5 +1,6 @@
 -- The orders to an engine, whatever memory their texts lie in, and how they are written.
-use Rattle.std.specs.Prelude.{ℕ, List, [], ◌∷◌, ◌++◌, codes, decimal, Bool, true, false, Option, Some, None}
+use Rattle.std.specs.Prelude.{ℕ, List, [], ◌∷◌, ◌++◌, codes, decimal}
+use Rattle.std.specs.Prelude.{Bool, true, false, Option, Some, None}
 use Rattle.std.specs.Borrow.{Bor}
 use Rattle.uci_lines.specs.declared.orders.GoControl.{GoControl}
 use Rattle.uci_lines.specs.declared.orders.GoControl.TheVariants.{Infinite, MoveTime, Clock}
@@ -43,17 +44,21 @@ abbrev pub control_text : GoControl → List ℕ
 control_text Infinite = codes " infinite"
 control_text (MoveTime time) = codes " movetime " ++ decimal time
 control_text (Clock wtime btime winc binc movestogo) =
-    codes " wtime " ++ decimal wtime ++ codes " btime " ++ decimal btime ++ codes " winc " ++ decimal winc
-    ++ codes " binc " ++ decimal binc ++ optional_number (codes " movestogo ") movestogo
+    codes " wtime " ++ decimal wtime ++ codes " btime " ++ decimal btime ++ codes " winc "
+    ++ decimal winc ++ codes " binc " ++ decimal binc
+    ++ optional_number (codes " movestogo ") movestogo
 
 abbrev pub set_option_text : List ℕ → Option (List ℕ) → List ℕ
-set_option_text name value = codes "setoption name " ++ name ++ optional_text (codes " value ") value
+set_option_text name value =
+    codes "setoption name " ++ name ++ optional_text (codes " value ") value
 
 abbrev pub position_text : Option (List ℕ) → List ℕ → List ℕ
 position_text fen moves = codes "position " ++ start_text fen ++ moves_text moves
 
 abbrev pub go_text : Bool → GoControl → Option ℕ → List ℕ
-go_text ponder control depth = codes "go" ++ ponder_text ponder ++ control_text control ++ optional_number (codes " depth ") depth
+go_text ponder control depth =
+    codes "go" ++ ponder_text ponder ++ control_text control
+    ++ optional_number (codes " depth ") depth
 
 -- the text of an order, without its line feed
 unfoldable pub order_text : Order → List ℕ

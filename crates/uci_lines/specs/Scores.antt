@@ -13,4 +13,6 @@ IsCentis (Mate moves) = nat_abs moves < 10 ^ 9
 
 -- The scores that lines report have at most nine digits.
 abbrev pub ScoresAreCentis : Type 0
-ScoresAreCentis = (line : List ℕ) (facts : AnyInfo) → engine_message line ≡ Info facts → IfSome facts.score IsCentis
+ScoresAreCentis =
+    (line : List ℕ) (facts : AnyInfo) → engine_message line ≡ Info facts
+    → IfSome facts.score IsCentis

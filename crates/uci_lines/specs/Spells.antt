@@ -1,5 +1,6 @@
 -- The message that a line of the engine spells: the grammar as a relation, row by row.
-use Rattle.std.specs.Prelude.{◌≡◌, ◌≢◌, ◌⊎◌, ℕ, ℤ, int_lt, List, [], ◌∷◌, ◌++◌, codes, Bool, true, false, not, Option, Some, None}
+use Rattle.std.specs.Prelude.{◌≡◌, ◌≢◌, ◌⊎◌, ℕ, ℤ, int_lt, List, [], ◌∷◌, ◌++◌}
+use Rattle.std.specs.Prelude.{codes, Bool, true, false, not, Option, Some, None}
 use Rattle.std.specs.Int.{int_min, int_max}
 use Rattle.std.specs.List.{list_all}
 use Rattle.peer_words.specs.Tokens.{is_white, is_token, tokens, trimmed, first_token, rest}
@@ -11,7 +12,8 @@ use Rattle.uci_lines.specs.Cuts.{Found, is_word, is_known, is_choice}
 use Rattle.uci_lines.specs.Options.{shown_text}
 use Rattle.uci_lines.specs.Infos.{no_facts}
 use Rattle.uci_lines.specs.Info.{Info as AnyInfo}
-use Rattle.uci_lines.specs.Messages.{OptionKind, Check, Spin, Combo, Button, Text, EngineMsg, Name, UciOk, ReadyOk, Best, OptionLine, Info, Nothing}
+use Rattle.uci_lines.specs.Messages.{OptionKind, Check, Spin, Combo, Button, Text, EngineMsg}
+use Rattle.uci_lines.specs.Messages.{Name, UciOk, ReadyOk, Best, OptionLine, Info, Nothing}
 
 -- WORDS IN A TEXT
 
@@ -57,7 +59,8 @@ pub record IsLast (word : List ℕ) (ts : List (List ℕ)) (n : ℤ) : Type 0 wh
   pub others : List (List ℕ)
   pub whole : ts ≡ before ++ (word ∷ digits ∷ others)
   pub reads : signed_number digits ≡ Some n
-  pub last : (bs : List (List ℕ)) (t : List ℕ) (cs : List (List ℕ)) → others ≡ bs ++ (word ∷ t ∷ cs) → signed_number t ≡ None
+  pub last : (bs : List (List ℕ)) (t : List ℕ) (cs : List (List ℕ)) → others ≡ bs ++ (word ∷ t ∷ cs)
+      → signed_number t ≡ None
 
 -- what is before the first `default` or `var`, trimmed
 abbrev pub UpToChoice : List ℕ → List ℕ → Type 0
@@ -69,7 +72,8 @@ UpToChoice text value =
 pub data HasValues : List ℕ → List (List ℕ) → Type 0 where
   Ended : {text : List ℕ} → IsNoneOf is_choice (tokens text) → HasValues text []
   Var : {text value : List ℕ} → {values : List (List ℕ)} → (part : Found)
-      → IsFirst is_choice text part → part.word ≡ codes "var" → UpToChoice part.after value → HasValues part.after values
+      → IsFirst is_choice text part → part.word ≡ codes "var" → UpToChoice part.after value
+      → HasValues part.after values
       → HasValues text (value ∷ values)
   Default : {text : List ℕ} → {values : List (List ℕ)} → (part : Found)
       → IsFirst is_choice text part → part.word ≡ codes "default" → HasValues part.after values
@@ -78,21 +82,27 @@ pub data HasValues : List ℕ → List (List ℕ) → Type 0 where
 -- the kind of an option, by the word after `type` and what follows it
 abbrev pub HasShape : List ℕ → List ℕ → OptionKind → Type 0
 HasShape word text (Check on) =
-    (word ≡ codes "check") × (others : List ℕ) × Behind (codes "default") text others × (on ≡ is_word (codes "true") (first_token others))
+    (word ≡ codes "check") × (others : List ℕ) × Behind (codes "default") text others
+    × (on ≡ is_word (codes "true") (first_token others))
 HasShape word text (Spin default min max) =
-    (word ≡ codes "spin") × (n : ℤ) × IsLast (codes "default") (tokens text) n × IsLast (codes "min") (tokens text) min
-    × IsLast (codes "max") (tokens text) max × (int_lt max min ≡ false) × (default ≡ int_max min (int_min n max))
+    (word ≡ codes "spin") × (n : ℤ) × IsLast (codes "default") (tokens text) n
+    × IsLast (codes "min") (tokens text) min × IsLast (codes "max") (tokens text) max
+    × (int_lt max min ≡ false) × (default ≡ int_max min (int_min n max))
 HasShape word text (Combo default values) =
-    (word ≡ codes "combo") × ((others : List ℕ) × Behind (codes "default") text others × UpToChoice others default) × HasValues text values
+    (word ≡ codes "combo")
+    × ((others : List ℕ) × Behind (codes "default") text others × UpToChoice others default)
+    × HasValues text values
 HasShape word text Button = word ≡ codes "button"
 HasShape word text (Text default) =
-    (word ≡ codes "string") × (others : List ℕ) × Behind (codes "default") text others × (default ≡ shown_text (trimmed others))
+    (word ≡ codes "string") × (others : List ℕ) × Behind (codes "default") text others
+    × (default ≡ shown_text (trimmed others))
 
 -- what follows `option`: `name`, the name up to the first `type`, and the kind
 abbrev pub Declares : List ℕ → List ℕ → OptionKind → Type 0
 Declares text name shape =
     (first_token text ≡ codes "name")
-    × (part : Found) × IsFirst (is_word (codes "type")) (rest text) part × (name ≡ trimmed part.before)
+    × (part : Found) × IsFirst (is_word (codes "type")) (rest text) part
+    × (name ≡ trimmed part.before)
     × HasShape (first_token part.after) (rest part.after) shape
 
 -- WHAT IS TOLD OF A SEARCH
@@ -108,45 +118,65 @@ pub data IsRun : List (List ℕ) → List Move → List (List ℕ) → Type 0 wh
   Goes : {t : List ℕ} → {m : Move} → {ts others : List (List ℕ)} → {moves : List Move}
       → MoveSpells t m → IsRun ts moves others → IsRun (t ∷ ts) (m ∷ moves) others
 
--- A field at the front of the tokens takes its value: what is reported then, and the tokens that are left.
+-- A field at the front of the tokens takes its value: what is reported then, and
+-- the tokens that are left.
 pub data Takes (f : AnyInfo) : List (List ℕ) → AnyInfo → List (List ℕ) → Type 0 where
-  Depth : {t : List ℕ} → {ts : List (List ℕ)} → {n : ℕ} → count t ≡ Some n → Takes f (codes "depth" ∷ t ∷ ts) (record f { depth = Some n }) ts
-  Time : {t : List ℕ} → {ts : List (List ℕ)} → {n : ℕ} → count t ≡ Some n → Takes f (codes "time" ∷ t ∷ ts) (record f { time = Some n }) ts
-  Nodes : {t : List ℕ} → {ts : List (List ℕ)} → {n : ℕ} → count t ≡ Some n → Takes f (codes "nodes" ∷ t ∷ ts) (record f { nodes = Some n }) ts
-  MultiPv : {t : List ℕ} → {ts : List (List ℕ)} → {n : ℕ} → count t ≡ Some n → Takes f (codes "multipv" ∷ t ∷ ts) (record f { multipv = Some n }) ts
-  Number : {t : List ℕ} → {ts : List (List ℕ)} → {n : ℕ} → count t ≡ Some n → Takes f (codes "currmovenumber" ∷ t ∷ ts) (record f { number = Some n }) ts
-  Centipawns : {t : List ℕ} → {ts : List (List ℕ)} → {n : ℤ} → centis t ≡ Some n → Takes f (codes "score" ∷ codes "cp" ∷ t ∷ ts) (record f { score = Some (Cp n) }) ts
-  ToMate : {t : List ℕ} → {ts : List (List ℕ)} → {n : ℤ} → centis t ≡ Some n → Takes f (codes "score" ∷ codes "mate" ∷ t ∷ ts) (record f { score = Some (Mate n) }) ts
-  LowerBound : {ts : List (List ℕ)} → Takes f (codes "lowerbound" ∷ ts) (record f { bound = true }) ts
-  UpperBound : {ts : List (List ℕ)} → Takes f (codes "upperbound" ∷ ts) (record f { bound = true }) ts
-  Current : {t : List ℕ} → {ts : List (List ℕ)} → {m : Move} → MoveSpells t m → Takes f (codes "currmove" ∷ t ∷ ts) (record f { current = Some m }) ts
-  Pv : {ts others : List (List ℕ)} → {m : Move} → {moves : List Move} → IsRun ts (m ∷ moves) others → Takes f (codes "pv" ∷ ts) (record f { pv = m ∷ moves }) others
+  Depth : {t : List ℕ} → {ts : List (List ℕ)} → {n : ℕ} → count t ≡ Some n
+      → Takes f (codes "depth" ∷ t ∷ ts) (record f { depth = Some n }) ts
+  Time : {t : List ℕ} → {ts : List (List ℕ)} → {n : ℕ} → count t ≡ Some n
+      → Takes f (codes "time" ∷ t ∷ ts) (record f { time = Some n }) ts
+  Nodes : {t : List ℕ} → {ts : List (List ℕ)} → {n : ℕ} → count t ≡ Some n
+      → Takes f (codes "nodes" ∷ t ∷ ts) (record f { nodes = Some n }) ts
+  MultiPv : {t : List ℕ} → {ts : List (List ℕ)} → {n : ℕ} → count t ≡ Some n
+      → Takes f (codes "multipv" ∷ t ∷ ts) (record f { multipv = Some n }) ts
+  Number : {t : List ℕ} → {ts : List (List ℕ)} → {n : ℕ} → count t ≡ Some n
+      → Takes f (codes "currmovenumber" ∷ t ∷ ts) (record f { number = Some n }) ts
+  Centipawns : {t : List ℕ} → {ts : List (List ℕ)} → {n : ℤ} → centis t ≡ Some n
+      → Takes f (codes "score" ∷ codes "cp" ∷ t ∷ ts) (record f { score = Some (Cp n) }) ts
+  ToMate : {t : List ℕ} → {ts : List (List ℕ)} → {n : ℤ} → centis t ≡ Some n
+      → Takes f (codes "score" ∷ codes "mate" ∷ t ∷ ts) (record f { score = Some (Mate n) }) ts
+  LowerBound : {ts : List (List ℕ)}
+      → Takes f (codes "lowerbound" ∷ ts) (record f { bound = true }) ts
+  UpperBound : {ts : List (List ℕ)}
+      → Takes f (codes "upperbound" ∷ ts) (record f { bound = true }) ts
+  Current : {t : List ℕ} → {ts : List (List ℕ)} → {m : Move} → MoveSpells t m
+      → Takes f (codes "currmove" ∷ t ∷ ts) (record f { current = Some m }) ts
+  Pv : {ts others : List (List ℕ)} → {m : Move} → {moves : List Move} → IsRun ts (m ∷ moves) others
+      → Takes f (codes "pv" ∷ ts) (record f { pv = m ∷ moves }) others
 
--- What is reported in the end, by the tokens from left to right: a later value replaces an earlier one, and a
--- token that takes nothing is skipped.
+-- What is reported in the end, by the tokens from left to right: a later value replaces an earlier
+-- one, and a token that takes nothing is skipped.
 pub data Tells : AnyInfo → List (List ℕ) → AnyInfo → Type 0 where
   End : {f : AnyInfo} → Tells f [] f
   Rest : {f : AnyInfo} → {ts : List (List ℕ)} → Tells f (codes "string" ∷ ts) f
-  Taken : {f g h : AnyInfo} → {ts others : List (List ℕ)} → Takes f ts g others → Tells g others h → Tells f ts h
-  Skipped : {f h : AnyInfo} → {t : List ℕ} → {ts : List (List ℕ)} → t ≢ codes "string" → ((g : AnyInfo) (others : List (List ℕ)) → Takes f (t ∷ ts) g others → ⊥)
+  Taken : {f g h : AnyInfo} → {ts others : List (List ℕ)} → Takes f ts g others → Tells g others h
+      → Tells f ts h
+  Skipped : {f h : AnyInfo} → {t : List ℕ} → {ts : List (List ℕ)} → t ≢ codes "string"
+      → ((g : AnyInfo) (others : List (List ℕ)) → Takes f (t ∷ ts) g others → ⊥)
       → Tells f ts h → Tells f (t ∷ ts) h
 
 -- MESSAGES
 
 -- the first known word of a line, and what follows it
 abbrev pub Begins : List ℕ → List ℕ → List ℕ → Type 0
-Begins line word text = (part : Found) × IsFirst is_known line part × (part.word ≡ word) × (part.after ≡ text)
+Begins line word text =
+    (part : Found) × IsFirst is_known line part × (part.word ≡ word) × (part.after ≡ text)
 
 -- a line has the form of a message
 abbrev pub HasForm : List ℕ → EngineMsg → Type 0
-HasForm line (Name name) = (text : List ℕ) × Begins line (codes "id") text × (first_token text ≡ codes "name") × (name ≡ rest text)
+HasForm line (Name name) =
+    (text : List ℕ) × Begins line (codes "id") text × (first_token text ≡ codes "name")
+    × (name ≡ rest text)
 HasForm line UciOk = (text : List ℕ) × Begins line (codes "uciok") text
 HasForm line ReadyOk = (text : List ℕ) × Begins line (codes "readyok") text
 HasForm line (Best best hint) =
     (text : List ℕ) × Begins line (codes "bestmove") text × PerhapsMove (first_token text) best
-    × (others : List ℕ) × Behind (codes "ponder") (rest text) others × PerhapsMove (first_token others) hint
-HasForm line (OptionLine name shape) = (text : List ℕ) × Begins line (codes "option") text × Declares text name shape
-HasForm line (Info facts) = (text : List ℕ) × Begins line (codes "info") text × Tells no_facts (tokens text) facts
+    × (others : List ℕ) × Behind (codes "ponder") (rest text) others
+    × PerhapsMove (first_token others) hint
+HasForm line (OptionLine name shape) =
+    (text : List ℕ) × Begins line (codes "option") text × Declares text name shape
+HasForm line (Info facts) =
+    (text : List ℕ) × Begins line (codes "info") text × Tells no_facts (tokens text) facts
 HasForm line Nothing = ⊥
 
 -- A line spells a message: the one whose form it has, and Nothing if it has none.
@@ -156,4 +186,6 @@ SpellsMessage line m = HasForm line m
 
 -- A line spells exactly one message.
 abbrev pub SpellsOneMessage : Type 0
-SpellsOneMessage = (line : List ℕ) → (m : EngineMsg) × SpellsMessage line m × ((k : EngineMsg) → SpellsMessage line k → k ≡ m)
+SpellsOneMessage =
+    (line : List ℕ)
+    → (m : EngineMsg) × SpellsMessage line m × ((k : EngineMsg) → SpellsMessage line k → k ≡ m)

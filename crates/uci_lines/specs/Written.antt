@@ -1,5 +1,7 @@
 -- Names, values, moves and positions as they stand in orders.
-use Rattle.std.specs.Prelude.{ℕ, zero, suc, ◌^◌, List, [], ◌∷◌, length, codes, Bool, false, ◌&&◌, if◌then◌else◌, ◌==◌, nat_lt, nat_le, is_some, Option, Some, None, Result, Ok, Err}
+use Rattle.std.specs.Prelude.{ℕ, zero, suc, ◌^◌, List, [], ◌∷◌, length, codes}
+use Rattle.std.specs.Prelude.{Bool, false, ◌&&◌, if◌then◌else◌, ◌==◌, nat_lt}
+use Rattle.std.specs.Prelude.{nat_le, is_some, Option, Some, None, Result, Ok, Err}
 use Rattle.std.specs.List.{list_all, slice_split}
 use Rattle.std.specs.Option.{option_map}
 use Rattle.std.specs.Str.{bytes_eq}
@@ -29,7 +31,8 @@ value_here None later = later
 
 abbrev pub value_cut : List ℕ → Option (List ℕ × List ℕ)
 value_cut [] = None
-value_cut (b ∷ bs) = value_here (after (codes " value ") (b ∷ bs)) (option_map (onto_first_of b) (value_cut bs))
+value_cut (b ∷ bs) =
+    value_here (after (codes " value ") (b ∷ bs)) (option_map (onto_first_of b) (value_cut bs))
 
 abbrev pub holds_value : List ℕ → Bool
 holds_value text = is_some (value_cut text)
@@ -65,8 +68,10 @@ split_onto b halves = (b ∷ halves.0, halves.1)
 -- the sixth blank.
 abbrev pub fields_before : ℕ → List ℕ → List ℕ × List ℕ
 fields_before blanks [] = ([], [])
-fields_before zero (b ∷ bs) = if b == blank then ([], b ∷ bs) else split_onto b (fields_before zero bs)
-fields_before (suc blanks) (b ∷ bs) = split_onto b (fields_before (if b == blank then blanks else suc blanks) bs)
+fields_before zero (b ∷ bs) =
+    if b == blank then ([], b ∷ bs) else split_onto b (fields_before zero bs)
+fields_before (suc blanks) (b ∷ bs) =
+    split_onto b (fields_before (if b == blank then blanks else suc blanks) bs)
 
 -- a count that is written with at most 18 digits
 abbrev pub is_count : ℕ → Bool

@@ -4,7 +4,8 @@ ghost use Rattle.peer_words.specs.Tokens.{tokens};
 ghost use Rattle.uci_lines.specs.Infos.{ends_info, field_named, first_count, score_of, first_score, first_move, newer_run, hear, facts_in, facts_from};
 ghost use Rattle.uci_lines.specs.Moves.{run};
 ghost use Rattle.uci_lines.specs.Writable.{can_write};
-ghost use Rattle.uci_lines.specs.Info.{info_of};
+ghost use Rattle.uci_lines.specs.Info.{info_of, Info as AnyInfo};
+ghost use Rattle.std.specs.Option.{option_or};
 
 use crate::cut::is_word;
 use crate::messages::{Info, Score};
@@ -63,12 +64,6 @@ fn ends_info(field: InfoField) -> bool
     matches!(field, InfoField::Text)
 }
 
-fn first_count(text: &[u8]) -> Option<u64>
-    ensures { result ≡ first_count (tokens text.now) }
-{
-    read_count(next_token(text)?.0)
-}
-
 fn first_move(text: &[u8]) -> Option<Move>
     ensures value { result ≡ first_move (tokens text.now) }
     ensures officer { can_write result }
@@ -103,66 +98,47 @@ fn newer_run<'a>(new: &'a [u8], old: &'a [u8]) -> &'a [u8]
     if next_move(new).is_some() { new } else { old }
 }
 
-/// What was reported before, and what a field reports with the text after its word.
-fn hear<'a>(field: InfoField, info: Info<'a>, text: &'a [u8]) -> Info<'a>
-    ensures value { info_of result ≡ hear field (info_of info.entry) (tokens text.now) }
-    ensures officer { can_write info.entry.current → can_write result.current }
+/// Takes in the number at the front of a text, if there is one, and gives the text that is read on.
+fn take_count<'a>(count: &mut Option<u64>, text: &'a [u8]) -> &'a [u8]
+    ensures value { count.new ≡ option_or (first_count (tokens text.now)) count.old }
+    ensures others { (facts : AnyInfo) → facts_from facts (tokens result.now)
+        ≡ facts_from facts (tokens text.now) }
+    ensures within { length result.now ≤ length text.now }
 {
-    match field {
-        InfoField::Depth => Info {
-            depth: first_count(text).or(info.depth),
-            ..info
-        },
-        InfoField::Time => Info {
-            time: first_count(text).or(info.time),
-            ..info
-        },
-        InfoField::Nodes => Info {
-            nodes: first_count(text).or(info.nodes),
-            ..info
-        },
-        InfoField::MultiPv => Info {
-            multipv: first_count(text).or(info.multipv),
-            ..info
-        },
-        InfoField::Number => Info {
-            number: first_count(text).or(info.number),
-            ..info
-        },
-        InfoField::Score => Info {
-            score: first_score(text).or(info.score),
-            ..info
-        },
-        InfoField::Bound => Info {
-            bound: true,
-            ..info
-        },
-        InfoField::Current => Info {
-            current: first_move(text).or(info.current),
-            ..info
-        },
-        InfoField::Pv => Info {
-            pv: newer_run(text, info.pv),
-            ..info
-        },
-        InfoField::Text | InfoField::Other => info,
+    if let Some((token, others)) = next_token(text) {
+        if let Some(number) = read_count(token) {
+            *count = Some(number);
+            return others;
+        }
     }
+    text
 }
 
-/// What is reported after a field, and the text that is read on: no move of a pv is a word of
-/// `info`, and so the moves are passed over.
+/// Takes in what a field reports, with the text after its word, and gives the text that is read on: no number
+/// and no move is a word of `info`, and so they are passed over.
 #[tactic(auto, using(crate::proofs::Tellings::facts_after))]
-fn take_field<'a>(field: InfoField, info: Info<'a>, text: &'a [u8]) -> (Info<'a>, &'a [u8])
-    ensures value { facts_from (info_of result.0) (tokens result.1.now)
-        ≡ facts_from (hear field (info_of info.entry) (tokens text.now)) (tokens text.now) }
-    ensures officer { can_write info.entry.current → can_write result.0.current }
-    ensures within { length result.1.now ≤ length text.now }
+fn hear<'a>(field: InfoField, info: &mut Info<'a>, text: &'a [u8]) -> &'a [u8]
+    ensures value { facts_from (info_of info.new) (tokens result.now)
+        ≡ facts_from (hear field (info_of info.old) (tokens text.now)) (tokens text.now) }
+    ensures officer { can_write info.old.current → can_write info.new.current }
+    ensures within { length result.now ≤ length text.now }
 {
-    let heard = hear(field, info, text);
     match field {
-        InfoField::Pv => (heard, after_moves(text)),
-        _ => (heard, text),
+        InfoField::Depth => return take_count(&mut info.depth, text),
+        InfoField::Time => return take_count(&mut info.time, text),
+        InfoField::Nodes => return take_count(&mut info.nodes, text),
+        InfoField::MultiPv => return take_count(&mut info.multipv, text),
+        InfoField::Number => return take_count(&mut info.number, text),
+        InfoField::Score => info.score = first_score(text).or(info.score),
+        InfoField::Bound => info.bound = true,
+        InfoField::Current => info.current = first_move(text).or(info.current),
+        InfoField::Pv => {
+            info.pv = newer_run(text, info.pv);
+            return after_moves(text);
+        }
+        InfoField::Text | InfoField::Other => {}
     }
+    text
 }
 
 /// Reads what follows `info`.
@@ -188,7 +164,7 @@ pub(crate) fn read_info(text: &[u8]) -> Info<'_>
         if ends_info(field) {
             break;
         }
-        (info, others) = take_field(field, info, after);
+        others = hear(field, &mut info, after);
     }
     info
 }

@@ -7,6 +7,20 @@ ghost use Rattle.uci_lines.specs.Moves.{run, after_run};
 use chess_board::{Move, read_move};
 use peer_words::next_token;
 
+/// The first token of a text, and the text after it, as `next_token`: most moves are four bytes before a blank.
+fn next_text(text: &[u8]) -> Option<(&[u8], &[u8])>
+    ensures first { MatchOption result (tokens text.now ≡ [])
+        (λ p. tokens text.now ≡ p.0.now ∷ tokens p.1.now) }
+    ensures shorter { IfSome result (λ p. length p.1.now < length text.now) }
+{
+    if let [a, b, c, d, b' ', others @ ..] = text {
+        if *a > b' ' && *b > b' ' && *c > b' ' && *d > b' ' {
+            return Some((&text[..4], others));
+        }
+    }
+    next_token(text)
+}
+
 /// The first move of a text of moves, and the text after it. None if the text begins with no move.
 pub fn next_move(text: &[u8]) -> Option<(Move, &[u8])>
     ensures first { MatchOption result (run (tokens text.now) ≡ [])
@@ -14,7 +28,7 @@ pub fn next_move(text: &[u8]) -> Option<(Move, &[u8])>
     ensures officer { IfSome result (λ p. IsOfficer p.0.promotion) }
     ensures shorter { IfSome result (λ p. length p.1.now < length text.now) }
 {
-    let (token, others) = next_token(text)?;
+    let (token, others) = next_text(text)?;
     Some((read_move(token)?, others))
 }
 
@@ -24,7 +38,7 @@ pub(crate) fn after_moves(text: &[u8]) -> &[u8]
     ensures within { length result.now ≤ length text.now }
 {
     let mut others = text;
-    while let Some((token, after)) = next_token(others) {
+    while let Some((token, after)) = next_text(others) {
         if read_move(token).is_none() {
             break;
         }

@@ -7,12 +7,6 @@ use Rattle.chess_board.proofs.Places.{never_to}
 use Rattle.chess_board.proofs.Tried.{left_none}
 use Rattle.chess_board.proofs.play.after_if_legal.Goals as goal
 
-pub returns-then-not-may_reach : goal.returns-then-not-may_reach
-returns-then-not-may_reach c =
-    let p = c.args.setup.now in
-    let m = c.args.m in
-    left_none p m (never_to p m.from.index m.to.index m.promotion (sym c.may_reach.ensures ∙ c.if-not-may_reach.true))
-
 pub returns-in-None : goal.returns-in-None
 returns-in-None c =
     let p = c.args.setup.now in
@@ -25,5 +19,11 @@ after_reach-requires-clause-man c =
     let p = c.args.setup.now in
     let m = c.args.m in
     let man = sym (ap (λ (q : Position). man_at q.men m.from.index) c.setup.view_is) ∙ sym c.man.ensures ∙ c.in-Some.is in
-    let owner = reach_owner p c.in-Some.field-0-0 c.in-Some.kind m.from.index m.to.index man (sym c.may_reach.ensures ∙ c.if-not-may_reach.false) in
+    let owner = reach_owner p c.in-Some.owner c.in-Some.kind m.from.index m.to.index man (sym c.man_reaches.ensures ∙ c.if-man_reaches.true) in
     man ∙ ap (λ (s : Side). Some (s, c.in-Some.kind)) owner
+
+pub returns-else-man_reaches : goal.returns-else-man_reaches
+returns-else-man_reaches c =
+    let p = c.args.setup.now in
+    let m = c.args.m in
+    left_none p m (never_to p m.from.index m.to.index m.promotion (sym c.man_reaches.ensures ∙ c.if-man_reaches.false))
