@@ -10,19 +10,23 @@ use Rattle.bridge_runner.specs.declared.session.Session.{Session}
 use Rattle.bridge_runner.specs.Plays.{IsNew, plays}
 use Rattle.bridge_runner.specs.Recorded.{Recorded, IsWhole}
 
--- What was read and written is that of one run of a new session, whose turns are those of one lawful trace.
-pub record Bridged (settings : Settings) (first : List ℕ) (before after : Outside) (failures : Failures) : Type 0 where
+-- What was read and written is that of one run of a new session, whose turns are
+-- those of one lawful trace.
+pub record Bridged (settings : Settings) (first : List ℕ) (before after : Outside)
+    (failures : Failures) : Type 0 where
   pub session : Session
   pub new : IsNew settings session
   pub mediated : Mediated plays session first before after failures
   -- it is the one lawful trace of its events
   pub only : (other : List Step) → Lawful settings other
-      → map event_in other ≡ map event_in mediated.ran.looped.did.trace → other ≡ mediated.ran.looped.did.trace
+      → map event_in other ≡ map event_in mediated.ran.looped.did.trace
+      → other ≡ mediated.ran.looped.did.trace
   -- what the books say of the trace that the run made
   pub recorded : Recorded settings mediated.ran.looped.did.trace before.books after.books failures
 
 -- what the bridge leaves, whether an engine was started or not
-pub record Leaves (settings : Settings) (first : List ℕ) (before after : Outside) (failures : Failures) : Type 0 where
+pub record Leaves (settings : Settings) (first : List ℕ) (before after : Outside)
+    (failures : Failures) : Type 0 where
   pub told : AreTold before after failures
   pub closed : IsClosed after.books failures
   -- if no engine was started, nothing was read or written

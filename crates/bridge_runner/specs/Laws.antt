@@ -7,7 +7,9 @@ use Rattle.bridge_runner.specs.Recorded.{IsWhole}
 
 -- an empty log
 abbrev pub HasNoEmptyLog : Type 0
-HasNoEmptyLog = (settings : Settings) (first bytes : List ℕ) (before after : Outside) → IsWhole settings first bytes before after
+HasNoEmptyLog =
+    (settings : Settings) (first bytes : List ℕ) (before after : Outside)
+    → IsWhole settings first bytes before after
     → after.books.logs ≡ Some [] ∷ [] → ⊥
 
 -- a log with a byte after its script

@@ -20,8 +20,12 @@ use Rattle.bridge_runner.specs.declared.session.Session.{Session}
 -- the turns of a trace. Before the text of the first step stands the header
 abbrev pub turns_of : Settings → List Step → List Turn
 turns_of o [] = []
-turns_of o (s ∷ []) = turn s.event (iface_text s) (engine_text s) (header_text o ++ line_feed ∷ numbered_text 0 s) ∷ []
-turns_of o (s ∷ r ∷ t) = turn s.event (iface_text s) (engine_text s) (numbered_text (length (r ∷ t)) s) ∷ turns_of o (r ∷ t)
+turns_of o (s ∷ []) =
+    turn s.event (iface_text s) (engine_text s) (header_text o ++ line_feed ∷ numbered_text 0 s)
+    ∷ []
+turns_of o (s ∷ r ∷ t) =
+    turn s.event (iface_text s) (engine_text s) (numbered_text (length (r ∷ t)) s)
+    ∷ turns_of o (r ∷ t)
 
 -- its turns are those of a lawful trace, for which it stands
 pub record Played (s0 : Session) (turns : List Turn) (s : Session) : Type 0 where
@@ -50,10 +54,12 @@ plays = record {
 pub record Took (old new : Session) (e : Event) (held held' : Text) : Type 0 where
   pub step : Step
   pub event : step.event ≡ e
-  pub extends : (o : Settings) (t : List Step) → Lawful o t → Stands o old.core t → Lawful o (step ∷ t) × Stands o new.core (step ∷ t)
+  pub extends : (o : Settings) (t : List Step) → Lawful o t → Stands o old.core t
+      → Lawful o (step ∷ t) × Stands o new.core (step ∷ t)
   pub up : new.up.text ≡ iface_text step
   pub down : new.down.text ≡ engine_text step
-  pub put : held' ≡ with held (numbered_marks old.next step.event (iface_text step) (engine_text step))
+  pub put :
+      held' ≡ with held (numbered_marks old.next step.event (iface_text step) (engine_text step))
   pub next : (k : ℕ) → old.next ≡ step_number k → new.next ≡ step_number (suc k)
 
 -- nothing was stepped yet

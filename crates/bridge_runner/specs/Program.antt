@@ -14,16 +14,18 @@ abbrev pub program : List ℕ
 program = codes "bridge"
 
 -- what the bridge leaves that ran with these settings and first lines
-pub record Runs (settings : Settings) (first : List ℕ) (before after : Outside) (failures : Failures) : Type 0 where
+pub record Runs (settings : Settings) (first : List ℕ) (before after : Outside)
+    (failures : Failures) : Type 0 where
   pub leaves : Leaves settings first before after failures
   -- of each lawful trace, so of the one that the bridge made
   pub laws : HasLaws settings
   -- the script that the log took has this one trace, and states the settings
   pub one_session : HasOneSession settings
 
--- The whole run with settings and first lines that are asked for, in which nothing failed, over a host whose engine says
--- these bytes.
-pub record RunsWhole (Asked : Settings → Type 0) (first bytes : List ℕ) (before after : Outside) : Type 0 where
+-- The whole run with settings and first lines that are asked for, in which nothing failed, over a
+-- host whose engine says these bytes.
+pub record RunsWhole (Asked : Settings → Type 0) (first bytes : List ℕ)
+    (before after : Outside) : Type 0 where
   pub settings : Settings
   pub asked : Asked settings
   pub proper : IsProper settings
@@ -31,7 +33,8 @@ pub record RunsWhole (Asked : Settings → Type 0) (first bytes : List ℕ) (bef
   pub whole : IsWhole settings first bytes before after
 
 -- the bridge ran with settings and first lines that are asked for
-pub record RunsAsAsked (Asked : Settings → Type 0) (first : List ℕ) (before after : Outside) (failures : Failures) : Type 0 where
+pub record RunsAsAsked (Asked : Settings → Type 0) (first : List ℕ) (before after : Outside)
+    (failures : Failures) : Type 0 where
   pub settings : Settings
   pub asked : Asked settings
   pub proper : IsProper settings

@@ -18,15 +18,17 @@ use Rattle.mediator.specs.First.{first_events, ArrivedBehind}
 use Rattle.mediator_host.specs.Recorded.{RecordedAs}
 use Rattle.bridge_runner.specs.Texts.{events_of_steps, has_loss, texts}
 
--- What the books say of a run that made this trace, if the host tells its bytes: the log is the trace's script, the engine
--- took its orders, and it received what the engine gave.
+-- What the books say of a run that made this trace, if the host tells its bytes: the log is the
+-- trace's script, the engine took its orders, and it received what the engine gave.
 abbrev pub Recorded : Settings → List Step → Books → Books → Failures → Type 0
 Recorded settings trace before after failures =
-    RecordedAs (script2 settings trace) (texts engine_text trace) (sent_by peers.Engine (events_of_steps trace)) before after failures
+    RecordedAs (script2 settings trace) (texts engine_text trace)
+    (sent_by peers.Engine (events_of_steps trace)) before after failures
 
--- A run with these first lines in which nothing failed, over a host that tells its bytes, whose engine says these: it made
--- one lawful trace.
-pub record IsWhole (settings : Settings) (first bytes : List ℕ) (before after : Outside) : Type 0 where
+-- A run with these first lines in which nothing failed, over a host that tells its bytes, whose
+-- engine says these: it made one lawful trace.
+pub record IsWhole (settings : Settings) (first bytes : List ℕ)
+    (before after : Outside) : Type 0 where
   pub trace : List Step
   pub lawful : Lawful settings trace
   -- neither side was lost
@@ -37,8 +39,11 @@ pub record IsWhole (settings : Settings) (first bytes : List ℕ) (before after 
   pub later : List Event
   pub begins : events_of_steps trace ≡ first_events first ++ later
   -- its events are those of the bytes that both sides gave: the engine all that it says
-  pub engine : sent_by peers.Engine (events_of_steps trace) ≡ arrivals peers.Engine (items line_limit bytes)
-  pub iface : ArrivedBehind (first_events first) peers.Iface before.input after.input (sent_by peers.Iface (events_of_steps trace)) read_ends.Done
+  pub engine :
+      sent_by peers.Engine (events_of_steps trace) ≡ arrivals peers.Engine (items line_limit bytes)
+  pub iface : ArrivedBehind (first_events first) peers.Iface before.input after.input
+      (sent_by peers.Iface (events_of_steps trace)) read_ends.Done
   -- both sides took its texts, and no byte of the engine is left
-  pub run : after.books.runs ≡ record { given = Some bytes; left = Some []; taken = Some (texts engine_text trace) } ∷ []
+  pub run : after.books.runs
+      ≡ record { given = Some bytes; left = Some []; taken = Some (texts engine_text trace) } ∷ []
   pub output : Appends before.output.taken after.output.taken (texts iface_text trace)

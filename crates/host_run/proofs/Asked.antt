@@ -221,3 +221,10 @@ asks_many words name a0 a1 a2 b0 b1 b2 failures unused run started asks =
           ∙ ap (λ (m : ℕ). with_many m words a0.engines) (failed_more failures.engine_start asks.more 1 ∙ ap (λ (m : ℕ). and_failed failures.engine_start m) all);
       logs = asks.logs ∙ ap (λ (a : Asked). with_many (logs_asked b2 failures) name a.logs) started;
     }
+
+-- if there was no memory to open the log, none was opened, and no failure of a log is reported
+pub no_log_for_memory : (fault : Option HostFault) (log : Bool) (n : ℕ) → (is_no_memory fault ≡ true → n ≡ 0) → logs_asked_by fault ≡ (if log then 1 else n) → is_no_memory fault ≡ true → (n ≡ 0) × (log ≡ false)
+no_log_for_memory None log n none asked m = cc
+no_log_for_memory (Some faults.Failed) log n none asked m = cc
+no_log_for_memory (Some faults.NoMemory) true n none asked m = absurd (omega (arith, asked))
+no_log_for_memory (Some faults.NoMemory) false n none asked m = (none refl, refl)

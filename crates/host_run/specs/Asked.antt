@@ -1,5 +1,6 @@
 -- Which engines a run asks its host for, and which logs.
-use Rattle.std.specs.Prelude.{◌≡◌, ℕ, suc, ◌+◌, if◌then◌else◌, Bool, false, List, [], ◌∷◌, drop, Option, Some, None, Result, Ok, Err}
+use Rattle.std.specs.Prelude.{◌≡◌, ℕ, suc, ◌+◌, if◌then◌else◌, Bool, false, List}
+use Rattle.std.specs.Prelude.{[], ◌∷◌, drop, Option, Some, None, Result, Ok, Err}
 use Rattle.event_pipe.specs.Counts.{Tells}
 use Rattle.child_engine.specs.Asked.{Asked, with_many}
 use Rattle.child_engine.specs.Hosts.{Books}
@@ -26,14 +27,18 @@ and_failed failed n = if failed then suc n else n
 abbrev pub logs_asked : Books → Failures → ℕ
 logs_asked books failures = if failures.log then 1 else books.logs_out
 
--- Each engine that was asked for has these words: as many as the books count that were handed out, and one more if the start
--- of one failed. Each log that was asked for has this name: one, or none if none is in the books and none failed.
-pub record AsksFor (words : List (List ℕ)) (name : List ℕ) (before after : Asked) (books : Books) (failures : Failures) : Type 0 where
-  pub engines : after.engines ≡ with_many (and_failed failures.engine_start books.runs_out) words before.engines
+-- Each engine that was asked for has these words: as many as the books count that were handed out,
+-- and one more if the start of one failed. Each log that was asked for has this name: one, or none
+-- if none is in the books and none failed.
+pub record AsksFor (words : List (List ℕ)) (name : List ℕ) (before after : Asked) (books : Books)
+    (failures : Failures) : Type 0 where
+  pub engines : after.engines
+      ≡ with_many (and_failed failures.engine_start books.runs_out) words before.engines
   pub logs : after.logs ≡ with_many (logs_asked books failures) name before.logs
 
 -- The same, and the counts of faults tell whether the start of an engine failed, or the log.
-pub record AsksAsTold (words : List (List ℕ)) (name : List ℕ) (before after : Asked) (counts counts' : Faults) (books : Books) : Type 0 where
+pub record AsksAsTold (words : List (List ℕ)) (name : List ℕ) (before after : Asked)
+    (counts counts' : Faults) (books : Books) : Type 0 where
   pub failures : Failures
   pub starts : Tells counts.starts counts'.starts failures.engine_start
   pub logs : Tells counts.logs counts'.logs failures.log
@@ -46,24 +51,30 @@ first_word (word ∷ words) = word
 
 -- of words that are the log's name and then the engine's program and its arguments
 abbrev pub AsksByWords : List (List ℕ) → Asked → Asked → Faults → Faults → Books → Type 0
-AsksByWords words before after counts counts' books = AsksAsTold (drop 1 words) (first_word words) before after counts counts' books
+AsksByWords words before after counts counts' books =
+    AsksAsTold (drop 1 words) (first_word words) before after counts counts' books
 
--- No log was asked for, and engines with these words: as many as the books count more, and one more if that one failed.
-pub record StartsEngines (words : List (List ℕ)) (before after : Asked) (books books' : Books) (failed : Bool) : Type 0 where
+-- No log was asked for, and engines with these words: as many as the books count more, and one
+-- more if that one failed.
+pub record StartsEngines (words : List (List ℕ)) (before after : Asked) (books books' : Books)
+    (failed : Bool) : Type 0 where
   pub more : ℕ
   pub engines : after.engines ≡ with_many (and_failed failed more) words before.engines
   pub logs : after.logs ≡ before.logs
   pub runs_out : books'.runs_out ≡ more + books.runs_out
 
 -- The same after an engine that was started, and a log of this name was asked for.
-pub record AsksMore (words : List (List ℕ)) (name : List ℕ) (before after : Asked) (books books' : Books) (failures : Failures) : Type 0 where
+pub record AsksMore (words : List (List ℕ)) (name : List ℕ) (before after : Asked)
+    (books books' : Books) (failures : Failures) : Type 0 where
   pub more : ℕ
-  pub engines : after.engines ≡ with_many (and_failed failures.engine_start more) words before.engines
+  pub engines :
+      after.engines ≡ with_many (and_failed failures.engine_start more) words before.engines
   pub logs : after.logs ≡ with_many (logs_asked books' failures) name before.logs
   pub runs_out : books'.runs_out ≡ more + books.runs_out
 
 -- No engine was asked for, and none failed to start; a log of this name was asked for.
-pub record OpensLogs (name : List ℕ) (before after : Asked) (books books' : Books) (failures : Failures) : Type 0 where
+pub record OpensLogs (name : List ℕ) (before after : Asked) (books books' : Books)
+    (failures : Failures) : Type 0 where
   pub engines : after.engines ≡ before.engines
   pub logs : after.logs ≡ with_many (logs_asked books' failures) name before.logs
   pub runs_out : books'.runs_out ≡ books.runs_out

@@ -8,10 +8,11 @@ use Rattle.host_run.specs.Asked.{AsksByWords}
 use Rattle.host_run.specs.Outside.{Outside}
 use Rattle.host_run.specs.Program.{Answers, StatusSays}
 
--- What is done by these words, if a run leaves so much and is whole as this says; what the host keeps of what it was asked
--- for, what the diagnostic's sink shows, and the status.
-pub record DoesByWords (program : List ℕ) (Left : Outside → Outside → Failures → Type 0) (Whole : List ℕ → Outside → Outside → Type 0)
-    (words : List (List ℕ)) (before after : Outside) (kept kept' : Asked) (diag diag' : Received) (code : ℕ) : Type 0 where
+-- What is done by these words, if a run leaves so much and is whole as this says; what the host
+-- keeps of what it was asked for, what the diagnostic's sink shows, and the status.
+pub record DoesByWords (program : List ℕ) (Left : Outside → Outside → Failures → Type 0)
+    (Whole : List ℕ → Outside → Outside → Type 0) (words : List (List ℕ)) (before after : Outside)
+    (kept kept' : Asked) (diag diag' : Received) (code : ℕ) : Type 0 where
   pub answers : Answers program (AreTaken words) (Left before after) before after diag diag' code
   pub status : StatusSays (AreTaken words) before after code
   -- at status 0, over a host that tells its bytes

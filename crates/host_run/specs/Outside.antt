@@ -20,7 +20,8 @@ outside input output faults books =
     record { input = input; output = output; faults = faults; books = books }
 
 -- the same of the interface and the host, by what each shows
-abbrev pub outside_of : {I O H : Type 0} → (I → Supplied) → (O → Received) → (H → Faults) → (H → Books) → Interface I O → H → Outside
+abbrev pub outside_of : {I O H : Type 0} → (I → Supplied) → (O → Received) → (H → Faults)
+    → (H → Books) → Interface I O → H → Outside
 outside_of input output faults books interface host =
     outside (input interface.input) (output interface.output) (faults host) (books host)
 

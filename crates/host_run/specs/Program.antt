@@ -14,16 +14,19 @@ pub record DoesNothing (before after : Outside) (ending : ProgramEnding) : Type 
   pub same : after ≡ before
   pub why : (ending ≡ endings.Usage) ⊎ (ending ≡ endings.NoMemory)
 
--- A run was made that left this, whatever its failures; each failure is counted, and the first one is the ending.
-pub record RunEnds (Left : Failures → Type 0) (before after : Outside) (ending : ProgramEnding) : Type 0 where
+-- A run was made that left this, whatever its failures; each failure is counted, and the
+-- first one is the ending.
+pub record RunEnds (Left : Failures → Type 0) (before after : Outside)
+    (ending : ProgramEnding) : Type 0 where
   pub failures : Failures
   pub first : ending ≡ ending_of failures
   pub told : AreTold before after failures
   pub left : Left failures
 
--- How a program ends, of whose words it is said whether they are taken: it is `Usage` only if they are not, then nothing
--- is done, and else a run is made that leaves what the words ask for.
-pub record Ends (Taken : Type 0) (Left : Failures → Type 0) (before after : Outside) (ending : ProgramEnding) : Type 0 where
+-- How a program ends, of whose words it is said whether they are taken: it is `Usage` only if they
+-- are not, then nothing is done, and else a run is made that leaves what the words ask for.
+pub record Ends (Taken : Type 0) (Left : Failures → Type 0) (before after : Outside)
+    (ending : ProgramEnding) : Type 0 where
   pub usage : ending ≡ endings.Usage → Taken → ⊥
   pub refused : (Taken → ⊥) → (ending ≡ endings.Usage) ⊎ (ending ≡ endings.NoMemory)
   pub did : DoesNothing before after ending ⊎ RunEnds Left before after ending
@@ -35,7 +38,8 @@ IsToldTo before after text =
     ⊎ (TakesPrefix before.taken after.taken text × Rose before.faults after.faults)
 
 -- the program's status is that of how it ended, and the diagnostic reports it
-pub record Answers (program : List ℕ) (Taken : Type 0) (Left : Failures → Type 0) (before after : Outside) (diag diag' : Received) (code : ℕ) : Type 0 where
+pub record Answers (program : List ℕ) (Taken : Type 0) (Left : Failures → Type 0)
+    (before after : Outside) (diag diag' : Received) (code : ℕ) : Type 0 where
   pub ending : ProgramEnding
   pub ends : Ends Taken Left before after ending
   pub code_is : code ≡ code_of ending

@@ -27,8 +27,8 @@ pub record KeepsLoop {L : Type 0} (old new : RevivalLoop L) : Type 0 where
   pub taker : KeepsTaker old.from new.from
   pub marks : KeepsMarks old.marks new.marks
 
--- What a loop shows: the revival's state, what it took from the channel, what went to the interface and into the log,
--- and which sinks have failed.
+-- What a loop shows: the revival's state, what it took from the channel, what went to the interface
+-- and into the log, and which sinks have failed.
 pub record Shown : Type 0 where
   pub state : RevivalState
   pub events : List Event
@@ -47,14 +47,16 @@ loop_reports to_output to_log looping output =
       failed = looping.failed;
     }
 
--- Each sink was offered its text: what it took of it, by whether it had failed before and has failed now.
-pub record Offers (up child marks : List ℕ) (before after : Sinks) (failed failed' : LoopEnd) : Type 0 where
+-- Each sink was offered its text: what it took of it, by whether it had failed
+-- before and has failed now.
+pub record Offers (up child marks : List ℕ) (before after : Sinks)
+    (failed failed' : LoopEnd) : Type 0 where
   pub output : Offered failed.output failed'.output before.output after.output up
   pub engine : Offered failed.engine failed'.engine before.engine after.engine child
   pub log : Offered failed.log failed'.log before.log after.log marks
 
--- The revival heard these events, each of which might come, and the interface and the log were offered what is written
--- for them.
+-- The revival heard these events, each of which might come, and the interface and the log were
+-- offered what is written for them.
 pub record PlayedUp (before after : Shown) (events : List Event) : Type 0 where
   pub may : AllMayHappen before.state events
   pub state_is : after.state ≡ state_behind before.state events
@@ -64,7 +66,8 @@ pub record PlayedUp (before after : Shown) (events : List Event) : Type 0 where
       (texts_from before.state events)
 
 -- the same, and so was the life
-pub record Played (before after : Shown) (sink sink' : Received) (events : List Event) : Type 0 where
+pub record Played (before after : Shown) (sink sink' : Received)
+    (events : List Event) : Type 0 where
   pub up : PlayedUp before after events
   pub child : Offered before.failed.engine after.failed.engine sink sink'
       (lines_to_child before.state events)
@@ -76,8 +79,9 @@ pub record Going (before after : Shown) (sink sink' : Received) : Type 0 where
   pub unended : has_close events ≡ false
   pub played : Played before after sink sink' (heard_of events)
 
--- The loop of a life is over: it took events, and then one Long of the engine, which is the mark of the life's end. The
--- revival heard the events, except the interface's long lines, in their order, and no others.
+-- The loop of a life is over: it took events, and then one Long of the engine, which is the
+-- mark of the life's end. The revival heard the events, except the interface's long lines, in
+-- their order, and no others.
 pub record LoopedLife (before after : Shown) (sink sink' : Received) : Type 0 where
   pub events : List Event
   pub taken_is : after.events ≡ before.events ++ (events ++ EngineLong ∷ [])

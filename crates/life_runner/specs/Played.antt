@@ -20,7 +20,8 @@ lines_up s (event ∷ events) = event_up s event ++ lines_up (state_after s even
 
 abbrev pub lines_to_child : RevivalState → List Event → List ℕ
 lines_to_child s [] = []
-lines_to_child s (event ∷ events) = event_child s event ++ lines_to_child (state_after s event) events
+lines_to_child s (event ∷ events) =
+    event_child s event ++ lines_to_child (state_after s event) events
 
 -- an order, the end of the orders, or a line of the present life
 abbrev pub is_heard : Event → Bool

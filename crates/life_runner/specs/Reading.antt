@@ -1,5 +1,6 @@
 -- What the reader of a life sends.
-use Rattle.std.specs.Prelude.{◌≡◌, ℕ, List, [], ◌∷◌, ◌++◌, Bool, true, false, IfSome, Result, IsErr, IsTrue}
+use Rattle.std.specs.Prelude.{◌≡◌, ℕ, List, [], ◌∷◌, ◌++◌, Bool, true}
+use Rattle.std.specs.Prelude.{false, IfSome, Result, IsErr, IsTrue}
 use Rattle.std.specs.List.{flat_map}
 use Rattle.std.specs.Io.KnownBytes.{IsAtEnd}
 use Rattle.line_io.specs.Event.{Event, Engine, EngineLong}
@@ -39,7 +40,8 @@ pub record LinesOf (before after : Supplied) (lines : List Event) (r : ReadEnd) 
   pub all : r ≡ read_ends.Done → lines ≡ line_events (items line_limit got)
   pub at_end : r ≡ read_ends.Done → IfSome before.left (λ _. IsAtEnd after.left)
   -- if reading failed: the lines that a line feed ended
-  pub at_fault : (f : ReadFault) → r ≡ read_ends.Fault f → lines ≡ line_events (whole line_limit got)
+  pub at_fault : (f : ReadFault) → r ≡ read_ends.Fault f
+      → lines ≡ line_events (whole line_limit got)
   -- if there was no memory: a front of the lines
   pub cut : r ≡ read_ends.NoMemory → IsFrontOf lines (line_events (items line_limit got))
   -- the source's count of faults rose if reading failed, and otherwise is as before
@@ -59,7 +61,9 @@ pub record ReadLife (before after : Supplied) (sent now : List Event) (r : ReadE
 
 -- what a turn has sent, if the call of the reader of lines answered this
 abbrev pub Sends : Result Item ReadFault → List Event → List Event → ReadingTurn → Type 0
-Sends r before now turns.More = IsTrue (goes_on r) × (now ≡ before ++ line_events (pieces_of (outcome r))) × (has_last_event now ≡ false)
+Sends r before now turns.More =
+    IsTrue (goes_on r) × (now ≡ before ++ line_events (pieces_of (outcome r)))
+    × (has_last_event now ≡ false)
 Sends r before now turns.Done = IsTrue (is_end_answer r) × (now ≡ before)
 Sends r before now turns.Fault = IsErr r × (now ≡ before)
 Sends r before now turns.NoMemory = IsTrue (goes_on r) × (now ≡ before)
@@ -69,7 +73,8 @@ is_fault turns.Fault = true
 is_fault t = false
 
 -- what one turn of the reader did
-pub record Goes (old new : Held) (before after : Supplied) (sent now : List Event) (turn : ReadingTurn) : Type 0 where
+pub record Goes (old new : Held) (before after : Supplied) (sent now : List Event)
+    (turn : ReadingTurn) : Type 0 where
   pub got : List ℕ
   pub reads : Reads before after got
   pub result : Result Item ReadFault

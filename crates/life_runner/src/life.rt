@@ -61,7 +61,8 @@ pub fn one_life<
     let (end, ()) = join_mut(
         rt,
         &mut ||
-            requires { IsSender to.now × (to.now.peer ≡ peers.Engine) × (has_last_event (events_sent to.now) ≡ false) }
+            requires { IsSender to.now × (to.now.peer ≡ peers.Engine)
+                × (has_last_event (events_sent to.now) ≡ false) }
         { read_life(rt, alloc, source, to) },
         &mut ||
             requires { (is_alive looping.now.revival.state.life ≡ true) × IsReadyLoop looping.now }

@@ -112,6 +112,7 @@ pub fn hear<K: Sink, O: Sink, L: Sink>(
 fn let_go_at_quit<K: LetGo>(revival: &Revival, child: &mut K)
     ensures shown { K.state child.new ≡ K.state child.old }
     ensures let_go { revival.now.state.quit ≡ true → K.is_let_go child.new }
+    ensures kept { revival.now.state.quit ≡ false → child.new ≡ child.old }
 {
     if revival.has_quit() {
         child.let_go();

@@ -22,27 +22,32 @@ pub record TellsRun (run : RunEnd) (failures : Failures) : Type 0 where
   pub engine_memory : failures.memory ≡ false → lacked_memory run.engine ≡ false
   pub log : failures.log ≡ false → run.done.log ≡ false
 
--- why a run that was made reports no memory: a reader had none for a line, or the log was not opened
-abbrev pub LackedMemory : Books → RunEnd → Type 0
-LackedMemory books run =
-    (lacked_memory run.iface ≡ true) ⊎ ((lacked_memory run.engine ≡ true) ⊎ (books.logs_out ≡ 0))
+-- why a run that was made reports no memory: a reader had none for a line, or there was none
+-- to open the log
+abbrev pub LackedMemory : Books → RunEnd → Failures → Type 0
+LackedMemory books run failures =
+    (lacked_memory run.iface ≡ true)
+    ⊎ ((lacked_memory run.engine ≡ true) ⊎ ((books.logs_out ≡ 0) × (failures.log ≡ false)))
 
--- What was read and written is that of one run of both pipes, which began with these first lines, with fresh streams of the
--- engine and with a fresh log; they are in the books as they were at its end.
-pub record Mediated {M : Type 0} (means : Meaning M) (m0 : M) (first : List ℕ) (before after : Outside) (failures : Failures) : Type 0 where
+-- What was read and written is that of one run of both pipes, which began with these
+-- first lines, with fresh streams of the engine and with a fresh log; they are in the
+-- books as they were at its end.
+pub record Mediated {M : Type 0} (means : Meaning M) (m0 : M) (first : List ℕ)
+    (before after : Outside) (failures : Failures) : Type 0 where
   pub last : Streams
   pub end : RunEnd
   pub became : M
   pub ran : Ran means m0 became first (first_streams before after.books) last end
   pub told : TellsRun end failures
-  pub memory : failures.memory ≡ true → LackedMemory after.books end
+  pub memory : failures.memory ≡ true → LackedMemory after.books end failures
   pub input : last.input ≡ after.input
   pub output : last.into.output ≡ after.output
   pub run_told : after.books.runs ≡ told_by last.source last.into.engine ∷ []
   pub logs_told : after.books.logs ≡ closed_logs after.books.logs_out last.into.log
 
 -- what a run leaves, whether an engine was started or not
-pub record Leaves {M : Type 0} (means : Meaning M) (m0 : M) (first : List ℕ) (before after : Outside) (failures : Failures) : Type 0 where
+pub record Leaves {M : Type 0} (means : Meaning M) (m0 : M) (first : List ℕ)
+    (before after : Outside) (failures : Failures) : Type 0 where
   pub told : AreTold before after failures
   pub closed : IsClosed after.books failures
   -- if no engine was started, nothing was read or written

@@ -5,9 +5,10 @@ use Rattle.child_engine.specs.Hosts.{Told, Books}
 use Rattle.host_run.specs.declared.failures.Failures.{Failures}
 use Rattle.host_run.specs.Telling.{Gave, LogHasFront}
 
--- What the books say of a run that put this into the log and gave these lines to the engine, of which this arrived, if the
--- host tells its bytes.
-pub record RecordedAs (put lines : List ℕ) (arrived : List Event) (before after : Books) (failures : Failures) : Type 0 where
+-- What the books say of a run that put this into the log and gave these lines to the engine, of
+-- which this arrived, if the host tells its bytes.
+pub record RecordedAs (put lines : List ℕ) (arrived : List Event) (before after : Books)
+    (failures : Failures) : Type 0 where
   pub run : Told
   pub only : after.runs ≡ run ∷ []
   -- the log's bytes are what was put

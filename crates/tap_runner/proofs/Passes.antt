@@ -1,10 +1,10 @@
 -- Turns of one direction.
-use Rattle.std.proofs.Common.{◌≡◌, ℕ, List, [], ◌∷◌, ◌++◌, Bool, true, false, Option, Some, None, IfSome, refl, sym, ap, subst, ◌∙◌}
-use Rattle.std.proofs.lemmas.List.{map-append}
+use Rattle.std.proofs.Common.{◌≡◌, ℕ, List, [], ◌∷◌, ◌++◌, length, length-append, arith, Bool, true, false, Option, Some, None, IfSome, refl, sym, ap, subst, ◌∙◌}
+use Rattle.std.proofs.lemmas.List.{map-append, length-map}
 use Rattle.std.specs.Io.KnownBytes.{IsAtEnd}
 use Rattle.std.proofs.KnownBytes.{Appends-nil, Appends-trans, Consumes-nil, Consumes-trans}
 use Rattle.line_io.specs.Event.{Event}
-use Rattle.line_io.specs.Lines.{Reads}
+use Rattle.line_io.specs.Lines.{Reads, items}
 use Rattle.line_io.specs.Source.{Supplied, Received}
 use Rattle.event_pipe.specs.declared.message.Peer.{Peer}
 use Rattle.event_pipe.specs.Counts.{Tells}
@@ -13,7 +13,7 @@ use Rattle.sink_offers.specs.Took.{LogTook}
 use Rattle.tap_runner.specs.declared.passing.PassingTurn.{PassingTurn}
 use Rattle.tap_runner.specs.declared.passing.PassingTurn.TheVariants as turns
 use Rattle.tap_runner.specs.declared.passing.PassEnd.{PassEnd}
-use Rattle.tap_runner.specs.Lines.{pieces_of, line_after, last_pieces}
+use Rattle.tap_runner.specs.Lines.{line_limit, pieces_of, line_after, last_pieces}
 use Rattle.tap_runner.specs.Marks.{piece_event, piece_events, end_event}
 use Rattle.tap_runner.specs.Hearing.{Open, fresh, EndsHearing}
 use Rattle.tap_runner.specs.Passing.{Passed, Passing, Turned, is_last, has_failed_to_read, has_failed_to_write}
@@ -33,6 +33,7 @@ passing_first peer part s k sent o e = record {
   peer_is = ap (λ (x : Open). x.peer) o;
   line_is = ap (λ (x : Open). x.line) o;
   told = λ _. e;
+  count = ap length e;
   going = ap has_last_event e;
 }
 
@@ -75,6 +76,12 @@ module _ (peer : Peer) (old new : Open) (s0 s s' : Supplied) (k0 k k' : Received
       ∙ sym (map-append (piece_event peer) (pieces_of (Some []) h.got) (pieces_of (line_after (Some []) h.got) t.got))
       ∙ ap (piece_events peer) (sym (pieces_append (Some []) h.got t.got))
 
+  sent_now : length now ≡ length (pieces_of (Some []) (h.got ++ t.got))
+  sent_now =
+      let parts = ap length (pieces_append (Some []) h.got t.got) ∙ length-append (pieces_of (Some []) h.got) (pieces_of (line_after (Some []) h.got) t.got) in
+      let own = ap (λ (o : Option (List ℕ)). length (pieces_of o t.got)) h.line_is in
+      omega (arith, t.hears.count, h.count, parts, own)
+
   count_now : Tells s0.faults s'.faults (has_failed_to_read turn)
   count_now = subst (λ n. Tells n s'.faults (has_failed_to_read turn)) h.same t.read_count
 
@@ -87,6 +94,7 @@ module _ (peer : Peer) (old new : Open) (s0 s s' : Supplied) (k0 k k' : Received
     peer_is = t.hears.peer ∙ h.peer_is;
     line_is = line_now;
     told = told_now;
+    count = sent_now;
     going = t.hears.going;
   }
 
@@ -106,5 +114,12 @@ module _ (peer : Peer) (old new : Open) (s0 s s' : Supplied) (k0 k k' : Received
         ∙ ap (λ (p : Peer). piece_events peer (pieces_of (Some []) got) ++ piece_events p (last_pieces new.line) ++ end_event p ∷ []) (t.hears.peer ∙ h.peer_is)
         ∙ ap (λ (o : Option (List ℕ)). piece_events peer (pieces_of (Some []) got) ++ piece_events peer (last_pieces o) ++ end_event peer ∷ []) line_now
         ∙ ap (λ (es : List Event). es ++ end_event peer ∷ []) (sym (map-append (piece_event peer) (pieces_of (Some []) got) (last_pieces (line_after (Some []) got))) ∙ ap (piece_events peer) (sym (items_all got)));
+    count =
+        let got = h.got ++ t.got in
+        let own = ap (λ (o : Option (List ℕ)). length (last_pieces o)) line_now in
+        let all = ap length (items_all got) ∙ length-append (pieces_of (Some []) got) (last_pieces (line_after (Some []) got)) in
+        let marks = length-append (piece_events peer (items line_limit got)) (end_event peer ∷ []) in
+        let events = length-map (items line_limit got) (piece_event peer) in
+        omega (arith, ends.count, sent_now, own, all, marks, events);
     over = ends.over;
   }

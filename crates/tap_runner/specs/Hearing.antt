@@ -1,5 +1,6 @@
 -- What was heard of a peer, and what was sent for it.
-use Rattle.std.specs.Prelude.{◌≡◌, ℕ, List, [], ◌∷◌, ◌++◌, drop, Bool, true, false, if◌then◌else◌, Option, Some, None}
+use Rattle.std.specs.Prelude.{◌≡◌, ℕ, ◌+◌, List, [], ◌∷◌, ◌++◌, length, drop, Bool, true}
+use Rattle.std.specs.Prelude.{false, if◌then◌else◌, Option, Some, None}
 use Rattle.line_io.specs.Event.{Event, has_feed}
 use Rattle.line_io.specs.Lines.{Piece}
 use Rattle.line_io.specs.Out.{Text}
@@ -21,7 +22,11 @@ fresh peer = record { peer = peer; line = Some []; has_lacked = false }
 -- after the letter and the blank of its mark stands the line
 abbrev pub open_of : Peer → Text → Bool → Bool → Open
 open_of peer mark is_long has_lacked =
-    record { peer = peer; line = if is_long then None else Some (drop 2 mark.text); has_lacked = has_lacked }
+    record {
+      peer = peer;
+      line = if is_long then None else Some (drop 2 mark.text);
+      has_lacked = has_lacked;
+    }
 
 pub record IsMark (peer : Peer) (mark : Text) (is_long : Bool) : Type 0 where
   pub room : mark.room ≡ MARK_ROOM
@@ -29,12 +34,15 @@ pub record IsMark (peer : Peer) (mark : Text) (is_long : Bool) : Type 0 where
   pub no_feed : has_feed (drop 2 mark.text) ≡ false
 
 -- These lines ended, and what goes through the channel for them was sent; another line is open.
-pub record Hears (old new : Open) (before now : List Event) (pieces : List Piece) (line : Option (List ℕ)) : Type 0 where
+pub record Hears (old new : Open) (before now : List Event) (pieces : List Piece)
+    (line : Option (List ℕ)) : Type 0 where
   pub peer : new.peer ≡ old.peer
   pub line_is : new.line ≡ line
   -- once a mark had no memory, this is known
   pub lacked : old.has_lacked ≡ true → new.has_lacked ≡ true
   pub sends : new.has_lacked ≡ false → now ≡ before ++ piece_events old.peer pieces
+  -- one for each line, also where there was no memory
+  pub count : length now ≡ length before + length pieces
   pub going : has_last_event now ≡ false
 
 -- the last line was sent, and the peer's end
@@ -42,4 +50,5 @@ pub record EndsHearing (old new : Open) (before now : List Event) : Type 0 where
   pub lacked : old.has_lacked ≡ true → new.has_lacked ≡ true
   pub sends : new.has_lacked ≡ false
       → now ≡ before ++ piece_events old.peer (last_pieces old.line) ++ end_event old.peer ∷ []
+  pub count : length now ≡ length before + length (last_pieces old.line) + 1
   pub over : has_last_event now ≡ true

@@ -1,5 +1,6 @@
 -- The lines that bytes end, and what is known of the line that they leave open.
-use Rattle.std.specs.Prelude.{ℕ, List, [], ◌∷◌, ◌++◌, length, if◌then◌else◌, ◌-◌, nat_lt, Option, Some, None}
+use Rattle.std.specs.Prelude.{ℕ, List, [], ◌∷◌, ◌++◌, length, if◌then◌else◌}
+use Rattle.std.specs.Prelude.{◌-◌, nat_lt, Option, Some, None}
 use Rattle.line_io.specs.Lines.{Piece, Whole, TooLong, is_feed}
 use Rattle.line_io.specs.declared.limits.TheConstants.{PEER_LINE}
 

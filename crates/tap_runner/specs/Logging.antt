@@ -19,14 +19,16 @@ ends_after ends IfaceEnd = record { bridge = true; engine = ends.engine }
 ends_after ends EngineEnd = record { bridge = ends.bridge; engine = true }
 ends_after ends event = ends
 
--- The log took what was received, in order, each mark on a line, or a front of that text if it failed.
+-- The log took what was received, in order, each mark on a line, or a front
+-- of that text if it failed.
 pub record Logged (received : List Event) (log log' : Received) (failed : Bool) : Type 0 where
   pub text : LogTook (log_text received) failed log log'
   pub bridge_ended : has_last_event (sent_by peers.Iface received) ≡ true
   pub engine_ended : has_last_event (sent_by peers.Engine received) ≡ true
 
 -- so far
-pub record Logging (received : List Event) (log log' : Received) (failed : Bool) (ends : EndedSides) : Type 0 where
+pub record Logging (received : List Event) (log log' : Received) (failed : Bool)
+    (ends : EndedSides) : Type 0 where
   pub text : LogTook (log_text received) failed log log'
   pub bridge : ends.bridge ≡ true → has_last_event (sent_by peers.Iface received) ≡ true
   pub engine : ends.engine ≡ true → has_last_event (sent_by peers.Engine received) ≡ true

@@ -1,5 +1,5 @@
 -- One direction of a run.
-use Rattle.std.specs.Prelude.{◌≡◌, ℕ, List, [], Bool, true, false, Some, IfSome}
+use Rattle.std.specs.Prelude.{◌≡◌, ℕ, List, [], length, Bool, true, false, Some, IfSome}
 use Rattle.std.specs.Io.KnownBytes.{IsAtEnd}
 use Rattle.line_io.specs.Event.{Event}
 use Rattle.line_io.specs.Source.{Supplied, Received}
@@ -16,17 +16,21 @@ use Rattle.tap_runner.specs.Marks.{piece_events, marks_of}
 use Rattle.tap_runner.specs.Hearing.{Open, Hears}
 
 -- What one direction of a run did.
-pub record Passed (peer : Peer) (source source' : Supplied) (sink sink' : Received) (sent : List Event) (end : PassEnd) : Type 0 where
+pub record Passed (peer : Peer) (source source' : Supplied) (sink sink' : Received)
+    (sent : List Event) (end : PassEnd) : Type 0 where
   -- these bytes were read
   pub got : List ℕ
   pub reads : Reads source source' got
   -- they were handed on, unchanged and in order: all of them, or a front of them if a write failed
   pub handed : LogTook got end.write_failed sink sink'
   -- nothing is left, if nothing failed
-  pub all : end.read_failed ≡ false → end.write_failed ≡ false → IfSome source.left (λ _. IsAtEnd source'.left)
+  pub all : end.read_failed ≡ false → end.write_failed ≡ false
+      → IfSome source.left (λ _. IsAtEnd source'.left)
   pub read_count : Tells source.faults source'.faults end.read_failed
   -- the marks of their lines were sent to the log, and the end
   pub told : end.has_lacked_memory ≡ false → sent ≡ marks_of peer got
+  -- one mark for each, also where there was no memory
+  pub count : length sent ≡ length (marks_of peer got)
   pub over : has_last_event sent ≡ true
 
 abbrev pub is_last : PassingTurn → Bool
@@ -42,7 +46,8 @@ has_failed_to_write turns.WriteFailed = true
 has_failed_to_write turn = false
 
 -- what one turn did
-pub record Turned (old new : Open) (source source' : Supplied) (sink sink' : Received) (before now : List Event) (turn : PassingTurn) : Type 0 where
+pub record Turned (old new : Open) (source source' : Supplied) (sink sink' : Received)
+    (before now : List Event) (turn : PassingTurn) : Type 0 where
   pub got : List ℕ
   pub reads : Reads source source' got
   pub read_count : Tells source.faults source'.faults (has_failed_to_read turn)
@@ -51,7 +56,8 @@ pub record Turned (old new : Open) (source source' : Supplied) (sink sink' : Rec
   pub at_end : turn ≡ turns.Ended → IsAtEnd source'.left
 
 -- so far
-pub record Passing (peer : Peer) (part : Open) (source source' : Supplied) (sink sink' : Received) (sent : List Event) : Type 0 where
+pub record Passing (peer : Peer) (part : Open) (source source' : Supplied) (sink sink' : Received)
+    (sent : List Event) : Type 0 where
   pub got : List ℕ
   pub reads : Reads source source' got
   pub handed : LogTook got false sink sink'
@@ -59,4 +65,5 @@ pub record Passing (peer : Peer) (part : Open) (source source' : Supplied) (sink
   pub peer_is : part.peer ≡ peer
   pub line_is : part.line ≡ line_after (Some []) got
   pub told : part.has_lacked ≡ false → sent ≡ piece_events peer (pieces_of (Some []) got)
+  pub count : length sent ≡ length (pieces_of (Some []) got)
   pub going : has_last_event sent ≡ false

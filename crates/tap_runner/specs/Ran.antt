@@ -23,8 +23,9 @@ pub record IsReady (to : PipeSend) (part : Open) (room : ℕ) (peer : Peer) : Ty
 abbrev pub IsReadyWay : Direction → Peer → Type 0
 IsReadyWay way peer = IsReady way.to way.part (vec_len way.buf) peer
 
--- What the bridge wrote was handed on to the engine, and what the engine wrote to the bridge. The log is the marks of
--- the lines of both, each side's in its order, and in all in the order in which they went through one channel.
+-- What the bridge wrote was handed on to the engine, and what the engine wrote to the bridge. The
+-- log is the marks of the lines of both, each side's in its order, and in all in the order in which
+-- they went through one channel.
 pub record Ran (before after : Streams) (end : TapEnd) : Type 0 where
   -- what went through the channel
   pub events : List Event

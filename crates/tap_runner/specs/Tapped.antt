@@ -22,22 +22,22 @@ pub record TellsRun (end : TapEnd) (failures : Failures) : Type 0 where
   pub engine_memory : failures.memory ≡ false → end.engine.has_lacked_memory ≡ false
   pub log : failures.log ≡ false → end.log_failed ≡ false
 
--- why a run that was made reports no memory: there was none for a mark, or the log was not opened
-abbrev pub LackedMemory : Books → TapEnd → Type 0
-LackedMemory books end =
+-- why a run that was made reports no memory: there was none for a mark, or none to open the log
+abbrev pub LackedMemory : Books → TapEnd → Failures → Type 0
+LackedMemory books end failures =
     (end.bridge.has_lacked_memory ≡ true)
-    ⊎ ((end.engine.has_lacked_memory ≡ true) ⊎ (books.logs_out ≡ 0))
+    ⊎ ((end.engine.has_lacked_memory ≡ true) ⊎ ((books.logs_out ≡ 0) × (failures.log ≡ false)))
 
--- What was read and written is that of one run of both directions, which began with fresh streams of the engine and a
--- fresh log; they are in the books as they were at its end. `OutputGone` says that the output was let go, and `EngineGone` of what an
--- engine's input showed that it was.
+-- What was read and written is that of one run of both directions, which began with fresh streams
+-- of the engine and a fresh log; they are in the books as they were at its end. `OutputGone` says
+-- that the output was let go, and `EngineGone` of what an engine's input showed that it was.
 pub record Tapped (OutputGone : Type 0) (EngineGone : Received → Type 0) (before after : Outside)
     (failures : Failures) : Type 0 where
   pub last : Streams
   pub end : TapEnd
   pub ran : Ran (first_streams before after.books) last end
   pub told : TellsRun end failures
-  pub memory : failures.memory ≡ true → LackedMemory after.books end
+  pub memory : failures.memory ≡ true → LackedMemory after.books end failures
   pub input : last.input ≡ after.input
   pub output : last.into.output ≡ after.output
   pub run_told : after.books.runs ≡ told_by last.source last.into.engine ∷ []

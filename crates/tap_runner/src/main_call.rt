@@ -34,7 +34,8 @@ where
     H::EngineSink: LetGo,
     requires { IsUnused (H.books host.old) }
     ensures ends { Ends (AreTaken (bytes_of words.now))
-        (Leaves (O.is_let_go interface.new.output) (WasLetGo H.EngineSink.state H.EngineSink.is_let_go)
+        (Leaves (O.is_let_go interface.new.output)
+        (WasLetGo H.EngineSink.state H.EngineSink.is_let_go)
         (outside_of I.state O.state H.faults H.books interface.old host.old)
         (outside_of I.state O.state H.faults H.books interface.new host.new))
         (outside_of I.state O.state H.faults H.books interface.old host.old)

@@ -47,7 +47,8 @@ fn run_beside<
         (I.state interface.old.input) (I.state interface.new.input)
         (E.state handed.old.engine) (E.state handed.new.engine)
         (events_sent parts.new.down.to) result.bridge }
-    ensures from_engine { Passed peers.Engine (S.state handed.old.source) (S.state handed.new.source)
+    ensures from_engine { Passed peers.Engine
+        (S.state handed.old.source) (S.state handed.new.source)
         (O.state interface.old.output) (O.state interface.new.output)
         (events_sent parts.new.up.to) result.engine }
     ensures output_gone { O.is_let_go interface.new.output }

@@ -5,7 +5,7 @@ use Rattle.sink_offers.specs.Streams.{log_state}
 use Rattle.host_run.specs.Logs.{closed_logs}
 use Rattle.host_run.proofs.Telling.{fresh_faults}
 use Rattle.host_run.proofs.Counts.{retold, told_by, log_told, reads_kept, writes_kept, waits_kept, starts_kept}
-use Rattle.host_run.proofs.Asked.{asked_logs, opens_logs}
+use Rattle.host_run.proofs.Asked.{asked_logs, opens_logs, no_log_for_memory}
 use Rattle.host_run.proofs.Closes.{all_closed, is_closed, few_logs, same_count, length_told, told_as, some_run, never, log_opened, left_of, right_of, lacked}
 use Rattle.mediator_host.proofs.Starts.{ran_from}
 use Rattle.mediator_host.proofs.run.run_started.Goals as goal
@@ -73,7 +73,10 @@ returns-clause-leaves g c =
             };
             memory =
                 lacked _ _ _ _ _ _ _ _ c.either-2.ensures c.is_open_memory.ensures c.either.ensures c.has_lacked_memory.ensures c.has_lacked_memory-2.ensures
-                (λ m. logs_out ∙ c.open_log-log.ensures.none m);
+                (λ m. no_log_for_memory c.open_log-log.result.fault c.either-3.result _ (λ z. logs_out ∙ c.open_log-log.ensures.none z)
+                (asked_logs g.H.Log.Sink.state c.open_log-log.result.log c.run_pipes.new.handed.log c.open_log-log.result.fault c.is_open_failure.result _ _ _
+                c.open_log-log.ensures.some c.open_log-log.ensures.none c.run_pipes.ensures.kept ran.looped.log.count
+                c.is_open_failure.ensures c.either-3.ensures logs_out) m);
             input = refl;
             output = refl;
             run_told = ap (λ (b : Books). b.runs) all;

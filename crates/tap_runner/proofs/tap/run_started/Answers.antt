@@ -9,7 +9,7 @@ use Rattle.tap_runner.proofs.Records.{recorded_by, leaves_by}
 use Rattle.tap_runner.proofs.Starts.{ran_from}
 use Rattle.child_engine.specs.Hosts.{Books}
 use Rattle.host_run.proofs.Counts.{retold, told_by, log_told, reads_kept, writes_kept, waits_kept, starts_kept}
-use Rattle.host_run.proofs.Asked.{asked_logs, opens_logs}
+use Rattle.host_run.proofs.Asked.{asked_logs, opens_logs, no_log_for_memory}
 use Rattle.host_run.proofs.Closes.{all_closed, is_closed, few_logs, same_count, length_told, told_as, some_run, never, log_opened, left_of, right_of, lacked}
 use Rattle.tap_runner.proofs.tap.run_started.Goals as goal
 
@@ -88,7 +88,10 @@ returns-clause-leaves g c =
       told = told;
       memory =
           lacked _ _ _ _ _ _ _ _ c.either-2.ensures c.is_open_memory.ensures c.either.ensures refl refl
-          (λ m. ap (λ (b : Books). b.logs_out) all ∙ c.open_log-log.ensures.none m);
+          (λ m. no_log_for_memory c.open_log-log.result.fault c.either-3.result _ (λ z. logs_out ∙ c.open_log-log.ensures.none z)
+          (asked_logs g.H.Log.Sink.state c.open_log-log.result.log c.run_tap-end.new.handed.log c.open_log-log.result.fault c.is_open_failure.result _ _ _
+          c.open_log-log.ensures.some c.open_log-log.ensures.none c.run_tap-end.ensures.kept ran.to_log.count
+          c.is_open_failure.ensures c.either-3.ensures logs_out) m);
       input = refl;
       output = refl;
       run_told = runs;

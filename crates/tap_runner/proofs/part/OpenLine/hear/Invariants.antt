@@ -1,5 +1,5 @@
 -- What is left of the bytes completes the lines.
-use Rattle.std.proofs.Common.{◌≡◌, ◌++◌, drop, true, false}
+use Rattle.std.proofs.Common.{◌≡◌, ◌+◌, ◌++◌, length, drop, true, false}
 use Rattle.event_pipe.specs.Ends.{KeepsSender, events_sent}
 use Rattle.event_pipe.specs.Rule.{has_last_event}
 use Rattle.tap_runner.specs.Lines.{pieces_of, line_after}
@@ -15,5 +15,7 @@ invariant-loop-byte g l = record {
   sends : l.self.has_lacked ≡ false
       → events_sent l.to ++ piece_events l.fn.self.peer (pieces_of l.self.line (drop l.byte-index l.bytes))
       ≡ events_sent l.fn.to ++ piece_events l.fn.self.peer (pieces_of l.fn.self.line l.bytes);
+  count : length (events_sent l.to) + length (pieces_of l.self.line (drop l.byte-index l.bytes))
+      ≡ length (events_sent l.fn.to) + length (pieces_of l.fn.self.line l.bytes);
   going : has_last_event (events_sent l.to) ≡ false;
 }
