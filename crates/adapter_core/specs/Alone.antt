@@ -1,4 +1,5 @@
--- What the interface alone commands: the desk as it is folded over the events of the interface, with an engine that never answers.
+-- What the interface alone commands: the desk as it is folded over the events of the interface,
+-- with an engine that never answers.
 use Rattle.std.specs.Prelude.{ℕ, ◌≡◌, List, [], ◌∷◌, filter, map, Bool, true, false}
 use Rattle.line_io.specs.Event.{Event}
 use Rattle.line_io.specs.Event as events
@@ -16,7 +17,8 @@ use Rattle.desk_rules.specs.declared.mode.Mode.{Mode}
 use Rattle.desk_rules.specs.declared.effect.Refusal.TheVariants as refusals
 use Rattle.desk_rules.specs.declared.desk.Desk.{Desk}
 use Rattle.desk_rules.specs.Desk.{Situation, opening_desk, is_gone}
-use Rattle.desk_rules.specs.Steps.{Effect, Refuses, Accepts, Defers, Shows, Forfeits, classify, call_after, desk_after}
+use Rattle.desk_rules.specs.Steps.{Effect, Refuses, Accepts, Defers, Shows}
+use Rattle.desk_rules.specs.Steps.{Forfeits, classify, call_after, desk_after}
 use Rattle.desk_rules.specs.Replies.{replies_of}
 use Rattle.adapter_core.specs.declared.ends.Ends.{Ends}
 use Rattle.adapter_core.specs.Ends.{ends_after, at_start}
@@ -32,13 +34,28 @@ pub record Commanded : Type 0 where
   pub pings : List ℕ
 
 abbrev pub commanded_part : Desk → Commanded
-commanded_part d = record { game = d.game; mode = d.mode; post = d.post; pondering = d.pondering; clocks = d.clocks; pings = d.pings }
+commanded_part d = record {
+  game = d.game;
+  mode = d.mode;
+  post = d.post;
+  pondering = d.pondering;
+  clocks = d.clocks;
+  pings = d.pings;
+}
 
 -- THE INTERFACE ALONE
 
 -- the situation if the engine never says anything: no move is shown, so the policy has no scores
 abbrev pub lone : Settings → Bool → Desk → Situation
-lone o closed d = record { settings = o; closed = closed; engine = states.Idle; spent = false; desk = d; resigns = false; accepts = does_accept o [] }
+lone o closed d = record {
+  settings = o;
+  closed = closed;
+  engine = states.Idle;
+  spent = false;
+  desk = d;
+  resigns = false;
+  accepts = does_accept o [];
+}
 
 -- which sides have ended, and the desk
 pub record Alone : Type 0 where
@@ -53,12 +70,15 @@ lone_effect o a e = classify (lone_situation o a) [] e
 
 -- a Move is owed wherever one is called for, since no call is spent
 abbrev pub lone_owes : Settings → Alone → Event → Bool
-lone_owes o a e = is_move (call_after (ends_after a.ends e).closed (lone_situation o a) (lone_effect o a e))
+lone_owes o a e =
+    is_move (call_after (ends_after a.ends e).closed (lone_situation o a) (lone_effect o a e))
 
 abbrev pub lone_after : Settings → Alone → Event → Alone
 lone_after o a e = record {
   ends = ends_after a.ends e;
-  desk = desk_after (ends_after a.ends e).closed (lone_owes o a e) false (lone_situation o a) (lone_effect o a e);
+  desk =
+      desk_after (ends_after a.ends e).closed (lone_owes o a e) false (lone_situation o a)
+      (lone_effect o a e);
 }
 
 -- after these events, the newest first
@@ -67,7 +87,9 @@ alone o [] = record { ends = at_start; desk = opening_desk }
 alone o (e ∷ es) = lone_after o (alone o es) e
 
 abbrev pub lone_replies : Settings → Alone → Event → List Reply
-lone_replies o a e = replies_of (ends_after a.ends e).closed (lone_owes o a e) (lone_situation o a) (lone_effect o a e)
+lone_replies o a e =
+    replies_of (ends_after a.ends e).closed (lone_owes o a e) (lone_situation o a)
+    (lone_effect o a e)
 
 -- TRACES IN WHICH THE ENGINE HAS NO SAY
 
@@ -96,7 +118,8 @@ is_overfull d = false
 abbrev pub IsUnanswered : Settings → List Step → Type 0
 IsUnanswered o [] = Unit {0}
 IsUnanswered o (step ∷ trace) =
-    IsUnanswered o trace × (is_answer (effect (state o trace) step.event) ≡ false) × (is_overfull (effect (state o trace) step.event) ≡ false)
+    IsUnanswered o trace × (is_answer (effect (state o trace) step.event) ≡ false)
+    × (is_overfull (effect (state o trace) step.event) ≡ false)
 
 -- and the engine is there
 pub record IsWithoutSay (o : Settings) (trace : List Step) : Type 0 where
@@ -118,16 +141,22 @@ tells_of_engine d = false
 
 -- If the engine has no say, the parts that the interface commands are those of the interface alone.
 abbrev pub DeskIsAlone : Settings → Type 0
-DeskIsAlone o = (trace : List Step) → Lawful o trace → IsWithoutSay o trace → commanded_part (state o trace).desk ≡ commanded_part (alone o (iface_events trace)).desk
+DeskIsAlone o =
+    (trace : List Step) → Lawful o trace → IsWithoutSay o trace
+    → commanded_part (state o trace).desk ≡ commanded_part (alone o (iface_events trace)).desk
 
 -- And so are the replies to its events, except those that report on the engine.
 abbrev pub RepliesAreAlone : Settings → Type 0
 RepliesAreAlone o =
-    (step : Step) (trace : List Step) → Lawful o (step ∷ trace) → IsWithoutSay o (step ∷ trace) → is_of_iface step.event ≡ true
-    → tells_of_engine (effect (state o trace) step.event) ≡ false → step.replies ≡ lone_replies o (alone o (iface_events trace)) step.event
+    (step : Step) (trace : List Step) → Lawful o (step ∷ trace) → IsWithoutSay o (step ∷ trace)
+    → is_of_iface step.event ≡ true
+    → tells_of_engine (effect (state o trace) step.event) ≡ false
+    → step.replies ≡ lone_replies o (alone o (iface_events trace)) step.event
 
--- So two traces with the same events of the interface have the same parts, whenever the engine spoke in them.
+-- So two traces with the same events of the interface have the same parts, whenever
+-- the engine spoke in them.
 abbrev pub IsApartFromEngine : Settings → Type 0
 IsApartFromEngine o =
-    (trace trace' : List Step) → Lawful o trace → Lawful o trace' → IsWithoutSay o trace → IsWithoutSay o trace' → iface_events trace ≡ iface_events trace'
+    (trace trace' : List Step) → Lawful o trace → Lawful o trace' → IsWithoutSay o trace
+    → IsWithoutSay o trace' → iface_events trace ≡ iface_events trace'
     → commanded_part (state o trace).desk ≡ commanded_part (state o trace').desk

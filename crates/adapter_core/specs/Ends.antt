@@ -5,8 +5,8 @@ use Rattle.line_io.specs.Event as events
 use Rattle.cecp_lines.specs.Quit.{is_quit}
 use Rattle.adapter_core.specs.declared.ends.Ends.{Ends}
 
--- The event may come: Open is the first event and only the first, no event of a side follows that side's end, no side is lost twice, and
--- a line has at most `PEER_LINE` bytes and no line feed.
+-- The event may come: Open is the first event and only the first, no event of a side follows that
+-- side's end, no side is lost twice, and a line has at most `PEER_LINE` bytes and no line feed.
 abbrev pub may : Ends → Event → Bool
 may ends events.Open = not ends.opened
 may ends (events.Iface line) = ends.opened && not ends.iface && is_line line
@@ -20,7 +20,10 @@ may ends events.EngineLost = ends.opened && not ends.engine && not ends.engine_l
 
 abbrev pub ends_after : Ends → Event → Ends
 ends_after ends events.Open = record ends { opened = true }
-ends_after ends (events.Iface line) = record ends { iface = ends.iface || is_quit line; closed = ends.closed || is_quit line }
+ends_after ends (events.Iface line) = record ends {
+  iface = ends.iface || is_quit line;
+  closed = ends.closed || is_quit line;
+}
 ends_after ends events.IfaceEnd = record ends { iface = true; closed = true }
 ends_after ends events.IfaceLost = record ends { iface_lost = true; closed = true }
 ends_after ends events.EngineEnd = record ends { engine = true }
@@ -32,7 +35,14 @@ is_open events.Open = true
 is_open e = false
 
 abbrev pub at_start : Ends
-at_start = record { opened = false; iface = false; engine = false; iface_lost = false; engine_lost = false; closed = false }
+at_start = record {
+  opened = false;
+  iface = false;
+  engine = false;
+  iface_lost = false;
+  engine_lost = false;
+  closed = false;
+}
 
 -- both sides have ended
 abbrev pub is_over : Ends → Bool

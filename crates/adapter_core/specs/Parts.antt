@@ -1,5 +1,6 @@
 -- What the core keeps, and how an event changes it.
-use Rattle.std.specs.Prelude.{List, [], ◌∷◌, Bool, true, false, not, ◌||◌, if◌then◌else◌, ◌≤◌, length, ◌≡◌, ◌+◌}
+use Rattle.std.specs.Prelude.{List, [], ◌∷◌, Bool, true, false, not}
+use Rattle.std.specs.Prelude.{◌||◌, if◌then◌else◌, ◌≤◌, length, ◌≡◌, ◌+◌}
 use Rattle.line_io.specs.Event.{Event}
 use Rattle.line_io.specs.Out.{empty, with}
 use Rattle.uci_lines.specs.Orders.{Order}
@@ -16,11 +17,13 @@ use Rattle.search_epochs.specs.declared.words.Orders.{Orders}
 use Rattle.search_epochs.specs.declared.words.Orders.TheVariants as chosen
 use Rattle.search_epochs.specs.Tickets.{is_move, is_hurry}
 use Rattle.search_epochs.specs.Dialogue as dialogues
-use Rattle.search_epochs.specs.Dialogue.{owed_by_dialogue, mid_dialogue, settle, after_settled, played_of, is_hit_order, is_batch_order}
+use Rattle.search_epochs.specs.Dialogue.{owed_by_dialogue, mid_dialogue, settle, after_settled}
+use Rattle.search_epochs.specs.Dialogue.{played_of, is_hit_order, is_batch_order}
 use Rattle.desk_rules.specs.declared.effect.Context.{Context}
 use Rattle.desk_rules.specs.declared.desk.Desk.{Desk}
 use Rattle.desk_rules.specs.Desk.{at, Situation, opening_desk, is_gone}
-use Rattle.desk_rules.specs.Steps.{Effect, classify, what_of, begins_epoch, call_after, desk_after_effect, desk_after, is_boots, is_death, counts_after}
+use Rattle.desk_rules.specs.Steps.{Effect, classify, what_of, begins_epoch, call_after}
+use Rattle.desk_rules.specs.Steps.{desk_after_effect, desk_after, is_boots, is_death, counts_after}
 use Rattle.desk_rules.specs.Orders.{orders_waiting, order_list}
 use Rattle.desk_rules.specs.Replies.{replies_of}
 use Rattle.desk_rules.specs.Texts.{order_lines}
@@ -57,7 +60,9 @@ context_of o closed engine spent score scores = record {
 }
 
 abbrev pub situation : CoreParts → Situation
-situation v = at (context_of v.settings v.ends.closed v.dialogue.state v.dialogue.spent v.desk.seen.score v.scores) v.desk
+situation v =
+    at (context_of v.settings v.ends.closed v.dialogue.state v.dialogue.spent v.desk.seen.score
+    v.scores) v.desk
 
 abbrev pub none_held : List Order → Bool
 none_held [] = true
@@ -76,17 +81,20 @@ seen_call e call = if is_move call then calls.Move else calls.Nothing
 abbrev pub choice : Bool → Bool → Situation → List Order → Effect → dialogues.Dialogue → Orders
 choice opens closed h held d mid =
     if opens || closed then chosen.None
-    else settle mid (call_after closed h d) (is_unsent held d) (played_of (what_of d)) (is_hurry (what_of d))
+    else settle mid (call_after closed h d) (is_unsent held d) (played_of (what_of d))
+    (is_hurry (what_of d))
 
 -- the orders of a step, if these are held
 abbrev pub orders_of : Bool → Bool → Bool → Bool → List Order → Desk → Orders → List Order
 orders_of opens closed closed_now gone held desk choice =
     if opens then orders.Uci ∷ []
-    else (if closed_now then (if closed || gone then [] else orders.Quit ∷ []) else order_list held desk choice)
+    else (if closed_now then (if closed || gone then [] else orders.Quit ∷ [])
+    else order_list held desk choice)
 
--- the core after an event: its parts, by what stood, what came of the event, what is held then, what the dialogue is then, whether a
--- Move is owed then, what was chosen and the desk then
-abbrev pub finish : Situation → Effect → Event → CoreParts → List Order → dialogues.Dialogue → Bool → Orders → Desk → CoreParts
+-- the core after an event: its parts, by what stood, what came of the event, what is held then,
+-- what the dialogue is then, whether a Move is owed then, what was chosen and the desk then
+abbrev pub finish : Situation → Effect → Event → CoreParts → List Order → dialogues.Dialogue → Bool
+    → Orders → Desk → CoreParts
 finish h d e v held m owes o desk = record {
   settings = v.settings;
   ends = ends_after v.ends e;
@@ -94,23 +102,28 @@ finish h d e v held m owes o desk = record {
   scores = counts_after h.desk.seen.score d v.scores;
   held = (if is_batch_order o then [] else held);
   dialogue = after_settled m o;
-  to_iface = with (empty v.to_iface.room) (reply_lines (replies_of (ends_after v.ends e).closed owes h d));
+  to_iface =
+      with (empty v.to_iface.room) (reply_lines (replies_of (ends_after v.ends e).closed owes h d));
   to_engine =
       with (empty v.to_engine.room)
-      (order_lines (orders_of (is_open e) v.ends.closed (ends_after v.ends e).closed (is_gone h.engine || is_death d) held desk o));
+      (order_lines (orders_of (is_open e) v.ends.closed (ends_after v.ends e).closed
+      (is_gone h.engine || is_death d) held desk o));
 }
 
 abbrev pub desk_with : Situation → Effect → Event → CoreParts → Bool → Orders → Desk
 desk_with h d e v owes o = desk_after (ends_after v.ends e).closed owes (is_hit_order o) h d
 
-abbrev pub advance_from : Situation → Effect → Event → CoreParts → List Order → dialogues.Dialogue → CoreParts
+abbrev pub advance_from : Situation → Effect → Event → CoreParts → List Order → dialogues.Dialogue
+    → CoreParts
 advance_from h d e v held m =
     let owes = is_move (owed_by_dialogue m (call_after (ends_after v.ends e).closed h d)) in
     let o = choice (is_open e) (ends_after v.ends e).closed h held d m in
     finish h d e v held m owes o (desk_with h d e v owes o)
 
 abbrev pub advance_at : Situation → Effect → CoreParts → Event → CoreParts
-advance_at h d v e = advance_from h d e v (orders_waiting h v.held d) (mid_dialogue v.dialogue (what_of d) (begins_epoch h d))
+advance_at h d v e =
+    advance_from h d e v (orders_waiting h v.held d)
+    (mid_dialogue v.dialogue (what_of d) (begins_epoch h d))
 
 unfoldable pub advance : CoreParts → Event → CoreParts
 advance v e = advance_at (situation v) (classify (situation v) v.held e) v e

@@ -1,5 +1,6 @@
 -- When a move is shown, and what a refused line changes.
-use Rattle.std.specs.Prelude.{◌≡◌, ◌↔◌, ◌≤◌, ℕ, List, [], ◌∷◌, length, Contains, Bool, true, false, Option, Some}
+use Rattle.std.specs.Prelude.{◌≡◌, ◌↔◌, ◌≤◌, ℕ, List, [], ◌∷◌, length}
+use Rattle.std.specs.Prelude.{Contains, Bool, true, false, Option, Some}
 use Rattle.chess_board.specs.declared.board.Move.{Move as AnyMove}
 use Rattle.chess_board.specs.Place.{legal}
 use Rattle.peer_words.specs.declared.kinds.GoKind.TheVariants as kinds
@@ -15,8 +16,9 @@ use Rattle.desk_rules.specs.declared.effect.Refusal.{Refusal}
 use Rattle.desk_rules.specs.Steps.{Refuses}
 use Rattle.adapter_core.specs.Trace.{State, Step, Lawful, state, effect}
 
--- An event answers with a legal move: in a session that is not closed the engine's line is a `bestmove`, the open search is for a move
--- and was begun or renewed for the present epoch, and the move is legal in the game.
+-- An event answers with a legal move: in a session that is not closed the engine's line is a
+-- `bestmove`, the open search is for a move and was begun or renewed for the present epoch, and the
+-- move is legal in the game.
 pub record Answers (s : State) (e : Event) (m : AnyMove) : Type 0 where
   pub line : List ℕ
   pub hint : Option AnyMove
@@ -29,7 +31,9 @@ pub record Answers (s : State) (e : Event) (m : AnyMove) : Type 0 where
 
 -- `move m` is written exactly in the step whose event answers with m.
 abbrev pub MovesAreShownInTime : Settings → Type 0
-MovesAreShownInTime o = (step : Step) (t : List Step) → Lawful o (step ∷ t) → (m : AnyMove) → Contains step.replies (Move m) ↔ Answers (state o t) step.event m
+MovesAreShownInTime o =
+    (step : Step) (t : List Step) → Lawful o (step ∷ t) → (m : AnyMove)
+    → Contains step.replies (Move m) ↔ Answers (state o t) step.event m
 
 -- the moves that these lines show
 abbrev pub moves_told : List Reply → List AnyMove
@@ -39,10 +43,12 @@ moves_told (line ∷ rest) = moves_told rest
 
 -- It is written once.
 abbrev pub MovesAreShownOnce : Settings → Type 0
-MovesAreShownOnce o = (step : Step) (t : List Step) → Lawful o (step ∷ t) → length (moves_told step.replies) ≤ 1
+MovesAreShownOnce o =
+    (step : Step) (t : List Step) → Lawful o (step ∷ t) → length (moves_told step.replies) ≤ 1
 
 -- A refused line changes nothing, and the engine gets nothing.
 abbrev pub RefusedLinesChangeNothing : Settings → Type 0
 RefusedLinesChangeNothing o =
-    (step : Step) (t : List Step) → Lawful o (step ∷ t) → (r : Refusal) (line : List ℕ) → effect (state o t) step.event ≡ Refuses r line
+    (step : Step) (t : List Step) → Lawful o (step ∷ t) → (r : Refusal) (line : List ℕ)
+    → effect (state o t) step.event ≡ Refuses r line
     → (state o (step ∷ t) ≡ state o t) × (step.orders ≡ [])

@@ -1,5 +1,6 @@
 -- When a core stands for a trace.
-use Rattle.std.specs.Prelude.{◌≡◌, ℕ, ◌≤◌, List, [], ◌∷◌, ◌++◌, map, length, true, false, ◌||◌, IfSome}
+use Rattle.std.specs.Prelude.{◌≡◌, ℕ, ◌≤◌, List, [], ◌∷◌, ◌++◌, map}
+use Rattle.std.specs.Prelude.{length, true, false, ◌||◌, IfSome}
 use Rattle.std.specs.List.{flat_map}
 use Rattle.line_io.specs.Event.{Event}
 use Rattle.line_io.specs.Out.{Text}
@@ -52,7 +53,8 @@ pub record Holds (s : State) : Type 0 where
 
 -- The core stands for the trace.
 abbrev pub Stands : Settings → CoreParts → List Step → Type 0
-Stands o core trace = (core ≡ parts_of (state o trace) core.to_iface core.to_engine) × Holds (state o trace)
+Stands o core trace =
+    (core ≡ parts_of (state o trace) core.to_iface core.to_engine) × Holds (state o trace)
 
 -- What holds of the core itself, whatever it stands for.
 pub record Keeps (v : CoreParts) : Type 0 where
@@ -65,42 +67,56 @@ pub record Keeps (v : CoreParts) : Type 0 where
   pub to_iface : v.to_iface.room ≡ ROOM
   pub to_engine : v.to_engine.room ≡ ROOM
 
--- the step that an event gives, by what stood, what came of the event, what is held then and what the dialogue is then
-abbrev pub step_from : Situation → Effect → CoreParts → Event → List Order → dialogues.Dialogue → Step
+-- the step that an event gives, by what stood, what came of the event, what is held then and
+-- what the dialogue is then
+abbrev pub step_from : Situation → Effect → CoreParts → Event → List Order → dialogues.Dialogue
+    → Step
 step_from h d v e held m =
     let owes = is_move (owed_by_dialogue m (call_after (ends_after v.ends e).closed h d)) in
     let o = choice (is_open e) (ends_after v.ends e).closed h held d m in
     record {
       event = e;
       replies = replies_of (ends_after v.ends e).closed owes h d;
-      orders = orders_of (is_open e) v.ends.closed (ends_after v.ends e).closed (is_gone h.engine || is_death d) held (desk_with h d e v owes o) o;
+      orders = orders_of (is_open e) v.ends.closed (ends_after v.ends e).closed
+          (is_gone h.engine || is_death d) held (desk_with h d e v owes o) o;
     }
 
 abbrev pub step_at : Situation → Effect → CoreParts → Event → Step
-step_at h d v e = step_from h d v e (orders_waiting h v.held d) (mid_dialogue v.dialogue (what_of d) (begins_epoch h d))
+step_at h d v e =
+    step_from h d v e (orders_waiting h v.held d)
+    (mid_dialogue v.dialogue (what_of d) (begins_epoch h d))
 
 unfoldable pub step_by : CoreParts → Event → Step
 step_by v e = step_at (parts.situation v) (classify (parts.situation v) v.held e) v e
 
 -- two lawful traces with the same settings and the same events are equal
 abbrev pub IsOneDialogue : Settings → Type 0
-IsOneDialogue o = (t t' : List Step) → Lawful o t → Lawful o t' → map event_in t ≡ map event_in t' → t ≡ t'
+IsOneDialogue o =
+    (t t' : List Step) → Lawful o t → Lawful o t' → map event_in t ≡ map event_in t' → t ≡ t'
 
 -- nothing is written to the interface once it has ended or was lost
 abbrev pub IsSilentToIface : Settings → Type 0
-IsSilentToIface o = (t : List Step) (step : Step) → Lawful o (step ∷ t) → ((state o (step ∷ t)).ends.iface || (state o (step ∷ t)).ends.iface_lost) ≡ true → step.replies ≡ []
+IsSilentToIface o =
+    (t : List Step) (step : Step) → Lawful o (step ∷ t)
+    → ((state o (step ∷ t)).ends.iface || (state o (step ∷ t)).ends.iface_lost) ≡ true
+    → step.replies ≡ []
 
 -- nothing is written to the engine once it has ended or was lost
 abbrev pub IsSilentToEngine : Settings → Type 0
-IsSilentToEngine o = (t : List Step) (step : Step) → Lawful o (step ∷ t) → ((state o (step ∷ t)).ends.engine || (state o (step ∷ t)).ends.engine_lost) ≡ true → step.orders ≡ []
+IsSilentToEngine o =
+    (t : List Step) (step : Step) → Lawful o (step ∷ t)
+    → ((state o (step ∷ t)).ends.engine || (state o (step ∷ t)).ends.engine_lost) ≡ true
+    → step.orders ≡ []
 
--- There is a step of this event with these lines. It extends each lawful trace that the core stood for, and then the core stands for that.
+-- There is a step of this event with these lines. It extends each lawful trace that the core stood
+-- for, and then the core stands for that.
 pub record Extends (old new : CoreParts) (e : Event) (iface engine : List ℕ) : Type 0 where
   pub step : Step
   pub event : step.event ≡ e
   pub iface_is : iface ≡ iface_text step
   pub engine_is : engine ≡ engine_text step
-  pub extends : (o : Settings) (t : List Step) → Lawful o t → Stands o old t → Lawful o (step ∷ t) × Stands o new (step ∷ t)
+  pub extends : (o : Settings) (t : List Step) → Lawful o t → Stands o old t
+      → Lawful o (step ∷ t) × Stands o new (step ∷ t)
 
 -- the text is whole lines, each ended by a line feed
 pub record AreLines (text : List ℕ) : Type 0 where

@@ -1,5 +1,6 @@
 -- Traces: what was heard and written, step by step, the newest step first.
-use Rattle.std.specs.Prelude.{◌≡◌, ℕ, List, [], ◌∷◌, ◌++◌, map, Bool, true, false, ◌||◌, if◌then◌else◌, None}
+use Rattle.std.specs.Prelude.{◌≡◌, ℕ, List, [], ◌∷◌, ◌++◌, map, Bool}
+use Rattle.std.specs.Prelude.{true, false, ◌||◌, if◌then◌else◌, None}
 use Rattle.line_io.specs.Event.{Event}
 use Rattle.cecp_lines.specs.Replies.{Reply}
 use Rattle.uci_lines.specs.Orders.{Order}
@@ -8,11 +9,14 @@ use Rattle.policy_rules.specs.declared.settings.Settings.{Settings}
 use Rattle.policy_rules.specs.Scores.{Score, does_resign, does_accept}
 use Rattle.search_epochs.specs.declared.words.Call.{Call}
 use Rattle.search_epochs.specs.Tickets as dialogues
-use Rattle.search_epochs.specs.Tickets.{Ticketed, DialogueTurn, Word, IsReady, Settled, before_orders, after, is_call_spent, owed, is_due, is_hit, is_move, is_hurry, has_go}
+use Rattle.search_epochs.specs.Tickets.{Ticketed, DialogueTurn, Word, IsReady, Settled}
+use Rattle.search_epochs.specs.Tickets.{before_orders, after, is_call_spent, owed}
+use Rattle.search_epochs.specs.Tickets.{is_due, is_hit, is_move, is_hurry, has_go}
 use Rattle.search_epochs.specs.Dialogue.{forget}
 use Rattle.desk_rules.specs.declared.desk.Desk.{Desk}
 use Rattle.desk_rules.specs.Desk.{Situation, opening_desk, is_gone}
-use Rattle.desk_rules.specs.Steps.{Effect, classify, what_of, begins_epoch, call_after, desk_after, scores_after, is_death}
+use Rattle.desk_rules.specs.Steps.{Effect, classify, what_of, begins_epoch}
+use Rattle.desk_rules.specs.Steps.{call_after, desk_after, scores_after, is_death}
 use Rattle.desk_rules.specs.Orders.{orders_waiting, search_orders, word_of}
 use Rattle.desk_rules.specs.Replies.{replies_of}
 use Rattle.feature_talk.specs.Features.{reply_lines}
@@ -99,7 +103,9 @@ replies s e = replies_of (closed_after s e) (is_move (owed_after s e)) (situatio
 
 -- the desk after an event
 abbrev pub desk_of : State → Event → Desk
-desk_of s e = desk_after (closed_after s e) (is_move (owed_after s e)) (is_hit s.dialogue (turn s e)) (situation s) (effect s e)
+desk_of s e =
+    desk_after (closed_after s e) (is_move (owed_after s e)) (is_hit s.dialogue (turn s e))
+    (situation s) (effect s e)
 
 abbrev pub has_ready : List Word → Bool
 has_ready [] = false
@@ -135,9 +141,12 @@ last_orders gone = if gone then [] else orders.Quit ∷ []
 
 -- The orders of a step after which the session is not closed.
 pub record AreSettled (s : State) (e : Event) (os : List Order) : Type 0 where
-  pub words : Settled (mid s e).engine (mid s e).epoch (owed_after s e) (turn s e).waiting (is_due s.dialogue (turn s e)) (is_hit s.dialogue (turn s e)) (is_hurry (turn s e).what) (map word_of os)
+  pub words : Settled (mid s e).engine (mid s e).epoch (owed_after s e) (turn s e).waiting
+      (is_due s.dialogue (turn s e)) (is_hit s.dialogue (turn s e)) (is_hurry (turn s e).what)
+      (map word_of os)
   -- a batch is all that is held, in order, and then `isready`
-  pub batch : is_due s.dialogue (turn s e) ≡ true → os ≡ orders_waiting (situation s) s.held (effect s e) ++ orders.IsReady ∷ []
+  pub batch : is_due s.dialogue (turn s e) ≡ true
+      → os ≡ orders_waiting (situation s) s.held (effect s e) ++ orders.IsReady ∷ []
   -- a search is for what is owed, in the position and by the clocks after the event
   pub search : has_go (map word_of os) ≡ true → os ≡ search_orders (desk_of s e) (owed_after s e)
 
@@ -146,9 +155,11 @@ pub record IsLawful (s : State) (step : Step) : Type 0 where
   pub may_come : may s.ends step.event ≡ true
   pub replies : step.replies ≡ replies s step.event
   pub opens : is_open step.event ≡ true → step.orders ≡ orders.Uci ∷ []
-  pub closes : s.ends.closed ≡ false → closed_after s step.event ≡ true → step.orders ≡ last_orders (gone_after s step.event)
+  pub closes : s.ends.closed ≡ false → closed_after s step.event ≡ true
+      → step.orders ≡ last_orders (gone_after s step.event)
   pub closed : is_open step.event ≡ false → s.ends.closed ≡ true → step.orders ≡ []
-  pub settled : is_open step.event ≡ false → closed_after s step.event ≡ false → AreSettled s step.event step.orders
+  pub settled : is_open step.event ≡ false → closed_after s step.event ≡ false
+      → AreSettled s step.event step.orders
 
 abbrev pub Lawful : Settings → List Step → Type 0
 Lawful o [] = Unit {0}

@@ -6,7 +6,8 @@ use Rattle.host_run.specs.Outside.{Outside}
 use Rattle.bridge_words.specs.Words.{AreAsked, values_found}
 use Rattle.bridge_runner.specs.Program.{RunsWhole}
 
--- these bytes are the script of a whole run with the settings that the words ask for, whose engine says those
+-- these bytes are the script of a whole run with the settings that the words ask
+-- for, whose engine says those
 pub record IsScript (words : List Text) (engine log : List ℕ) : Type 0 where
   pub before : Outside
   pub after : Outside

@@ -39,7 +39,7 @@ impl<'a> Sayings<'a> {
 }
 
 // How often the count is looked at before a wait is in vain: few enough for the time of a test.
-const LOOKS: u64 = 100_000_000;
+const LOOKS: u64 = 1_000_000_000;
 
 // Whether the sink took so many lines before the last look.
 fn has_come(lines: &AtomicU64, wanted: u64) -> bool {

@@ -18,7 +18,10 @@ arg_rule =
     }
 
 abbrev pub bare : App
-bare = on_top (λ s. record s { no_binary_name = true; disable_help_flag = true; disable_version_flag = true }) (new_app (codes "bridge"))
+bare =
+    on_top (λ s.
+    record s { no_binary_name = true; disable_help_flag = true; disable_version_flag = true })
+    (new_app (codes "bridge"))
 
 abbrev pub with_all_options : App
 with_all_options = with_rule (with_policy_rules bare) (log_file_rule (codes "adapter.log"))

@@ -1,5 +1,6 @@
 -- What an order or a line of the engine does to a driver.
-use Rattle.std.specs.Prelude.{ℕ, ℤ, ◌≡◌, ◌+◌, ◌≤◌, nat_le, Bool, true, false, ◌&&◌, if◌then◌else◌, List, [], ◌++◌, length, is_some, Option, Some, None, IfSome}
+use Rattle.std.specs.Prelude.{ℕ, ℤ, ◌≡◌, ◌+◌, ◌≤◌, nat_le, Bool, true, false, ◌&&◌, if◌then◌else◌}
+use Rattle.std.specs.Prelude.{List, [], ◌++◌, length, is_some, Option, Some, None, IfSome}
 use Rattle.std.specs.Option.{unwrap_or}
 use Rattle.line_io.specs.Out.{Text, empty, with}
 use Rattle.peer_words.specs.Tokens.{tokens, first_token}
@@ -35,11 +36,21 @@ use Rattle.cecp_driver.specs.declared.deeds.TheConstants.{STEP}
 use Rattle.cecp_driver.specs.SetUp.{ToldGame, none_told}
 use Rattle.cecp_driver.specs.Features.{has_all, name_all, answers, greetings}
 use Rattle.cecp_driver.specs.Ordered.{ordered_in}
-use Rattle.cecp_driver.specs.Deeds.{up_text, CanSay, down_lines, FitsDown, down_told, board_told, CanPush}
+use Rattle.cecp_driver.specs.Deeds.{up_text, CanSay, down_lines, FitsDown}
+use Rattle.cecp_driver.specs.Deeds.{down_told, board_told, CanPush}
 
 -- nothing was given yet
 abbrev pub driver_without_lines : DriverParts → DriverParts
-driver_without_lines v = record { talk = v.talk; has = v.has; name = v.name; is_ordered = v.is_ordered; game = v.game; told = v.told; up = empty v.up.room; down = empty v.down.room }
+driver_without_lines v = record {
+  talk = v.talk;
+  has = v.has;
+  name = v.name;
+  is_ordered = v.is_ordered;
+  game = v.game;
+  told = v.told;
+  up = empty v.up.room;
+  down = empty v.down.room;
+}
 
 -- A turn: its lines are given, and what the engine was given is kept.
 abbrev pub driver_after_turn : DriverParts → DriverTurn → DriverParts
@@ -72,10 +83,13 @@ CanAct v call = CanTake v (turn_of v.talk call)
 
 -- A position is ordered, of a game that is not too long, and the engine has the features.
 abbrev pub is_usable : DriverParts → Bool
-is_usable v = (v.is_ordered && nat_le (length v.game.moves) MOST_PLIES) && (v.has.ping && v.has.setboard)
+is_usable v =
+    (v.is_ordered && nat_le (length v.game.moves) MOST_PLIES) && (v.has.ping && v.has.setboard)
 
 abbrev pub reach_of : DriverParts → Reach
-reach_of v = if is_usable v then (if v.has.analyze then reaches.Analyse else reaches.Play) else reaches.Nothing
+reach_of v =
+    if is_usable v then (if v.has.analyze then reaches.Analyse else reaches.Play)
+    else reaches.Nothing
 
 -- what a `go` asks for
 pub record Wants (v : DriverParts) (line : List ℕ) (w : WantedSearch) : Type 0 where
@@ -88,7 +102,16 @@ pub record Wants (v : DriverParts) (line : List ℕ) (w : WantedSearch) : Type 0
 abbrev pub driver_after_position : DriverParts → List ℕ → DriverParts
 driver_after_position v line =
     if is_free v.talk
-    then record { talk = v.talk; has = v.has; name = v.name; is_ordered = is_some (ordered_in line); game = unwrap_or (ordered_in line) (game_from start_position); told = v.told; up = v.up; down = v.down }
+    then record {
+      talk = v.talk;
+      has = v.has;
+      name = v.name;
+      is_ordered = is_some (ordered_in line);
+      game = unwrap_or (ordered_in line) (game_from start_position);
+      told = v.told;
+      up = v.up;
+      down = v.down;
+    }
     else v
 
 abbrev pub placed_if : OrderWord → DriverParts → List ℕ → DriverParts
@@ -110,14 +133,18 @@ IsAsked v line orders.Other call = call ≡ calls.Other
 
 abbrev pub thought_call : ℕ → ℤ → ℕ → ℕ → Option Move → DriverCall
 thought_call depth score time nodes None = calls.Other
-thought_call depth score time nodes (Some best) = calls.Thought (record { depth = depth; score = score; time = time; nodes = nodes; best = best })
+thought_call depth score time nodes (Some best) =
+    calls.Thought (record { depth = depth; score = score; time = time; nodes = nodes; best = best })
 
 -- what the engine says, besides its features: its moves are those of the ordered position
 abbrev pub IsHeard : DriverParts → Says → DriverCall → Type 0
-IsHeard v (SaysMove text) call = (shown : Option Move) × (IsShown (now_of v.game) text shown × (call ≡ calls.Moved shown))
+IsHeard v (SaysMove text) call =
+    (shown : Option Move) × (IsShown (now_of v.game) text shown × (call ≡ calls.Moved shown))
 IsHeard v Over call = call ≡ calls.Resigned
 IsHeard v (Pong n) call = call ≡ calls.Pong n
-IsHeard v (Report depth score time nodes moves) call = (best : Option Move) × (IsThought (now_of v.game) moves best × (call ≡ thought_call depth score time nodes best))
+IsHeard v (Report depth score time nodes moves) call =
+    (best : Option Move)
+    × (IsThought (now_of v.game) moves best × (call ≡ thought_call depth score time nodes best))
 IsHeard v (Feature text) call = call ≡ calls.Other
 IsHeard v says.Other call = call ≡ calls.Other
 
@@ -141,7 +168,13 @@ driver_after_features v text = features_at v.talk.stage v text
 -- CALLS
 
 abbrev pub no_features : HasFeatures
-no_features = record { ping = false; setboard = false; usermove = false; analyze = false; done = false }
+no_features = record {
+  ping = false;
+  setboard = false;
+  usermove = false;
+  analyze = false;
+  done = false;
+}
 
 abbrev pub opening : DriverParts
 opening = record {

@@ -1,5 +1,6 @@
 -- The game of the engine, as the lines that are written to it and its own moves make it.
-use Rattle.std.specs.Prelude.{◌≡◌, ◌⊎◌, ℕ, ◌<◌, List, [], ◌∷◌, length, Bool, true, false, Option, Some, None, IfSome}
+use Rattle.std.specs.Prelude.{◌≡◌, ◌⊎◌, ℕ, ◌<◌, List, [], ◌∷◌, length, Bool}
+use Rattle.std.specs.Prelude.{true, false, Option, Some, None, IfSome}
 use Rattle.std.specs.List.{AllByRecursion}
 use Rattle.chess_board.specs.declared.board.Move.{Move}
 use Rattle.chess_board.specs.Position.{Position}
@@ -18,7 +19,8 @@ use Rattle.cecp_driver.specs.Driver.{opening}
 use Rattle.cecp_driver.specs.Said.{CanBeSaid}
 use Rattle.cecp_driver.specs.Script.{Goes}
 
--- what a line does to the game of an engine: `new`, `setboard` and moves set it, and nothing else does
+-- what a line does to the game of an engine: `new`, `setboard` and moves set
+-- it, and nothing else does
 abbrev pub set_by : Game → DownLine → Game
 set_by g New = game_from start_position
 set_by g (SetBoard p) = game_from p
@@ -58,7 +60,8 @@ abbrev pub has_quit : DriverStage → Bool
 has_quit stages.Over = true
 has_quit stage = false
 
--- `quit` is written alone, if the interface gives it, and nothing after it: by whether it was given before, and now
+-- `quit` is written alone, if the interface gives it, and nothing after it: by whether it
+-- was given before, and now
 abbrev pub QuitIsLast : Bool → Bool → List DownLine → Type 0
 QuitIsLast true now lines = (lines ≡ []) × (now ≡ true)
 QuitIsLast false true lines = (lines ≡ []) ⊎ (lines ≡ Quit ∷ [])
@@ -96,8 +99,11 @@ pub record Sets (event : Event) (v v' : DriverParts) (g g' : Game) : Type 0 wher
 abbrev pub AllOn : DriverParts → Game → List Event → List DriverParts → Type 0
 AllOn v g [] after = Unit {0}
 AllOn v g (event ∷ events) [] = Unit {0}
-AllOn v g (event ∷ events) (v' ∷ later) = (g' : Game) × (Sets event v v' g g' × AllOn v' g' events later)
+AllOn v g (event ∷ events) (v' ∷ later) =
+    (g' : Game) × (Sets event v v' g g' × AllOn v' g' events later)
 
 -- Whatever game the engine had before, it searches on the ordered games alone.
 abbrev pub SearchesTheOrdered : Type 0
-SearchesTheOrdered = (events : List Event) (after : List DriverParts) (g : Game) → Goes opening events after → AllOn opening g events after
+SearchesTheOrdered =
+    (events : List Event) (after : List DriverParts) (g : Game) → Goes opening events after
+    → AllOn opening g events after

@@ -1,5 +1,6 @@
 -- What the features of the engine change, and what is written to both sides for them.
-use Rattle.std.specs.Prelude.{ℕ, Bool, ◌&&◌, ◌||◌, not, if◌then◌else◌, List, [], ◌∷◌, ◌++◌, ◌+◌, length, codes, Option, Some, None}
+use Rattle.std.specs.Prelude.{ℕ, Bool, ◌&&◌, ◌||◌, not, if◌then◌else◌, List, []}
+use Rattle.std.specs.Prelude.{◌∷◌, ◌++◌, ◌+◌, length, codes, Option, Some, None}
 use Rattle.std.specs.Str.{bytes_eq}
 use Rattle.driver_lines.specs.Parts.{Feature, CutFeature}
 use Rattle.driver_lines.specs.Lines.{DownLine, Accepted, Rejected, name_or_usual}
@@ -15,7 +16,10 @@ is_on name f = bytes_eq f.name name && bytes_eq f.value (codes "1")
 
 -- `san=1`, `option`, `memory`, `smp` and `egt` are rejected
 abbrev pub rejects : Feature → Bool
-rejects f = (((is_on (codes "san") f || has_word (codes "option") f) || has_word (codes "memory") f) || has_word (codes "smp") f) || has_word (codes "egt") f
+rejects f =
+    (((is_on (codes "san") f || has_word (codes "option") f) || has_word (codes "memory") f)
+    || has_word (codes "smp") f)
+    || has_word (codes "egt") f
 
 abbrev pub answer_line : Feature → DownLine
 answer_line f = if rejects f then Rejected f.name else Accepted f.name
@@ -52,7 +56,11 @@ greets h f = not h.done && is_on (codes "done") f
 
 -- then the interface gets the name and `uciok`
 abbrev pub greeting : HasFeatures → List ℕ → Feature → List ℕ
-greeting h name f = if greets h f then (codes "id name " ++ name_or_usual name ++ line_feed ∷ []) ++ (codes "uciok" ++ line_feed ∷ []) else []
+greeting h name f =
+    if greets h f
+    then (codes "id name " ++ name_or_usual name ++ line_feed ∷ [])
+    ++ (codes "uciok" ++ line_feed ∷ [])
+    else []
 
 abbrev pub greetings : HasFeatures → List ℕ → List Feature → List ℕ
 greetings h name [] = []

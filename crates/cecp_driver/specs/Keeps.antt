@@ -24,7 +24,9 @@ TellsGame phase game told = Unit {0}
 -- the best move of an open search is legal in the ordered position, whose game is not too long
 abbrev pub Serves : Option OpenSearch → Game → ToldGame → Type 0
 Serves None game told = Unit {0}
-Serves (Some s) game told = (legal (now_of game) s.kept ≡ true) × (length game.moves ≤ MOST_PLIES) × TellsGame s.phase game told
+Serves (Some s) game told =
+    (legal (now_of game) s.kept ≡ true) × (length game.moves ≤ MOST_PLIES)
+    × TellsGame s.phase game told
 
 pub record Keeps (v : DriverParts) : Type 0 where
   pub serves : Serves v.talk.search v.game v.told

@@ -1,5 +1,6 @@
 -- What holds of every run of a driver, event by event.
-use Rattle.std.specs.Prelude.{◌≡◌, ◌⊎◌, ℕ, ◌+◌, ◌≤◌, List, [], ◌∷◌, ◌++◌, length, codes, Bool, true, false, ◌&&◌, if◌then◌else◌, Option, Some, None}
+use Rattle.std.specs.Prelude.{◌≡◌, ◌⊎◌, ℕ, ◌+◌, ◌≤◌, List, [], ◌∷◌, ◌++◌, length, codes}
+use Rattle.std.specs.Prelude.{Bool, true, false, ◌&&◌, if◌then◌else◌, Option, Some, None}
 use Rattle.std.specs.List.{AllByRecursion}
 use Rattle.line_io.specs.Event.{Event, Iface, Engine, EngineEnd, has_feed}
 use Rattle.line_io.specs.Lines.{line_feed}
@@ -122,9 +123,10 @@ IsIgnored event v v' = Unit {0}
 
 -- RUNS
 
--- What was given for an event, if so many `go` were accepted and so many `bestmove` were given before it, and this game was
--- ordered at the last `go`.
-pub record Given (event : Event) (v v' : DriverParts) (asked : Option Game) (gos answers : ℕ) : Type 0 where
+-- What was given for an event, if so many `go` were accepted and so many `bestmove` were given
+-- before it, and this game was ordered at the last `go`.
+pub record Given (event : Event) (v v' : DriverParts) (asked : Option Game)
+    (gos answers : ℕ) : Type 0 where
   pub lines : List UpLine
   pub written : v'.up.text ≡ up_lines_text lines
   pub one_line : AllByRecursion IsOneLine lines
@@ -145,10 +147,12 @@ AllGiven v asked gos answers [] after = Unit {0}
 AllGiven v asked gos answers (event ∷ events) [] = Unit {0}
 AllGiven v asked gos answers (event ∷ events) (v' ∷ later) =
     (given : Given event v v' asked gos answers)
-    × AllGiven v' (game_asked event v asked) (gos + one_if (accepts_go event v)) (answers + answer_count given.lines) events later
+    × AllGiven v' (game_asked event v asked) (gos + one_if (accepts_go event v))
+    (answers + answer_count given.lines) events later
 
--- A driver that was made takes these events, and is so after each: what it gives to the interface, and that it has the engine
--- search the ordered games alone, whatever game the engine had before; and while a search is open, the engine has something to do.
+-- A driver that was made takes these events, and is so after each: what it gives to the interface,
+-- and that it has the engine search the ordered games alone, whatever game the engine had before;
+-- and while a search is open, the engine has something to do.
 pub record IsSound (events : List Event) (after : List DriverParts) : Type 0 where
   pub given : AllGiven opening None 0 0 events after
   pub searches : (g : Game) → AllOn opening g events after
@@ -156,7 +160,9 @@ pub record IsSound (events : List Event) (after : List DriverParts) : Type 0 whe
 
 -- Every run is so.
 abbrev pub RunsAreSound : Type 0
-RunsAreSound = (events : List Event) (after : List DriverParts) → Goes opening events after → IsSound events after
+RunsAreSound =
+    (events : List Event) (after : List DriverParts) → Goes opening events after
+    → IsSound events after
 
 -- SCRIPTS
 

@@ -6,7 +6,8 @@ use Rattle.chess_board.specs.Text.{IsOfficer}
 use Rattle.game_record.specs.Game.{Ply, ply_of}
 use Rattle.line_io.specs.Event.{has_feed}
 use Rattle.peer_words.specs.Tokens.{is_token}
-use Rattle.driver_lines.specs.Lines.{DownLine, SetBoard, Played, St, Level, Time, Otim, Sd, Ping, Accepted, Rejected}
+use Rattle.driver_lines.specs.Lines.{DownLine, SetBoard, Played, St, Level}
+use Rattle.driver_lines.specs.Lines.{Time, Otim, Sd, Ping, Accepted, Rejected}
 use Rattle.cecp_driver.specs.declared.driver.TheConstants.{LINE_LIMIT}
 
 -- a move of squares and officers
@@ -24,7 +25,8 @@ abbrev pub CanBeSaid : DownLine → Type 0
 CanBeSaid (SetBoard p) = IsPosition p
 CanBeSaid (Played has_usermove m) = IsMove m
 CanBeSaid (St seconds) = seconds < 10 ^ 6
-CanBeSaid (Level moves seconds increment) = (moves < 10 ^ 4) × (seconds < 60 * 10 ^ 4) × (increment < 10 ^ 6)
+CanBeSaid (Level moves seconds increment) =
+    (moves < 10 ^ 4) × (seconds < 60 * 10 ^ 4) × (increment < 10 ^ 6)
 CanBeSaid (Time centis) = centis < 10 ^ 9
 CanBeSaid (Otim centis) = centis < 10 ^ 9
 CanBeSaid (Sd plies) = plies < 10 ^ 9

@@ -1,5 +1,6 @@
 -- The events of a script, what comes of each, and what is written for them.
-use Rattle.std.specs.Prelude.{◌≡◌, ℕ, ◌≤◌, List, [], ◌∷◌, ◌++◌, length, map, codes, Bool, true, false, not}
+use Rattle.std.specs.Prelude.{◌≡◌, ℕ, ◌≤◌, List, [], ◌∷◌, ◌++◌, length}
+use Rattle.std.specs.Prelude.{map, codes, Bool, true, false, not}
 use Rattle.std.specs.List.{flat_map}
 use Rattle.line_io.specs.Event.{Event, Iface, IfaceEnd, Engine, EngineEnd, has_feed}
 use Rattle.line_io.specs.Lines.{parts}
@@ -9,7 +10,8 @@ use Rattle.cecp_driver.specs.declared.driver.DriverParts.{DriverParts}
 use Rattle.cecp_driver.specs.declared.driver.TheConstants.{LINE_LIMIT}
 use Rattle.cecp_driver.specs.Driver.{Orders, Hears, Ends}
 
--- The events that may come: lines of both sides and their ends, but nothing of the engine behind its end.
+-- The events that may come: lines of both sides and their ends, but nothing of
+-- the engine behind its end.
 abbrev pub may_come : DriverParts → Event → Bool
 may_come v (Iface line) = true
 may_come v IfaceEnd = true
@@ -63,7 +65,8 @@ script_text (event ∷ events) (v' ∷ later) = given_marks event v' ++ script_t
 
 -- the same as marks: the event, and each line that was given for it
 abbrev pub marks_given : Event → DriverParts → List Mark
-marks_given event v' = Happens event ∷ (map ToIface (parts v'.up.text) ++ map ToEngine (parts v'.down.text))
+marks_given event v' =
+    Happens event ∷ (map ToIface (parts v'.up.text) ++ map ToEngine (parts v'.down.text))
 
 abbrev pub script_marks : List Event → List DriverParts → List Mark
 script_marks [] after = []

@@ -1,5 +1,7 @@
 -- The reply that a line spells, as a function.
-use Rattle.std.specs.Prelude.{ℕ, ℤ, pos, neg_ℤ, ◌+◌, ◌^◌, List, [], ◌∷◌, length, take, drop, position, slice_index, codes, Bool, true, not, ◌&&◌, ◌||◌, ◌==◌, if◌then◌else◌, nat_lt, nat_le, is_some, Option, Some, None}
+use Rattle.std.specs.Prelude.{ℕ, ℤ, pos, neg_ℤ, ◌+◌, ◌^◌, List, [], ◌∷◌, length, take, drop}
+use Rattle.std.specs.Prelude.{position, slice_index, codes, Bool, true, not, ◌&&◌, ◌||◌, ◌==◌}
+use Rattle.std.specs.Prelude.{if◌then◌else◌, nat_lt, nat_le, is_some, Option, Some, None}
 use Rattle.std.specs.Option.{option_map, option_and_then}
 use Rattle.std.specs.List.{list_all, slice_split}
 use Rattle.std.specs.Str.{bytes_eq}
@@ -32,7 +34,9 @@ rest_after_front (f ∷ fs) (b ∷ bs) = if f == b then rest_after_front fs bs e
 
 -- up to 20 digits without a leading zero
 abbrev pub is_plain : List ℕ → Bool
-is_plain text = nat_lt 0 (length text) && (not (slice_index text 0 == digit_zero) || length text == 1) && nat_le (length text) 20 && list_all is_ascii_digit text
+is_plain text =
+    nat_lt 0 (length text) && (not (slice_index text 0 == digit_zero) || length text == 1)
+    && nat_le (length text) 20 && list_all is_ascii_digit text
 
 abbrev pub plain : List ℕ → Option ℕ
 plain text = if is_plain text then Some (digits_value 10 text) else None
@@ -53,7 +57,9 @@ negative_score None = None
 negative_score (Some n) = if nat_le 1 n && nat_le n (2 ^ 63) then Some (neg_ℤ (pos n)) else None
 
 abbrev pub written_signed : List ℕ → Option ℤ
-written_signed text = if starts_with_minus text then negative_score (number_in_64_bits (drop 1 text)) else positive_score (number_in_64_bits text)
+written_signed text =
+    if starts_with_minus text then negative_score (number_in_64_bits (drop 1 text))
+    else positive_score (number_in_64_bits text)
 
 abbrev pub same_text : List ℕ → AnyMove → Option AnyMove
 same_text text m = if bytes_eq (text_of m) text then Some m else None
@@ -87,7 +93,8 @@ abbrev pub with_rest : {A : Type 0} → Option A → List ℕ → Option (A × L
 with_rest None others = None
 with_rest (Some x) others = Some (x, others)
 
-abbrev pub field_of : {A : Type 0} → (List ℕ → Option A) → Option (List ℕ × List ℕ) → Option (A × List ℕ)
+abbrev pub field_of : {A : Type 0} → (List ℕ → Option A) → Option (List ℕ × List ℕ)
+    → Option (A × List ℕ)
 field_of read None = None
 field_of read (Some parts) = with_rest (read parts.0) parts.1
 
@@ -117,10 +124,13 @@ fixed_of line = lookup (bytes_eq line) fixed_lines
 
 abbrev pub reason_words : List (List ℕ × Reason)
 reason_words =
-    (codes "unknown command", reasons.UnknownCommand) ∷ (codes "bad argument", reasons.BadArgument) ∷ (codes "engine ended", reasons.EngineEnded)
-    ∷ (codes "not analyzing", reasons.NotAnalyzing) ∷ (codes "no move to undo", reasons.NoMoveToUndo) ∷ (codes "unknown option", reasons.UnknownOption)
-    ∷ (codes "bad value", reasons.BadValue) ∷ (codes "too many settings", reasons.TooManySettings) ∷ (codes "too many pings", reasons.TooManyPings)
-    ∷ (codes "line too long", reasons.LineTooLong) ∷ []
+    (codes "unknown command", reasons.UnknownCommand) ∷ (codes "bad argument", reasons.BadArgument)
+    ∷ (codes "engine ended", reasons.EngineEnded) ∷ (codes "not analyzing", reasons.NotAnalyzing)
+    ∷ (codes "no move to undo", reasons.NoMoveToUndo)
+    ∷ (codes "unknown option", reasons.UnknownOption) ∷ (codes "bad value", reasons.BadValue)
+    ∷ (codes "too many settings", reasons.TooManySettings)
+    ∷ (codes "too many pings", reasons.TooManyPings) ∷ (codes "line too long", reasons.LineTooLong)
+    ∷ []
 
 abbrev pub reason_of : List ℕ → Option Reason
 reason_of words = lookup (bytes_eq words) reason_words
@@ -142,7 +152,8 @@ is_repeated reasons.LineTooLong line = bytes_eq line (codes "...")
 is_repeated _ line = bytes_eq (trimmed line) line
 
 abbrev pub error_of : Option Reason → Option (List ℕ) → Option Reply
-error_of (Some reason) (Some line) = if is_repeated reason line then Some (told.Error reason line) else None
+error_of (Some reason) (Some line) =
+    if is_repeated reason line then Some (told.Error reason line) else None
 error_of (Some reason) None = None
 error_of None line = None
 
@@ -151,7 +162,8 @@ is_paren b = b == right_parenthesis
 
 abbrev pub error_at : Option ℕ → List ℕ → Option Reply
 error_at None text = None
-error_at (Some at) text = error_of (reason_of (take at text)) (rest_after_front (codes "): ") (drop at text))
+error_at (Some at) text =
+    error_of (reason_of (take at text)) (rest_after_front (codes "): ") (drop at text))
 
 abbrev pub error_in : List ℕ → Option Reply
 error_in text = error_at (position is_paren text) text
@@ -165,21 +177,25 @@ pong_in text = option_and_then short_pong (number_in_64_bits text)
 -- the last number and the current move of a `stat01` line
 abbrev pub last_at : Option ℕ → List ℕ → Option (ℕ × Option AnyMove)
 last_at None text = option_map (λ n. (n, None)) (number_in_64_bits text)
-last_at (Some at) text = option_and_then (λ n. option_map (λ m. (n, Some m)) (written_move (drop (at + 1) text))) (number_in_64_bits (take at text))
+last_at (Some at) text =
+    option_and_then (λ n. option_map (λ m. (n, Some m)) (written_move (drop (at + 1) text)))
+    (number_in_64_bits (take at text))
 
 abbrev pub last_in : List ℕ → Option (ℕ × Option AnyMove)
 last_in text = last_at (position is_space text) text
 
 abbrev pub stat01_in : List ℕ → Option Reply
 stat01_in text =
-    option_and_then (λ time. option_and_then (λ nodes. option_and_then (λ depth. option_and_then (λ left.
+    option_and_then (λ time. option_and_then (λ nodes.
+    option_and_then (λ depth. option_and_then (λ left.
     option_map (λ last. told.Stat01 time.0 nodes.0 depth.0 left.0 last.0 last.1) (last_in left.1))
     (number_field depth.1)) (number_field nodes.1)) (number_field time.1)) (number_field text)
 
 -- a hint in parentheses before a blank, if the text begins with one
 abbrev pub hint_at : Option ℕ → List ℕ → Option (Option (List ℕ) × List ℕ)
 hint_at None text = None
-hint_at (Some at) text = option_map (λ pv. (Some (take at text), pv)) (rest_after_front (codes ") ") (drop at text))
+hint_at (Some at) text =
+    option_map (λ pv. (Some (take at text), pv)) (rest_after_front (codes ") ") (drop at text))
 
 abbrev pub hint_of : Option (List ℕ) → List ℕ → Option (Option (List ℕ) × List ℕ)
 hint_of None text = Some (None, text)
@@ -204,11 +220,13 @@ spelling_of hint pv =
 
 abbrev pub thinking_of : ℕ → ℤ → ℕ → ℕ → Option (List ℕ) × List ℕ → Option Reply
 thinking_of depth score time nodes end =
-    option_map (λ spelling. told.Thinking depth score time nodes spelling end.0 end.1) (spelling_of end.0 end.1)
+    option_map (λ spelling. told.Thinking depth score time nodes spelling end.0 end.1)
+    (spelling_of end.0 end.1)
 
 abbrev pub thinking_in : List ℕ → Option Reply
 thinking_in text =
-    option_and_then (λ depth. option_and_then (λ score. option_and_then (λ time. option_and_then (λ nodes.
+    option_and_then (λ depth. option_and_then (λ score.
+    option_and_then (λ time. option_and_then (λ nodes.
     option_and_then (thinking_of depth.0 score.0 time.0 nodes.0) (hint_in nodes.1))
     (number_field time.1)) (number_field score.1)) (score_field depth.1)) (number_field text)
 
@@ -225,7 +243,8 @@ with_front line =
     behind (rest_after_front (codes "feature ") line) feature_in
     (behind (rest_after_front (codes "move ") line) (of_move (λ m. told.Move m))
     (behind (rest_after_front (codes "Illegal move: ") line) (of_move (λ m. told.Illegal m))
-    (behind (rest_after_front (codes "Illegal move (game too long): ") line) (of_move (λ m. told.IllegalLong m))
+    (behind (rest_after_front (codes "Illegal move (game too long): ") line)
+    (of_move (λ m. told.IllegalLong m))
     (behind (rest_after_front (codes "Error (") line) error_in
     (behind (rest_after_front (codes "pong ") line) pong_in
     (behind (rest_after_front (codes "Hint: ") line) (of_move (λ m. told.Hint m))

@@ -1,5 +1,6 @@
 -- The canonical spelling of each message: one blank between parts.
-use Rattle.std.specs.Prelude.{ℕ, ◌+◌, ◌/◌, ◌%◌, List, [], ◌∷◌, ◌++◌, codes, decimal, if◌then◌else◌, ◌==◌, Option, Some, None}
+use Rattle.std.specs.Prelude.{ℕ, ◌+◌, ◌/◌, ◌%◌, List, [], ◌∷◌, ◌++◌, codes}
+use Rattle.std.specs.Prelude.{decimal, if◌then◌else◌, ◌==◌, Option, Some, None}
 use Rattle.std.specs.Fmt.{signed_decimal}
 use Rattle.chess_board.specs.Text.{text_of}
 use Rattle.peer_words.specs.Numbers.{seconds_text}
@@ -20,7 +21,9 @@ two_digits n = (digit_zero + n / 10) ∷ (digit_zero + n % 10) ∷ []
 
 -- minutes, and a colon and seconds if there are some
 abbrev pub base_text : ℕ → List ℕ
-base_text ms = if ms / SECOND % 60 == 0 then decimal (ms / MINUTE) else decimal (ms / MINUTE) ++ (colon ∷ two_digits (ms / SECOND % 60))
+base_text ms =
+    if ms / SECOND % 60 == 0 then decimal (ms / MINUTE)
+    else decimal (ms / MINUTE) ++ (colon ∷ two_digits (ms / SECOND % 60))
 
 abbrev pub value_text : Option (List ℕ) → List ℕ
 value_text None = []
@@ -55,7 +58,9 @@ message_text (says.Protover n) = codes "protover " ++ decimal n
 message_text (says.Ping n) = codes "ping " ++ decimal n
 message_text (says.UserMove m) = codes "usermove " ++ text_of m
 message_text (says.SetBoard text) = codes "setboard" ++ after_blank text
-message_text (says.Level mps base_ms inc_ms) = codes "level " ++ decimal mps ++ codes " " ++ base_text base_ms ++ codes " " ++ seconds_text inc_ms
+message_text (says.Level mps base_ms inc_ms) =
+    codes "level " ++ decimal mps ++ codes " " ++ base_text base_ms ++ codes " "
+    ++ seconds_text inc_ms
 message_text (says.St ms) = codes "st " ++ seconds_text ms
 message_text (says.Sd n) = codes "sd " ++ decimal n
 message_text (says.Time n) = codes "time " ++ signed_decimal n

@@ -1,5 +1,7 @@
 -- The message that a line of the interface spells: as a function, and as a relation.
-use Rattle.std.specs.Prelude.{◌≡◌, ℕ, ◌+◌, ◌*◌, ◌<◌, ◌≤◌, ◌⊎◌, ◌≢◌, codes, true, List, [], ◌∷◌, length, take, drop, position, Bool, if◌then◌else◌, ◌==◌, nat_le, Option, Some, None, Result, Ok, Err}
+use Rattle.std.specs.Prelude.{◌≡◌, ℕ, ◌+◌, ◌*◌, ◌<◌, ◌≤◌, ◌⊎◌, ◌≢◌, codes, true, List}
+use Rattle.std.specs.Prelude.{[], ◌∷◌, length, take, drop, position, Bool, if◌then◌else◌}
+use Rattle.std.specs.Prelude.{◌==◌, nat_le, Option, Some, None, Result, Ok, Err}
 use Rattle.std.specs.Option.{option_map, option_and_then, ok_or}
 use Rattle.std.specs.Str.{bytes_eq}
 use Rattle.chess_board.specs.declared.board.Move.{Move}
@@ -48,7 +50,8 @@ abbrev pub base_at : Option ℕ → List ℕ → Option ℕ
 base_at None text = option_map (λ m. m * MINUTE) (digits 4 text)
 base_at (Some at) text = minutes_seconds (digits 4 (take at text)) (digits 2 (drop (at + 1) text))
 
--- 1 to 4 digits, and perhaps a colon and 1 or 2 digits more: minutes and seconds, as a number of milliseconds
+-- 1 to 4 digits, and perhaps a colon and 1 or 2 digits more: minutes and seconds, as
+-- a number of milliseconds
 abbrev pub base_time : List ℕ → Option ℕ
 base_time text = base_at (position is_colon text) text
 
@@ -59,7 +62,9 @@ level_of (Some mps) None inc_ms = None
 level_of None base_ms inc_ms = None
 
 abbrev pub level : List ℕ → Option IfaceMsg
-level text = level_of (digits 4 (first_token text)) (base_time (first_token (rest text))) (option_and_then seconds (only_token (rest (rest text))))
+level text =
+    level_of (digits 4 (first_token text)) (base_time (first_token (rest text)))
+    (option_and_then seconds (only_token (rest (rest text))))
 
 abbrev pub is_equals : ℕ → Bool
 is_equals b = b == equals
@@ -77,10 +82,12 @@ abbrev pub setting_of : List ℕ → Option (List ℕ) → Option IfaceMsg
 setting_of name value = if is_empty name then None else Some (says.SetOption name value)
 
 abbrev pub setting : List ℕ → Option IfaceMsg
-setting text = setting_of (name_at (position is_equals text) text) (value_at (position is_equals text) text)
+setting text =
+    setting_of (name_at (position is_equals text) text) (value_at (position is_equals text) text)
 
 abbrev pub egt_path : List ℕ → Option IfaceMsg
-egt_path text = if is_empty (rest text) then None else Some (says.EgtPath (first_token text) (rest text))
+egt_path text =
+    if is_empty (rest text) then None else Some (says.EgtPath (first_token text) (rest text))
 
 -- the message of a command without arguments
 abbrev pub bare_message : BareWord → IfaceMsg
@@ -107,7 +114,8 @@ bare_message bare.Result = says.Result
 abbrev pub argument : Verb → List ℕ → Option IfaceMsg
 argument verbs.Protover text = protover text
 argument verbs.Ping text = option_map (λ n. says.Ping n) (option_and_then number (only_token text))
-argument verbs.UserMove text = option_map (λ m. says.UserMove m) (option_and_then move_of (only_token text))
+argument verbs.UserMove text =
+    option_map (λ m. says.UserMove m) (option_and_then move_of (only_token text))
 argument verbs.SetBoard text = Some (says.SetBoard text)
 argument verbs.Level text = level text
 argument verbs.St text = option_map (λ ms. says.St ms) (option_and_then seconds (only_token text))
@@ -115,8 +123,10 @@ argument verbs.Sd text = option_map (λ n. says.Sd n) (option_and_then number (o
 argument verbs.Time text = option_map (λ n. says.Time n) (option_and_then centis (only_token text))
 argument verbs.Otim text = option_map (λ n. says.Otim n) (option_and_then centis (only_token text))
 argument verbs.SetOption text = setting text
-argument verbs.Memory text = option_map (λ n. says.Memory n) (option_and_then number (only_token text))
-argument verbs.Cores text = option_map (λ n. says.Cores n) (option_and_then number (only_token text))
+argument verbs.Memory text =
+    option_map (λ n. says.Memory n) (option_and_then number (only_token text))
+argument verbs.Cores text =
+    option_map (λ n. says.Cores n) (option_and_then number (only_token text))
 argument verbs.EgtPath text = egt_path text
 
 abbrev pub move_or_unknown : Option Move → Result IfaceMsg IfaceFault
@@ -148,12 +158,14 @@ Begins line word = first_token line ≡ word
 
 -- the line is the word and one argument of this value
 abbrev pub HasArgument : {A : Type 0} → List ℕ → List ℕ → (List ℕ → Option A) → A → Type 0
-HasArgument line word read value = (t : List ℕ) × (tokens line ≡ word ∷ t ∷ []) × (read t ≡ Some value)
+HasArgument line word read value =
+    (t : List ℕ) × (tokens line ≡ word ∷ t ∷ []) × (read t ≡ Some value)
 
 -- `level` with moves a session, base time and increment
 abbrev pub HasLevel : List ℕ → ℕ → ℕ → ℕ → Type 0
 HasLevel line mps base_ms inc_ms =
-    (a b c : List ℕ) × (tokens line ≡ codes "level" ∷ a ∷ b ∷ c ∷ []) × (digits 4 a ≡ Some mps) × (base_time b ≡ Some base_ms) × (seconds c ≡ Some inc_ms)
+    (a b c : List ℕ) × (tokens line ≡ codes "level" ∷ a ∷ b ∷ c ∷ []) × (digits 4 a ≡ Some mps)
+    × (base_time b ≡ Some base_ms) × (seconds c ≡ Some inc_ms)
 
 -- the line is a move text alone
 abbrev pub IsMoveAlone : List ℕ → Move → Type 0
@@ -161,11 +173,14 @@ IsMoveAlone line m = (t : List ℕ) × (tokens line ≡ t ∷ []) × MoveSpells 
 
 -- a move text after `usermove`, or alone
 abbrev pub HasMove : List ℕ → Move → Type 0
-HasMove line m = ((t : List ℕ) × (tokens line ≡ codes "usermove" ∷ t ∷ []) × MoveSpells t m) ⊎ IsMoveAlone line m
+HasMove line m =
+    ((t : List ℕ) × (tokens line ≡ codes "usermove" ∷ t ∷ []) × MoveSpells t m) ⊎ IsMoveAlone line m
 
 -- a name that is not empty, and perhaps a value, split at the first `=`
 abbrev pub HasSetting : List ℕ → List ℕ → Option (List ℕ) → Type 0
-HasSetting text name value = (0 < length name) × (name ≡ name_at (position is_equals text) text) × (value ≡ value_at (position is_equals text) text)
+HasSetting text name value =
+    (0 < length name) × (name ≡ name_at (position is_equals text) text)
+    × (value ≡ value_at (position is_equals text) text)
 
 -- A line spells a message.
 abbrev pub Spells : List ℕ → IfaceMsg → Type 0
@@ -198,10 +213,13 @@ Spells line (says.St ms) = HasArgument line (codes "st") seconds ms
 Spells line (says.Sd n) = HasArgument line (codes "sd") number n
 Spells line (says.Time n) = HasArgument line (codes "time") centis n
 Spells line (says.Otim n) = HasArgument line (codes "otim") centis n
-Spells line (says.SetOption name value) = Begins line (codes "option") × HasSetting (rest line) name value
+Spells line (says.SetOption name value) =
+    Begins line (codes "option") × HasSetting (rest line) name value
 Spells line (says.Memory n) = HasArgument line (codes "memory") number n
 Spells line (says.Cores n) = HasArgument line (codes "cores") number n
-Spells line (says.EgtPath kind path) = Begins line (codes "egtpath") × (kind ≡ first_token (rest line)) × (path ≡ rest (rest line)) × (0 < length path)
+Spells line (says.EgtPath kind path) =
+    Begins line (codes "egtpath") × (kind ≡ first_token (rest line)) × (path ≡ rest (rest line))
+    × (0 < length path)
 
 -- the message is one that some line spells
 abbrev pub CanBeRead : IfaceMsg → Type 0
@@ -209,7 +227,9 @@ CanBeRead msg = (line : List ℕ) × Spells line msg
 
 -- The first token is no command word, and the line is not one move text.
 abbrev pub IsUnknown : List ℕ → Type 0
-IsUnknown line = (first_token line ≢ []) × (command_of (first_token line) ≡ None) × ((m : Move) → IsMoveAlone line m → ⊥)
+IsUnknown line =
+    (first_token line ≢ []) × (command_of (first_token line) ≡ None)
+    × ((m : Move) → IsMoveAlone line m → ⊥)
 
 -- every other line that spells nothing
 abbrev pub IsBad : List ℕ → Type 0

@@ -1,5 +1,7 @@
 -- The replies to the interface, whatever memory their bytes lie in, and how they are written.
-use Rattle.std.specs.Prelude.{◌≡◌, ℕ, ℤ, ◌+◌, ◌<◌, ◌≤◌, ◌^◌, List, [], ◌∷◌, ◌++◌, length, map, Bool, true, not, ◌&&◌, ◌||◌, ◌==◌, nat_lt, codes, decimal, Option, Some, None, IfSome}
+use Rattle.std.specs.Prelude.{◌≡◌, ℕ, ℤ, ◌+◌, ◌<◌, ◌≤◌, ◌^◌, List, [], ◌∷◌, ◌++◌}
+use Rattle.std.specs.Prelude.{length, map, Bool, true, not, ◌&&◌, ◌||◌, ◌==◌}
+use Rattle.std.specs.Prelude.{nat_lt, codes, decimal, Option, Some, None, IfSome}
 use Rattle.std.specs.Fmt.{signed_decimal}
 use Rattle.std.specs.Int.RustNames.{FitsSigned}
 use Rattle.std.specs.Option.{option_map}
@@ -33,7 +35,8 @@ pub data Reply : Type 0 where
   Resign : Reply
   Hint : (hint : AnyMove) → Reply
   Result : (outcome : Outcome) → Reply
-  Thinking : (depth : ℕ) (score : ℤ) (time nodes : ℕ) (spelling : Spelling) (hint : Option (List ℕ)) (pv : List ℕ) → Reply
+  Thinking : (depth : ℕ) (score : ℤ) (time nodes : ℕ) (spelling : Spelling) (hint : Option (List ℕ))
+      (pv : List ℕ) → Reply
   Stat01 : (time nodes depth left all : ℕ) (current : Option AnyMove) → Reply
 
 abbrev pub reply_of : CodeReply → Reply
@@ -50,7 +53,8 @@ reply_of (replies.Hint m) = Hint m
 reply_of (replies.Result outcome) = Result outcome
 reply_of (replies.Thinking depth score time nodes spelling hint pv) =
     Thinking depth score time nodes spelling (option_map (λ h. h.now) hint) pv.now
-reply_of (replies.Stat01 time nodes depth left all current) = Stat01 time nodes depth left all current
+reply_of (replies.Stat01 time nodes depth left all current) =
+    Stat01 time nodes depth left all current
 
 abbrev pub reason_text : Reason → List ℕ
 reason_text reasons.UnknownCommand = codes "unknown command"
@@ -104,9 +108,11 @@ reply_text Resign = codes "resign"
 reply_text (Hint m) = codes "Hint: " ++ text_of m
 reply_text (Result outcome) = outcome_text outcome
 reply_text (Thinking depth score time nodes spelling hint pv) =
-    field (decimal depth) ++ field (signed_decimal score) ++ field (decimal time) ++ field (decimal nodes) ++ hint_text hint ++ pv
+    field (decimal depth) ++ field (signed_decimal score) ++ field (decimal time)
+    ++ field (decimal nodes) ++ hint_text hint ++ pv
 reply_text (Stat01 time nodes depth left all current) =
-    codes "stat01: " ++ field (decimal time) ++ field (decimal nodes) ++ field (decimal depth) ++ field (decimal left) ++ decimal all ++ current_text current
+    codes "stat01: " ++ field (decimal time) ++ field (decimal nodes) ++ field (decimal depth)
+    ++ field (decimal left) ++ decimal all ++ current_text current
 
 -- neither empty, nor with white space or `=` in it
 abbrev pub is_name_byte : ℕ → Bool
@@ -149,7 +155,8 @@ IsReply (Illegal m) = IsWritable m
 IsReply (IllegalLong m) = IsWritable m
 IsReply (Error reason line) = IsRepeated reason line
 IsReply (Hint m) = IsWritable m
-IsReply (Thinking depth score time nodes spelling hint pv) = IfSome hint (IsMoveText spelling) × AreMoves spelling pv
+IsReply (Thinking depth score time nodes spelling hint pv) =
+    IfSome hint (IsMoveText spelling) × AreMoves spelling pv
 IsReply (Stat01 time nodes depth left all current) = IfSome current IsWritable
 IsReply _ = Unit {0}
 
@@ -165,8 +172,10 @@ HasWritableMoves _ = Unit {0}
 -- the numbers are those of the fields' types
 abbrev pub Fits : Reply → Type 0
 Fits (Pong n) = n < 2 ^ 32
-Fits (Thinking depth score time nodes spelling hint pv) = (depth < 2 ^ 64) × FitsSigned w64 score × (time < 2 ^ 64) × (nodes < 2 ^ 64)
-Fits (Stat01 time nodes depth left all current) = (time < 2 ^ 64) × (nodes < 2 ^ 64) × (depth < 2 ^ 64) × (left < 2 ^ 64) × (all < 2 ^ 64)
+Fits (Thinking depth score time nodes spelling hint pv) =
+    (depth < 2 ^ 64) × FitsSigned w64 score × (time < 2 ^ 64) × (nodes < 2 ^ 64)
+Fits (Stat01 time nodes depth left all current) =
+    (time < 2 ^ 64) × (nodes < 2 ^ 64) × (depth < 2 ^ 64) × (left < 2 ^ 64) × (all < 2 ^ 64)
 Fits _ = Unit {0}
 
 -- A line is the text of a reply.

@@ -1,12 +1,14 @@
--- Texts of moves in standard algebraic notation, as they are written (PGN standard, 8.2.3), whatever is on a board.
-use Rattle.std.specs.Prelude.{ℕ, List, [], ◌∷◌, Bool, true, false, ◌&&◌, ◌||◌, ◌==◌, nat_le, if◌then◌else◌, codes}
+-- Texts of moves in standard algebraic notation, as they are written (PGN standard,
+-- 8.2.3), whatever is on a board.
+use Rattle.std.specs.Prelude.{ℕ, List, [], ◌∷◌, Bool, true, false, ◌&&◌}
+use Rattle.std.specs.Prelude.{◌||◌, ◌==◌, nat_le, if◌then◌else◌, codes}
 use Rattle.std.specs.List.{list_any}
 
 abbrev pub is_between : ℕ → ℕ → ℕ → Bool
 is_between low high b = nat_le low b && nat_le b high
 
--- What a byte of a form stands for: f for a file, r for a rank, e for the first or the last rank, i for another one, P for
--- Q, R, B or N, and any other byte for itself.
+-- What a byte of a form stands for: f for a file, r for a rank, e for the first or the last rank, i
+-- for another one, P for Q, R, B or N, and any other byte for itself.
 abbrev pub fits : ℕ → ℕ → Bool
 fits form b =
     if form == 102 then is_between 97 104 b
@@ -28,8 +30,9 @@ has_form [] text = is_mark text
 has_form (form ∷ forms) [] = false
 has_form (form ∷ forms) (b ∷ text) = fits form b && has_form forms text
 
--- castling; a pawn's move, with its file if it captures, and with a promotion exactly on its last rank; the king's move; and
--- another man's, with nothing, the file, the rank or both to distinguish it
+-- castling; a pawn's move, with its file if it captures, and with a promotion exactly
+-- on its last rank; the king's move; and another man's, with nothing, the file, the
+-- rank or both to distinguish it
 abbrev pub forms : List (List ℕ)
 forms =
     codes "O-O" ∷ codes "O-O-O"

@@ -1,10 +1,12 @@
 -- What was asked of a host.
-use Rattle.std.specs.Prelude.{◌≡◌, ℕ, zero, suc, List, [], ◌∷◌, ◌++◌, Option, Some, None, option_map, Result, IfErr, OnOk}
+use Rattle.std.specs.Prelude.{◌≡◌, ℕ, zero, suc, List, [], ◌∷◌, ◌++◌, Option}
+use Rattle.std.specs.Prelude.{Some, None, option_map, Result, IfErr, OnOk}
 use Rattle.child_engine.specs.declared.host.HostFault.{HostFault}
 use Rattle.child_engine.specs.declared.host.HostFault.TheVariants as faults
 
--- The words of each engine that was to be started, and the name of each log that was to be opened, in their order, whether
--- that succeeded or failed, if the host keeps them. A call that had no memory asks for nothing.
+-- The words of each engine that was to be started, and the name of each log that was to be opened,
+-- in their order, whether that succeeded or failed, if the host keeps them. A call that had no
+-- memory asks for nothing.
 pub record Asked : Type 0 where
   pub engines : Option (List (List (List ℕ)))
   pub logs : Option (List (List ℕ))

@@ -12,9 +12,10 @@ shown_by sink = record { taken = None; faults = sink.faults }
 abbrev pub is_open : {W : Type 0} → Closing W → Bool
 is_open sink = is_some sink.writer
 
--- A writer that is still there took what is answered of the piece, as far as it tells what it took; of one that is gone nothing
--- is said.
-abbrev pub HandsOn : {W E : Type 0} → (W → Option (List ℕ)) → Option W → Option W → Result ℕ E → List ℕ → Type 0
+-- A writer that is still there took what is answered of the piece, as far as it tells what it took;
+-- of one that is gone nothing is said.
+abbrev pub HandsOn : {W E : Type 0} → (W → Option (List ℕ)) → Option W → Option W → Result ℕ E
+    → List ℕ → Type 0
 HandsOn took (Some old) (Some new) result piece = WriteAppends (took old) (took new) result piece
 HandsOn took old new result piece = ⊤
 

@@ -1,5 +1,6 @@
 -- What a host counts, and what it reports of the parts that were closed.
-use Rattle.std.specs.Prelude.{◌≡◌, ℕ, ◌+◌, ◌<◌, ◌≤◌, Bool, if◌then◌else◌, List, [], ◌∷◌, ◌++◌, Option, Some, None, option_map, Result, IfErr, OnOk}
+use Rattle.std.specs.Prelude.{◌≡◌, ℕ, ◌+◌, ◌<◌, ◌≤◌, Bool, if◌then◌else◌, List, [], ◌∷◌}
+use Rattle.std.specs.Prelude.{◌++◌, Option, Some, None, option_map, Result, IfErr, OnOk}
 use Rattle.line_io.specs.Causes.{Rose, HasCause}
 use Rattle.line_io.specs.Source.{Supplied, Received}
 use Rattle.child_engine.specs.declared.host.Faults.{Faults}
@@ -15,8 +16,8 @@ pub record Told : Type 0 where
 abbrev pub told_by : Supplied → Received → Told
 told_by source sink = record { given = source.given; left = source.left; taken = sink.taken }
 
--- What a host tells of its parts, how many runs and logs were handed out, and what those showed that were
--- closed, in the order of closing.
+-- What a host tells of its parts, how many runs and logs were handed out, and what those showed
+-- that were closed, in the order of closing.
 pub record Books : Type 0 where
   -- what each engine says, if the sources tell what they give and have left
   pub says : Option (List ℕ)
@@ -29,7 +30,14 @@ pub record Books : Type 0 where
 
 -- the books of a host that tells this much, and handed out nothing
 abbrev pub unused_books : Option (List ℕ) → Bool → Books
-unused_books says tells = record { says = says; tells = tells; runs_out = 0; logs_out = 0; runs = []; logs = [] }
+unused_books says tells = record {
+  says = says;
+  tells = tells;
+  runs_out = 0;
+  logs_out = 0;
+  runs = [];
+  logs = [];
+}
 
 -- nothing was handed out
 abbrev pub IsUnused : Books → Type 0
@@ -53,7 +61,8 @@ with_closed_run books source sink = record books { runs = books.runs ++ told_by 
 abbrev pub with_closed_log : Books → Received → Books
 with_closed_log books log = record books { logs = books.logs ++ log.taken ∷ [] }
 
--- what a source shows that is handed out: it gave nothing, has left all that the engine says, and never failed
+-- what a source shows that is handed out: it gave nothing, has left all that the
+-- engine says, and never failed
 abbrev pub fresh_source : Option (List ℕ) → Supplied
 fresh_source says = record { given = option_map (λ _. []) says; left = says; faults = 0 }
 
@@ -92,7 +101,8 @@ pub record OpensBy {T : Type 0} (before now : Faults) (result : Result T HostFau
   pub others : now ≡ record before { logs = now.logs }
 
 -- the run's source and sink had these counts
-pub record ClosesBy {T E : Type 0} (before now : Faults) (source sink : ℕ) (result : Result T E) : Type 0 where
+pub record ClosesBy {T E : Type 0} (before now : Faults) (source sink : ℕ)
+    (result : Result T E) : Type 0 where
   pub waits : HasCause before.waits now.waits result
   pub reads : RisesBy source before.reads now.reads
   pub writes : RisesBy sink before.writes now.writes

@@ -20,4 +20,5 @@ quit_line = codes "quit" ++ line_feed ∷ []
 -- the last of the lines is `quit`
 abbrev pub ends_with_quit : List ℕ → Bool
 ends_with_quit lines =
-    ends_with nat_eq lines (line_feed ∷ quit_line) || (length lines == 5 && ends_with nat_eq lines quit_line)
+    ends_with nat_eq lines (line_feed ∷ quit_line)
+    || (length lines == 5 && ends_with nat_eq lines quit_line)

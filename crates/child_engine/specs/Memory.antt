@@ -10,7 +10,11 @@ use Rattle.child_engine.specs.declared.memory.MemHost.{MemHost}
 
 -- what a source and a sink in memory show
 abbrev pub shown_by_source : MemSource → Supplied
-shown_by_source s = record { given = Some (supply_of s).given; left = Some (supply_of s).left; faults = (supply_of s).faults }
+shown_by_source s = record {
+  given = Some (supply_of s).given;
+  left = Some (supply_of s).left;
+  faults = (supply_of s).faults;
+}
 
 abbrev pub shown_by_sink : MemSink → Received
 shown_by_sink s = record { taken = Some (store_of s).taken; faults = (store_of s).faults }
@@ -22,7 +26,8 @@ books_of h =
       tells = true;
       runs_out = h.runs_out;
       logs_out = h.logs_out;
-      runs = map (λ run. told_by (shown_by_source run.source) (shown_by_sink run.sink)) h.runs.items;
+      runs = map (λ run. told_by (shown_by_source run.source) (shown_by_sink run.sink))
+          h.runs.items;
       logs = map (λ log. (shown_by_sink log).taken) h.closed_logs.items;
     }
 
@@ -34,8 +39,8 @@ asked_of h =
       logs = Some (map string_bytes h.log_names.items);
     }
 
--- What a host is made with: what each engine says and how much of it a read gives, the room of each sink and log, and the
--- calls that fail, those of sources, sinks and logs by their numbers.
+-- What a host is made with: what each engine says and how much of it a read gives, the room of each
+-- sink and log, and the calls that fail, those of sources, sinks and logs by their numbers.
 pub record Means : Type 0 where
   pub engine : List ℕ
   pub piece : ℕ

@@ -12,7 +12,11 @@ abbrev pub no_faults : Faults
 no_faults = record { starts = 0; reads = 0; writes = 0; logs = 0; waits = 0 }
 
 abbrev pub shown_by_source : SteadySource → Supplied
-shown_by_source s = record { given = Some (steady_of s).given; left = Some (steady_of s).left; faults = (steady_of s).faults }
+shown_by_source s = record {
+  given = Some (steady_of s).given;
+  left = Some (steady_of s).left;
+  faults = (steady_of s).faults;
+}
 
 -- a sink that reports nothing and never failed
 abbrev pub untold_sink : Received

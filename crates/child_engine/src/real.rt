@@ -156,7 +156,8 @@ impl<
         ensures source { IfOk result (λ run. read_faults run.source ≡ 0) }
         ensures sink { IfOk result (λ run. S.state run.sink ≡ untold_sink 0) }
         ensures held { IfOk result (λ run. HoldsOn S.is_let_go run.sink) }
-        ensures command { IfOk result (λ run. spawned_words run.process ≡ map string_bytes words.now) }
+        ensures command { IfOk result (λ run.
+            spawned_words run.process ≡ map string_bytes words.now) }
         ensures err { OnErr result (books_of self.new ≡ books_of self.old) }
         ensures cause { StartsBy self.old.faults self.new.faults result }
     {

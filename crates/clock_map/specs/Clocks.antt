@@ -1,5 +1,6 @@
 -- The clocks after the messages of the interface. All times are in milliseconds.
-use Rattle.std.specs.Prelude.{ℕ, ◌<◌, ◌^◌, ◌==◌, if◌then◌else◌, ℤ, pos, negsuc, ◌*ℤ◌, max, Option, Some, None}
+use Rattle.std.specs.Prelude.{ℕ, ◌<◌, ◌^◌, ◌==◌, if◌then◌else◌, ℤ, pos}
+use Rattle.std.specs.Prelude.{negsuc, ◌*ℤ◌, max, Option, Some, None}
 use Rattle.cecp_lines.specs.Messages.{IfaceMsg, Level, St, Sd, Time, Otim}
 use Rattle.cecp_lines.specs.Reading.{CanBeRead}
 use Rattle.clock_map.specs.declared.clocks.Clocks.{Clocks}
@@ -21,19 +22,59 @@ first_clocks = record {
 
 -- both clocks show the base
 abbrev pub after_level : Clocks → ℕ → ℕ → ℕ → Clocks
-after_level c moves base increment = record { control = Session; moves = moves; base = pos base; increment = increment; depth = c.depth; engine = pos base; opponent = pos base }
+after_level c moves base increment = record {
+  control = Session;
+  moves = moves;
+  base = pos base;
+  increment = increment;
+  depth = c.depth;
+  engine = pos base;
+  opponent = pos base;
+}
 
 abbrev pub with_control : Clocks → Control → Clocks
-with_control c control = record { control = control; moves = c.moves; base = c.base; increment = c.increment; depth = c.depth; engine = c.engine; opponent = c.opponent }
+with_control c control = record {
+  control = control;
+  moves = c.moves;
+  base = c.base;
+  increment = c.increment;
+  depth = c.depth;
+  engine = c.engine;
+  opponent = c.opponent;
+}
 
 abbrev pub with_depth : Clocks → Option ℕ → Clocks
-with_depth c depth = record { control = c.control; moves = c.moves; base = c.base; increment = c.increment; depth = depth; engine = c.engine; opponent = c.opponent }
+with_depth c depth = record {
+  control = c.control;
+  moves = c.moves;
+  base = c.base;
+  increment = c.increment;
+  depth = depth;
+  engine = c.engine;
+  opponent = c.opponent;
+}
 
 abbrev pub with_engine : Clocks → ℤ → Clocks
-with_engine c time = record { control = c.control; moves = c.moves; base = c.base; increment = c.increment; depth = c.depth; engine = time; opponent = c.opponent }
+with_engine c time = record {
+  control = c.control;
+  moves = c.moves;
+  base = c.base;
+  increment = c.increment;
+  depth = c.depth;
+  engine = time;
+  opponent = c.opponent;
+}
 
 abbrev pub with_opponent : Clocks → ℤ → Clocks
-with_opponent c time = record { control = c.control; moves = c.moves; base = c.base; increment = c.increment; depth = c.depth; engine = c.engine; opponent = time }
+with_opponent c time = record {
+  control = c.control;
+  moves = c.moves;
+  base = c.base;
+  increment = c.increment;
+  depth = c.depth;
+  engine = c.engine;
+  opponent = time;
+}
 
 -- a depth of 0 is no limit
 abbrev pub limit : ℕ → Option ℕ
@@ -53,7 +94,15 @@ after_message c _ = c
 
 -- at a new game
 abbrev pub after_new : Clocks → Clocks
-after_new c = record { control = c.control; moves = c.moves; base = c.base; increment = c.increment; depth = None; engine = c.base; opponent = c.base }
+after_new c = record {
+  control = c.control;
+  moves = c.moves;
+  base = c.base;
+  increment = c.increment;
+  depth = None;
+  engine = c.base;
+  opponent = c.base;
+}
 
 -- a time as it is written, at least 1
 abbrev pub at_least_one : ℤ → ℕ

@@ -1,5 +1,6 @@
 -- The order for a search under the clocks.
-use Rattle.std.specs.Prelude.{ℕ, ◌-◌, ◌/◌, ◌%◌, ◌≤◌, ◌==◌, if◌then◌else◌, true, false, max, length, Option, Some, None}
+use Rattle.std.specs.Prelude.{ℕ, ◌-◌, ◌/◌, ◌%◌, ◌≤◌, ◌==◌, if◌then◌else◌}
+use Rattle.std.specs.Prelude.{true, false, max, length, Option, Some, None}
 use Rattle.chess_board.specs.declared.board.Side.{Side}
 use Rattle.chess_board.specs.declared.board.Side.TheVariants.{White, Black}
 use Rattle.peer_words.specs.declared.kinds.GoKind.{GoKind}
@@ -19,8 +20,12 @@ moves_to_go moves plies = if moves == 0 then None else Some (moves - plies / 2 %
 
 -- White's and Black's time, if the engine has this side
 abbrev pub times_of : Clocks → Side → ℕ → GoControl
-times_of c White plies = Clock (at_least_one c.engine) (at_least_one c.opponent) c.increment c.increment (moves_to_go c.moves plies)
-times_of c Black plies = Clock (at_least_one c.opponent) (at_least_one c.engine) c.increment c.increment (moves_to_go c.moves plies)
+times_of c White plies =
+    Clock (at_least_one c.engine) (at_least_one c.opponent) c.increment c.increment
+    (moves_to_go c.moves plies)
+times_of c Black plies =
+    Clock (at_least_one c.opponent) (at_least_one c.engine) c.increment c.increment
+    (moves_to_go c.moves plies)
 
 abbrev pub time_of : Control → Clocks → Side → ℕ → GoControl
 time_of Session c side plies = times_of c side plies
@@ -34,11 +39,15 @@ search_order c side plies Analyse = Go false Infinite None
 
 -- Such an order may be written, and its text is what the line of it is read back from.
 abbrev pub AreSpelled : Type 0
-AreSpelled = (c : Clocks) (side : Side) (plies : ℕ) (kind : GoKind) → AreShort c → SpellsOrder (order_text (search_order c side plies kind)) (search_order c side plies kind)
+AreSpelled =
+    (c : Clocks) (side : Side) (plies : ℕ) (kind : GoKind) → AreShort c
+    → SpellsOrder (order_text (search_order c side plies kind)) (search_order c side plies kind)
 
 -- how long its text is at most
 abbrev pub most : ℕ
 most = 113
 
 abbrev pub AreFewBytes : Type 0
-AreFewBytes = (c : Clocks) (side : Side) (plies : ℕ) (kind : GoKind) → AreShort c → length (order_text (search_order c side plies kind)) ≤ most
+AreFewBytes =
+    (c : Clocks) (side : Side) (plies : ℕ) (kind : GoKind) → AreShort c
+    → length (order_text (search_order c side plies kind)) ≤ most

@@ -26,17 +26,18 @@ abbrev pub WritingBroke : Streams → Streams → Type 0
 WritingBroke before after =
     Rose before.output.faults after.output.faults ⊎ Rose before.diag.faults after.diag.faults
 
--- The words fit no command: that was reported, and nothing else happened. `Unread` and `Kept` say that
--- the input and the output are
--- just as they were.
+-- The words fit no command: that was reported, and nothing else happened. `Unread` and `Kept` say
+-- that the input and the output are just as they were.
 pub record Refused (Unread Kept : Type 0) (before after : Streams) (code : ℕ) : Type 0 where
   pub unread : Unread
   pub kept : Kept
   pub told : Told code 2 (tail_of endings.Usage) before.diag after.diag
 
 -- Why a run stopped. A count is as before if no failure took place.
-pub record Causes (ending : Ending) (input input_now : Supplied) (output output_now : Received) : Type 0 where
+pub record Causes (ending : Ending) (input input_now : Supplied)
+    (output output_now : Received) : Type 0 where
   pub reading : ending ≡ endings.ReadingFailed → Rose input.faults input_now.faults
   pub writing : ending ≡ endings.WritingFailed → Rose output.faults output_now.faults
-  pub read : ending ≢ endings.ReadingFailed → ending ≢ endings.WritingFailed → input_now.faults ≡ input.faults
+  pub read : ending ≢ endings.ReadingFailed → ending ≢ endings.WritingFailed
+      → input_now.faults ≡ input.faults
   pub written : ending ≢ endings.WritingFailed → output_now.faults ≡ output.faults

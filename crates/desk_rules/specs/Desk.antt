@@ -1,5 +1,6 @@
 -- The desk: what the interface commanded and the engine answered, and what it calls for.
-use Rattle.std.specs.Prelude.{ℕ, List, [], codes, length, Bool, true, false, if◌then◌else◌, ◌&&◌, ◌||◌, nat_le, Option, Some, None}
+use Rattle.std.specs.Prelude.{ℕ, List, [], codes, length, Bool, true, false}
+use Rattle.std.specs.Prelude.{if◌then◌else◌, ◌&&◌, ◌||◌, nat_le, Option, Some, None}
 use Rattle.std.specs.Option.{is_some}
 use Rattle.chess_board.specs.declared.board.Move.{Move}
 use Rattle.chess_board.specs.declared.board.Side.{Side}
@@ -100,11 +101,15 @@ call_for_hint g None = calls.Nothing
 call_for_hint g (Some h) = if has_ended (played g h) then calls.Nothing else calls.Ponder h
 
 abbrev pub call_while_waiting : Desk → Call
-call_while_waiting d = if d.pondering && is_some (check_named ponder_name (table d)) then call_for_hint d.game d.hint else calls.Nothing
+call_while_waiting d =
+    if d.pondering && is_some (check_named ponder_name (table d)) then call_for_hint d.game d.hint
+    else calls.Nothing
 
 abbrev pub call_in : Desk → Mode → Call
 call_in d modes.Analyse = if has_legal (now_of d.game) then calls.Analyse else calls.Nothing
-call_in d (modes.Plays s) = if has_ended d.game then calls.Nothing else (if same_side s (on_move d.game) then calls.Move else call_while_waiting d)
+call_in d (modes.Plays s) =
+    if has_ended d.game then calls.Nothing
+    else (if same_side s (on_move d.game) then calls.Move else call_while_waiting d)
 call_in d m = calls.Nothing
 
 -- what the desk calls for, by whether the session is closed and whether the engine is Gone
@@ -113,21 +118,30 @@ call_of closed gone d = if closed || gone || is_full d.game then calls.Nothing e
 
 -- HERE
 
--- The situation when an event comes: the settings, the desk, the engine (a search is stale if its ticket is not the epoch), whether the
--- call is spent, and what the policy says of the scores.
+-- The situation when an event comes: the settings, the desk, the engine (a search is stale if its
+-- ticket is not the epoch), whether the call is spent, and what the policy says of the scores.
 pub record Situation : Type 0 where
   pub settings : Settings
   pub closed : Bool
   pub engine : EngineState
   pub spent : Bool
   pub desk : Desk
-  -- whether the policy resigns once a move with the kept score is shown, and whether it accepts a draw
+  -- whether the policy resigns once a move with the kept score is shown, and
+  -- whether it accepts a draw
   pub resigns : Bool
   pub accepts : Bool
 
 -- the same, of what is seen beside the desk
 abbrev pub at : Context → Desk → Situation
-at s d = record { settings = s.settings; closed = s.closed; engine = s.engine; spent = s.spent; desk = d; resigns = s.resigns; accepts = s.accepts }
+at s d = record {
+  settings = s.settings;
+  closed = s.closed;
+  engine = s.engine;
+  spent = s.spent;
+  desk = d;
+  resigns = s.resigns;
+  accepts = s.accepts;
+}
 
 abbrev pub is_gone : EngineState → Bool
 is_gone states.Gone = true

@@ -1,5 +1,6 @@
 -- Settings that come before the engine's options are known, and are kept until then: early lines.
-use Rattle.std.specs.Prelude.{◌≡◌, ℕ, List, [], ◌∷◌, ◌++◌, ◌≤◌, length, Bool, true, false, ◌&&◌, nat_le}
+use Rattle.std.specs.Prelude.{◌≡◌, ℕ, List, [], ◌∷◌, ◌++◌, ◌≤◌}
+use Rattle.std.specs.Prelude.{length, Bool, true, false, ◌&&◌, nat_le}
 use Rattle.std.specs.List.{flat_map, AllByRecursion}
 use Rattle.line_io.specs.Event.{is_line}
 use Rattle.line_io.specs.Lines.{parts, line_feed}
@@ -22,7 +23,9 @@ lines_with_feeds lines = flat_map (λ line. line ++ line_feed ∷ []) lines
 
 -- one more line may wait, after those that do
 abbrev pub may_wait : List (List ℕ) → List ℕ → Bool
-may_wait early line = nat_le (length (early ++ line ∷ [])) MOST_EARLY && nat_le (length (lines_with_feeds (early ++ line ∷ []))) EARLY_BYTES
+may_wait early line =
+    nat_le (length (early ++ line ∷ [])) MOST_EARLY
+    && nat_le (length (lines_with_feeds (early ++ line ∷ []))) EARLY_BYTES
 
 -- what holds of the lines that wait
 pub record AreEarly (early : List (List ℕ)) : Type 0 where

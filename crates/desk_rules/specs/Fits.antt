@@ -1,5 +1,6 @@
 -- What holds of the desk between steps, and what holds of an effect.
-use Rattle.std.specs.Prelude.{◌≡◌, ◌⊎◌, ℕ, List, [], ◌∷◌, ◌<◌, ◌≤◌, ◌+◌, length, true, false, Some, None, IfSome, Ok}
+use Rattle.std.specs.Prelude.{◌≡◌, ◌⊎◌, ℕ, List, [], ◌∷◌, ◌<◌, ◌≤◌, ◌+◌}
+use Rattle.std.specs.Prelude.{length, true, false, Some, None, IfSome, Ok}
 use Rattle.line_io.specs.Event.{Event, is_line}
 use Rattle.line_io.specs.Event as events
 use Rattle.chess_board.specs.Place.{legal}
@@ -29,10 +30,12 @@ use Rattle.search_epochs.specs.Tickets.{Serves}
 use Rattle.desk_rules.specs.declared.effect.Refusal.{Refusal}
 use Rattle.desk_rules.specs.declared.effect.Refusal.TheVariants as refusals
 use Rattle.desk_rules.specs.declared.desk.Desk.{Desk}
-use Rattle.desk_rules.specs.Desk.{Situation, is_boot, is_getting, is_gone, current, call_before, plies}
+use Rattle.desk_rules.specs.Desk.{Situation, is_boot, is_getting}
+use Rattle.desk_rules.specs.Desk.{is_gone, current, call_before, plies}
 use Rattle.desk_rules.specs.Lines.{refusal}
 use Rattle.desk_rules.specs.Early.{AreEarly, may_wait}
-use Rattle.desk_rules.specs.Steps.{Effect, Refuses, Accepts, Defers, Names, Declares, Boots, Readies, Thinks, Shows, Forfeits, Answers, Dies}
+use Rattle.desk_rules.specs.Steps.{Effect, Refuses, Accepts, Defers, Names, Declares}
+use Rattle.desk_rules.specs.Steps.{Boots, Readies, Thinks, Shows, Forfeits, Answers, Dies}
 use Rattle.desk_rules.specs.declared.pings.TheConstants.{MOST_PINGS}
 
 -- the line of an event is a line that a peer may send
@@ -118,11 +121,14 @@ Fits h held (Refuses r line) = IsRefused h r line
 Fits h held (Accepts m) = IsAccepted h held m
 Fits h held (Defers line) = IsDeferred h line
 Fits h held (Names text) = (h.closed ≡ false) × (is_boot h.engine ≡ true)
-Fits h held (Declares name shape) = (h.closed ≡ false) × (is_boot h.engine ≡ true) × IsSaid (hears.OptionLine name shape)
+Fits h held (Declares name shape) =
+    (h.closed ≡ false) × (is_boot h.engine ≡ true) × IsSaid (hears.OptionLine name shape)
 Fits h held Boots = (h.closed ≡ false) × (is_boot h.engine ≡ true)
 Fits h held Readies = (h.closed ≡ false) × (is_getting h.engine ≡ true)
-Fits h held (Thinks k facts) = (h.closed ≡ false) × (current h.engine ≡ Some k) × IsSaid (hears.Info facts)
-Fits h held (Shows best hint) = (h.closed ≡ false) × IsCurrentMove h.engine × (legal (now_of h.desk.game) best ≡ true)
+Fits h held (Thinks k facts) =
+    (h.closed ≡ false) × (current h.engine ≡ Some k) × IsSaid (hears.Info facts)
+Fits h held (Shows best hint) =
+    (h.closed ≡ false) × IsCurrentMove h.engine × (legal (now_of h.desk.game) best ≡ true)
 Fits h held Forfeits = (h.closed ≡ false) × IsCurrentMove h.engine
 Fits h held Answers = (h.closed ≡ false) × IsOther h.engine
 Fits h held Dies = is_gone h.engine ≡ false

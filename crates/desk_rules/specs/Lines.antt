@@ -1,5 +1,8 @@
--- Interface lines: which are refused, what they change, what they ask of the engine, which begin an epoch.
-use Rattle.std.specs.Prelude.{ℕ, List, [], ◌∷◌, ◌++◌, codes, Bool, true, false, not, if◌then◌else◌, ◌&&◌, nat_le, nat_lt, length, Option, Some, None, Result as Answer, Ok, Err}
+-- Interface lines: which are refused, what they change, what they ask of the
+-- engine, which begin an epoch.
+use Rattle.std.specs.Prelude.{ℕ, List, [], ◌∷◌, ◌++◌, codes, Bool, true, false}
+use Rattle.std.specs.Prelude.{not, if◌then◌else◌, ◌&&◌, nat_le, nat_lt, length}
+use Rattle.std.specs.Prelude.{Option, Some, None, Result as Answer, Ok, Err}
 use Rattle.std.specs.Option.{is_some, option_map}
 use Rattle.chess_board.specs.declared.board.Side.TheVariants.{Black}
 use Rattle.chess_board.specs.Place.{legal}
@@ -32,7 +35,8 @@ use Rattle.desk_rules.specs.declared.effect.Refusal.{Refusal}
 use Rattle.desk_rules.specs.declared.effect.Refusal.TheVariants as refusals
 use Rattle.desk_rules.specs.declared.desk.Desk.{Desk}
 use Rattle.desk_rules.specs.Early.{is_setting, may_wait}
-use Rattle.desk_rules.specs.Desk.{Situation, table, analyses, is_full, is_boot, is_gone, on_move, other, played, plies, owes_move, ponder_name, analyse_name}
+use Rattle.desk_rules.specs.Desk.{Situation, table, analyses, is_full, is_boot, is_gone, on_move}
+use Rattle.desk_rules.specs.Desk.{other, played, plies, owes_move, ponder_name, analyse_name}
 use Rattle.desk_rules.specs.declared.pings.TheConstants.{MOST_PINGS}
 
 -- WHAT A LINE ASKS
@@ -105,7 +109,8 @@ lacks_moves g says.Remove = nat_lt (plies g) 2
 lacks_moves g m = false
 
 abbrev pub illegal_move : Game → IfaceMsg → Option Refusal
-illegal_move g (says.UserMove m) = if legal (now_of g) m then None else Some (refusals.IllegalMove m)
+illegal_move g (says.UserMove m) =
+    if legal (now_of g) m then None else Some (refusals.IllegalMove m)
 illegal_move g m = None
 
 abbrev pub move_too_many : Game → IfaceMsg → Option Refusal
@@ -144,10 +149,12 @@ refusal h held m =
     (or_else (move_too_many h.desk.game m)
     (or_else (illegal_position m)
     (or_else (refused_option (asked (table h.desk) m))
-    (or_else (where_true (does_not_fit held (asks (is_gone h.engine) h.desk m)) reasons.TooManySettings)
+    (or_else
+    (where_true (does_not_fit held (asks (is_gone h.engine) h.desk m)) reasons.TooManySettings)
     (where_true (pings_too_often h m) reasons.TooManyPings))))))))
 
--- A line is early if it sets an option while the engine is in Boot, where no option counts yet, and the settings say that such lines wait.
+-- A line is early if it sets an option while the engine is in Boot, where no option counts yet, and
+-- the settings say that such lines wait.
 abbrev pub is_early : Situation → IfaceMsg → Bool
 is_early h m = is_setting m && is_boot h.engine && h.settings.early_settings
 
@@ -169,10 +176,13 @@ early_verdict fits = if fits then Early else Refused (refusals.Because reasons.T
 unfoldable pub verdict : Situation → List Order → List ℕ → Answer IfaceMsg IfaceFault → Verdict
 verdict h held line (Err faults.UnknownCommand) = Refused (refusals.Because reasons.UnknownCommand)
 verdict h held line (Err faults.BadArgument) = Refused (refusals.Because reasons.BadArgument)
-verdict h held line (Ok m) = if is_early h m then early_verdict (may_wait h.desk.early line) else verdict_on m (refusal h held m)
+verdict h held line (Ok m) =
+    if is_early h m then early_verdict (may_wait h.desk.early line)
+    else verdict_on m (refusal h held m)
 
 -- what the options answer to an early line, once they are declared
-abbrev pub answered_by : List OptionSetting → Answer IfaceMsg IfaceFault → Answer (Option Order) OptionFault
+abbrev pub answered_by : List OptionSetting → Answer IfaceMsg IfaceFault
+    → Answer (Option Order) OptionFault
 answered_by os (Ok m) = asked os m
 answered_by os (Err fault) = Ok None
 
@@ -227,7 +237,12 @@ at_position d (Err fault) = d
 
 unfoldable pub change : Bool → Desk → IfaceMsg → Desk
 change boot d (says.Protover n) = record d { due = due_after boot d.due }
-change boot d says.New = record d { game = game_from start_position; hint = None; mode = new_mode d.mode; clocks = after_new d.clocks }
+change boot d says.New = record d {
+  game = game_from start_position;
+  hint = None;
+  mode = new_mode d.mode;
+  clocks = after_new d.clocks;
+}
 change boot d says.Force = record d { mode = modes.Force }
 change boot d says.Go = record d { mode = modes.Plays (on_move d.game) }
 change boot d says.PlayOther = record d { mode = modes.Plays (other (on_move d.game)) }
@@ -240,7 +255,9 @@ change boot d says.Exit = record d { mode = modes.Force }
 change boot d says.Result = record d { mode = modes.Over }
 change boot d says.Hard = record d { pondering = true }
 change boot d says.Easy = record d { pondering = false }
-change boot d (says.Level mps base_ms inc_ms) = record d { clocks = after_message d.clocks (says.Level mps base_ms inc_ms) }
+change boot d (says.Level mps base_ms inc_ms) = record d {
+  clocks = after_message d.clocks (says.Level mps base_ms inc_ms);
+}
 change boot d (says.St ms) = record d { clocks = after_message d.clocks (says.St ms) }
 change boot d (says.Sd n) = record d { clocks = after_message d.clocks (says.Sd n) }
 change boot d (says.Time n) = record d { clocks = after_message d.clocks (says.Time n) }

@@ -1,5 +1,6 @@
 -- The orders that wait and the orders for a search.
-use Rattle.std.specs.Prelude.{◌≡◌, ℕ, List, [], ◌∷◌, ◌++◌, map, Bool, true, false, if◌then◌else◌, Option, Some, None}
+use Rattle.std.specs.Prelude.{◌≡◌, ℕ, List, [], ◌∷◌, ◌++◌, map, Bool, true}
+use Rattle.std.specs.Prelude.{false, if◌then◌else◌, Option, Some, None}
 use Rattle.std.specs.Option.{option_to_list, option_map}
 use Rattle.std.specs.List.{AllByRecursion, flat_map, join_with_byte}
 use Rattle.chess_board.specs.declared.board.Move.{Move}
@@ -26,7 +27,8 @@ use Rattle.search_epochs.specs.Tickets as word
 use Rattle.desk_rules.specs.declared.effect.AskedOrders.{AskedOrders}
 use Rattle.desk_rules.specs.declared.effect.AskedOrders.TheVariants as asks
 use Rattle.desk_rules.specs.declared.desk.Desk.{Desk}
-use Rattle.desk_rules.specs.Desk.{Situation, is_gone, analyses, on_move, plies, played, ponder_name, analyse_name}
+use Rattle.desk_rules.specs.Desk.{Situation, is_gone, analyses, on_move}
+use Rattle.desk_rules.specs.Desk.{plies, played, ponder_name, analyse_name}
 use Rattle.option_map.specs.Settings.{OptionSetting}
 use Rattle.desk_rules.specs.Lines.{tells, asks as asked_of, asked_by, early_answer}
 use Rattle.desk_rules.specs.Steps.{Effect, Accepts, Boots}
@@ -51,7 +53,9 @@ early_orders os lines = flat_map (early_order os) lines
 
 -- the orders that are asked for when Boot is left: those of the early lines, and what is set then
 abbrev pub asked_at_boot : Desk → List Order
-asked_at_boot d = early_orders d.options d.early ++ option_to_list (ponder_at_boot d) ++ option_to_list (analysis_at_boot d)
+asked_at_boot d =
+    early_orders d.options d.early ++ option_to_list (ponder_at_boot d)
+    ++ option_to_list (analysis_at_boot d)
 
 -- the orders that an event asks for, in turn
 unfoldable pub asked_by_effect : Situation → Effect → List Order
@@ -104,7 +108,10 @@ searched g c = g
 
 -- `position` and `go` for what is owed
 abbrev pub search_orders : Desk → Call → List Order
-search_orders d c = position_order (searched d.game c) ∷ search_order d.clocks (on_move (searched d.game c)) (plies (searched d.game c)) (kind_of c) ∷ []
+search_orders d c =
+    position_order (searched d.game c)
+    ∷ search_order d.clocks (on_move (searched d.game c)) (plies (searched d.game c)) (kind_of c)
+    ∷ []
 
 -- the orders that were chosen
 abbrev pub order_list : List Order → Desk → Orders → List Order

@@ -1,5 +1,6 @@
 -- The lines to the interface.
-use Rattle.std.specs.Prelude.{ℕ, List, [], ◌∷◌, ◌++◌, map, codes, Bool, true, false, not, if◌then◌else◌, ◌&&◌, Option, Some, None}
+use Rattle.std.specs.Prelude.{ℕ, List, [], ◌∷◌, ◌++◌, map, codes, Bool, true}
+use Rattle.std.specs.Prelude.{false, not, if◌then◌else◌, ◌&&◌, Option, Some, None}
 use Rattle.std.specs.Option.{option_to_list}
 use Rattle.std.specs.List.{flat_map}
 use Rattle.chess_board.specs.declared.board.Move.{Move}
@@ -37,7 +38,9 @@ use Rattle.desk_rules.specs.declared.desk.Desk.{Desk}
 use Rattle.desk_rules.specs.Desk.{Situation, table, plays, is_boot, on_move, played, has_ended}
 use Rattle.option_map.specs.Settings.{OptionSetting}
 use Rattle.desk_rules.specs.Lines.{change, refused_option, early_answer}
-use Rattle.desk_rules.specs.Steps.{Effect, LongLine, Refuses, Accepts, Boots, Thinks, Shows, Forfeits, Dies, desk_after_effect, searched_by, resigns_after, resigns_at_end, resigns_when_gone}
+use Rattle.desk_rules.specs.Steps.{Effect, LongLine, Refuses, Accepts, Boots, Thinks}
+use Rattle.desk_rules.specs.Steps.{Shows, Forfeits, Dies, desk_after_effect, searched_by}
+use Rattle.desk_rules.specs.Steps.{resigns_after, resigns_at_end, resigns_when_gone}
 
 -- what the line of `Error (line too long)` says in place of the line
 abbrev pub dots : List ℕ
@@ -82,9 +85,12 @@ protover_row say.List d = feature_list (table d) d.name
 abbrev pub offer_where : Bool → List Reply
 offer_where b = if b then told.OfferDraw ∷ [] else []
 
--- a draw is offered back if draws are handled, the desk plays a game that has not ended and the policy accepts
+-- a draw is offered back if draws are handled, the desk plays a game that has not
+-- ended and the policy accepts
 abbrev pub draw_row : Situation → List Reply
-draw_row h = offer_where (h.settings.handle_draws && plays h.desk.mode && not (has_ended h.desk.game) && h.accepts)
+draw_row h =
+    offer_where
+    (h.settings.handle_draws && plays h.desk.mode && not (has_ended h.desk.game) && h.accepts)
 
 abbrev pub hint_row : Option Move → List Reply
 hint_row None = []
@@ -140,16 +146,19 @@ abbrev pub thinking_replies : Situation → GoKind → Info → List Reply
 thinking_replies h k facts =
     if is_told h k then
     option_to_list
-    (thinking_line (spelling_of h.settings) facts (now_of (searched_by k h.desk.game h.desk.hint)) (named_hint k h.desk.game h.desk.hint))
+    (thinking_line (spelling_of h.settings) facts (now_of (searched_by k h.desk.game h.desk.hint))
+    (named_hint k h.desk.game h.desk.hint))
     else []
 
 -- a move that is shown
 abbrev pub shown_row : Situation → Move → List Reply
-shown_row h best = told.Move best ∷ (result_of (played h.desk.game best) ++ resign_where (resigns_after h best))
+shown_row h best =
+    told.Move best ∷ (result_of (played h.desk.game best) ++ resign_where (resigns_after h best))
 
 -- the end of the engine
 abbrev pub end_row : Situation → List Reply
-end_row h = list_where h.desk.due h.desk ++ (told.TellError tell.Ended ∷ resign_where (resigns_at_end h))
+end_row h =
+    list_where h.desk.due h.desk ++ (told.TellError tell.Ended ∷ resign_where (resigns_at_end h))
 
 -- what an early line is refused by, if it is
 abbrev pub early_refusal : Option Refusal → List ℕ → List Reply
@@ -158,7 +167,8 @@ early_refusal (Some r) line = refused r line ∷ []
 
 -- the lines for the early lines that are refused, in turn
 abbrev pub early_refusals : List OptionSetting → List (List ℕ) → List Reply
-early_refusals os lines = flat_map (λ line. early_refusal (refused_option (early_answer os line)) line) lines
+early_refusals os lines =
+    flat_map (λ line. early_refusal (refused_option (early_answer os line)) line) lines
 
 -- the engine leaves Boot: the list if it is due, and the early lines that are refused
 abbrev pub boot_row : Desk → List Reply
@@ -179,7 +189,9 @@ row h d = []
 -- all lines of a step: its row, `resign` for an engine that is gone, then the pongs
 abbrev pub replies_of : Bool → Bool → Situation → Effect → List Reply
 replies_of closed owes h d =
-    if closed then [] else row h d ++ resign_where (resigns_when_gone closed h d) ++ (if owes then [] else map told.Pong (desk_after_effect h d).pings)
+    if closed then []
+    else row h d ++ resign_where (resigns_when_gone closed h d)
+    ++ (if owes then [] else map told.Pong (desk_after_effect h d).pings)
 
 abbrev pub pongs : Bool → List ℕ → List Reply
 pongs b pings = if b then map told.Pong pings else []

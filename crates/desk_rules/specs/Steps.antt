@@ -1,5 +1,6 @@
 -- What comes of an event, and what follows for the desk and the dialogue.
-use Rattle.std.specs.Prelude.{ℕ, List, Bool, true, false, not, if◌then◌else◌, ◌&&◌, ◌||◌, [], ◌∷◌, ◌++◌, Option, Some, None}
+use Rattle.std.specs.Prelude.{ℕ, List, Bool, true, false, not, if◌then◌else◌}
+use Rattle.std.specs.Prelude.{◌&&◌, ◌||◌, [], ◌∷◌, ◌++◌, Option, Some, None}
 use Rattle.line_io.specs.Event.{Event}
 use Rattle.line_io.specs.Event as events
 use Rattle.chess_board.specs.declared.board.Move.{Move}
@@ -34,8 +35,10 @@ use Rattle.desk_rules.specs.declared.effect.Refusal.{Refusal}
 use Rattle.desk_rules.specs.declared.effect.Effect as code
 use Rattle.desk_rules.specs.declared.effect.Effect.TheVariants as effects
 use Rattle.desk_rules.specs.declared.desk.Desk.{Desk}
-use Rattle.desk_rules.specs.Desk.{Situation, is_gone, is_boot, is_getting, current, call_of, owes_move, played, has_ended}
-use Rattle.desk_rules.specs.Lines.{Verdict, Refused, Accepted, Early, verdict, asks, is_epoch_line, set_up, change, clears_scores}
+use Rattle.desk_rules.specs.Desk.{Situation, is_gone, is_boot, is_getting}
+use Rattle.desk_rules.specs.Desk.{current, call_of, owes_move, played, has_ended}
+use Rattle.desk_rules.specs.Lines.{Verdict, Refused, Accepted, Early, verdict, asks}
+use Rattle.desk_rules.specs.Lines.{is_epoch_line, set_up, change, clears_scores}
 
 -- what comes of an event, whatever memory its line lies in
 pub data Effect : Type 0 where
@@ -96,7 +99,8 @@ answers e g best hint = Nothing
 
 abbrev pub engine_says : Situation → EngineMsg → Effect
 engine_says h (hears.Name text) = if is_boot h.engine then Names text else Nothing
-engine_says h (hears.OptionLine name shape) = if is_boot h.engine then Declares name shape else Nothing
+engine_says h (hears.OptionLine name shape) =
+    if is_boot h.engine then Declares name shape else Nothing
 engine_says h hears.UciOk = if is_boot h.engine then Boots else Nothing
 engine_says h hears.ReadyOk = if is_getting h.engine then Readies else Nothing
 engine_says h (hears.Info facts) = thinks (current h.engine) facts
@@ -109,11 +113,13 @@ dies e = if is_gone e then Nothing else Dies
 -- The held orders say only whether what a line asks for fits.
 unfoldable pub classify : Situation → List Order → Event → Effect
 classify h held events.Open = Opens
-classify h held (events.Iface line) = if h.closed then Nothing else line_effect (verdict h held line (message_or_fault line)) line
+classify h held (events.Iface line) =
+    if h.closed then Nothing else line_effect (verdict h held line (message_or_fault line)) line
 classify h held events.IfaceLong = if h.closed then Nothing else LongLine
 classify h held events.IfaceEnd = Nothing
 classify h held events.IfaceLost = Nothing
-classify h held (events.Engine line) = if h.closed then Nothing else engine_says h (engine_message line)
+classify h held (events.Engine line) =
+    if h.closed then Nothing else engine_says h (engine_message line)
 classify h held events.EngineLong = Nothing
 classify h held events.EngineEnd = dies h.engine
 classify h held events.EngineLost = dies h.engine
@@ -175,19 +181,31 @@ abbrev pub over_where : Bool → Mode → Mode
 over_where b m = if b then modes.Over else m
 
 abbrev pub desk_with_move : Situation → Move → Option Move → Desk
-desk_with_move h m hint = record h.desk { game = played h.desk.game m; hint = hint_after (played h.desk.game m) hint; mode = over_where (resigns_after h m) h.desk.mode }
+desk_with_move h m hint = record h.desk {
+  game = played h.desk.game m;
+  hint = hint_after (played h.desk.game m) hint;
+  mode = over_where (resigns_after h m) h.desk.mode;
+}
 
 -- the desk after an effect, before pings are answered and kept values cleared
 unfoldable pub desk_after_effect : Situation → Effect → Desk
 desk_after_effect h (Accepts m) = change (is_boot h.engine) h.desk m
 desk_after_effect h (Defers line) = record h.desk { early = h.desk.early ++ line ∷ [] }
 desk_after_effect h (Names text) = record h.desk { name = shown_name text }
-desk_after_effect h (Declares name shape) = record h.desk { options = after_declared h.settings.strength_options h.desk.options name shape }
+desk_after_effect h (Declares name shape) = record h.desk {
+  options = after_declared h.settings.strength_options h.desk.options name shape;
+}
 desk_after_effect h Boots = record h.desk { booted = true; due = false; early = [] }
-desk_after_effect h (Thinks k facts) = record h.desk { seen = after_info h.desk.seen facts (now_of (searched_by k h.desk.game h.desk.hint)) }
+desk_after_effect h (Thinks k facts) = record h.desk {
+  seen = after_info h.desk.seen facts (now_of (searched_by k h.desk.game h.desk.hint));
+}
 desk_after_effect h (Shows best hint) = desk_with_move h best hint
 desk_after_effect h Forfeits = record h.desk { mode = modes.Over }
-desk_after_effect h Dies = record h.desk { mode = over_where (resigns_at_end h) h.desk.mode; due = h.desk.due && h.closed; early = [] }
+desk_after_effect h Dies = record h.desk {
+  mode = over_where (resigns_at_end h) h.desk.mode;
+  due = h.desk.due && h.closed;
+  early = [];
+}
 desk_after_effect h d = h.desk
 
 abbrev pub is_death : Effect → Bool
@@ -206,9 +224,12 @@ call_after closed h d = call_of closed (is_gone h.engine || is_death d) (desk_af
 abbrev pub owes_when_gone : Bool → Bool → Desk → Bool
 owes_when_gone closed gone d = gone && is_move (call_of closed false d)
 
--- An engine that is gone resigns the game in which it owes a move, if the settings say so: by the desk that the event leaves.
+-- An engine that is gone resigns the game in which it owes a move, if the settings say so: by the
+-- desk that the event leaves.
 abbrev pub resigns_when_gone : Bool → Situation → Effect → Bool
-resigns_when_gone closed h d = h.settings.resign_when_gone && owes_when_gone closed (is_gone h.engine || is_death d) (desk_after_effect h d)
+resigns_when_gone closed h d =
+    h.settings.resign_when_gone
+    && owes_when_gone closed (is_gone h.engine || is_death d) (desk_after_effect h d)
 
 -- pings are answered if no Move is owed and the session is not closed
 abbrev pub answers_pings : Bool → Bool → Bool
@@ -224,7 +245,8 @@ desk_after closed owes hits h d = record (desk_after_effect h d) {
   mode = over_where (resigns_when_gone closed h d) (desk_after_effect h d).mode;
   pings = (if answers_pings closed owes then [] else (desk_after_effect h d).pings);
   early = (if closed then [] else (desk_after_effect h d).early);
-  seen = (if clears_seen (begins_epoch h d) hits then nothing_seen else (desk_after_effect h d).seen);
+  seen =
+      (if clears_seen (begins_epoch h d) hits then nothing_seen else (desk_after_effect h d).seen);
 }
 
 -- the scores of shown moves, the newest first
@@ -235,6 +257,7 @@ scores_after h d scores = scores
 
 -- what is counted of them after an effect
 abbrev pub counts_after : Score → Effect → Scores → Scores
-counts_after score (Accepts m) scores = if clears_scores m then no_scores scores.settings else scores
+counts_after score (Accepts m) scores =
+    if clears_scores m then no_scores scores.settings else scores
 counts_after score (Shows best hint) scores = after_shown scores score
 counts_after score d scores = scores

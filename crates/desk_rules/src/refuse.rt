@@ -151,7 +151,8 @@ impl Desk {
         message: &IfaceMsg<'l>,
     ) -> Wish<'s>
         ensures start { result.start ≡ set_up (message_of message.now) }
-        ensures answer { answer_seen result.answer ≡ asked (table self.now) (message_of message.now) }
+        ensures answer { answer_seen result.answer
+            ≡ asked (table self.now) (message_of message.now) }
         ensures asks { option_map setup_seen result.asks
             ≡ asks_for (is_gone engine) self.now (message_of message.now) }
     {

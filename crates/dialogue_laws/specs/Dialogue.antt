@@ -1,5 +1,6 @@
 -- A lawful trace as a dialogue with the engine: one exchange for each step but the opening.
-use Rattle.std.specs.Prelude.{◌≡◌, ℕ, ◌+◌, ◌≤◌, List, [], ◌∷◌, map, length, Bool, true, false, if◌then◌else◌}
+use Rattle.std.specs.Prelude.{◌≡◌, ℕ, ◌+◌, ◌≤◌, List, [], ◌∷◌, map}
+use Rattle.std.specs.Prelude.{length, Bool, true, false, if◌then◌else◌}
 use Rattle.uci_lines.specs.Orders.{Order}
 use Rattle.uci_lines.specs.Orders as orders
 use Rattle.peer_words.specs.declared.kinds.GoKind.{GoKind}
@@ -11,7 +12,8 @@ use Rattle.search_epochs.specs.Tickets.{Search, Serves}
 use Rattle.desk_rules.specs.Desk.{call_before}
 use Rattle.desk_rules.specs.Orders.{word_of}
 use Rattle.adapter_core.specs.Ends.{is_open}
-use Rattle.adapter_core.specs.Trace.{State, Step, Lawful, state, situation, turn, desk_of, closed_after}
+use Rattle.adapter_core.specs.Trace.{State, Step, Lawful, state, situation}
+use Rattle.adapter_core.specs.Trace.{turn, desk_of, closed_after}
 use Rattle.adapter_core.specs.Shown.{moves_told}
 
 -- what a step is to the dialogue
@@ -26,7 +28,9 @@ exchange s step = record {
 -- the exchanges of a trace: the opening writes `uci`, with which the dialogue begins
 abbrev pub exchanges : Settings → List Step → List Exchange
 exchanges o [] = []
-exchanges o (step ∷ trace) = if is_open step.event then exchanges o trace else exchange (state o trace) step ∷ exchanges o trace
+exchanges o (step ∷ trace) =
+    if is_open step.event then exchanges o trace
+    else exchange (state o trace) step ∷ exchanges o trace
 
 -- The exchanges are a lawful dialogue, and its dialogue is that of the state.
 pub record IsDialogueOf (s : State) (xs : List Exchange) : Type 0 where
@@ -36,7 +40,8 @@ pub record IsDialogueOf (s : State) (xs : List Exchange) : Type 0 where
 
 -- Each lawful trace is a lawful dialogue, so that all laws of lawful dialogues are laws of it.
 abbrev pub TracesAreDialogues : Settings → Type 0
-TracesAreDialogues o = (trace : List Step) → Lawful o trace → IsDialogueOf (state o trace) (exchanges o trace)
+TracesAreDialogues o =
+    (trace : List Step) → Lawful o trace → IsDialogueOf (state o trace) (exchanges o trace)
 
 -- SEARCHES
 
@@ -60,12 +65,15 @@ begins_search [] = false
 begins_search (orders.Go ponder control depth ∷ later) = true
 begins_search (order ∷ later) = begins_search later
 
--- how many moves were shown since the last `go`; those of a step that writes `go` were shown before it
+-- how many moves were shown since the last `go`; those of a step that writes
+-- `go` were shown before it
 abbrev pub shown_since_go : List Step → ℕ
 shown_since_go [] = 0
-shown_since_go (step ∷ trace) = if begins_search step.orders then 0 else shown_since_go trace + length (moves_told step.replies)
+shown_since_go (step ∷ trace) =
+    if begins_search step.orders then 0 else shown_since_go trace + length (moves_told step.replies)
 
--- A search is answered by at most one shown move: from a `go` to the next, with the step that writes the next, one is shown or none.
+-- A search is answered by at most one shown move: from a `go` to the next, with the step that
+-- writes the next, one is shown or none.
 abbrev pub SearchesShowOnce : Settings → Type 0
 SearchesShowOnce o =
     (step : Step) (trace : List Step) → Lawful o (step ∷ trace)
@@ -79,13 +87,19 @@ pub record IsSteadyOf (s : State) (xs : List Exchange) : Type 0 where
   pub call : history.last_call xs ≡ call_before (situation s)
   pub hint : history.last_hint xs ≡ s.desk.hint
 
--- With proper settings the dialogue of each lawful trace is steady, so that it is no premise of the laws of dialogues.
+-- With proper settings the dialogue of each lawful trace is steady, so that it is no premise
+-- of the laws of dialogues.
 abbrev pub TracesAreSteady : Settings → Type 0
-TracesAreSteady o = IsProper o → (trace : List Step) → Lawful o trace → IsSteadyOf (state o trace) (exchanges o trace)
+TracesAreSteady o =
+    IsProper o → (trace : List Step) → Lawful o trace
+    → IsSteadyOf (state o trace) (exchanges o trace)
 
--- An open current search is of the kind that is called for, and was begun or renewed for just this call, hint and all.
+-- An open current search is of the kind that is called for, and was begun or renewed for just
+-- this call, hint and all.
 abbrev pub SearchesServe : Settings → Type 0
 SearchesServe o =
-    IsProper o → (trace : List Step) (k : GoKind) (stopped : Bool) → Lawful o trace → (state o trace).ends.closed ≡ false
+    IsProper o → (trace : List Step) (k : GoKind) (stopped : Bool) → Lawful o trace
+    → (state o trace).ends.closed ≡ false
     → (state o trace).dialogue.engine ≡ Search k (state o trace).dialogue.epoch stopped
-    → Serves k (call_before (situation (state o trace))) × (history.call_of_last_search (exchanges o trace) ≡ call_before (situation (state o trace)))
+    → Serves k (call_before (situation (state o trace)))
+    × (history.call_of_last_search (exchanges o trace) ≡ call_before (situation (state o trace)))

@@ -1,14 +1,16 @@
 -- What holds of every lawful trace, all together.
 use Rattle.policy_rules.specs.declared.settings.Settings.{Settings}
 use Rattle.adapter_core.specs.Alone.{DeskIsAlone, IsApartFromEngine, RepliesAreAlone}
-use Rattle.adapter_core.specs.Shown.{MovesAreShownInTime, MovesAreShownOnce, RefusedLinesChangeNothing}
+use Rattle.adapter_core.specs.Shown.{MovesAreShownInTime, MovesAreShownOnce}
+use Rattle.adapter_core.specs.Shown.{RefusedLinesChangeNothing}
 use Rattle.adapter_core.specs.Stands.{IsOneDialogue, IsSilentToEngine, IsSilentToIface}
 use Rattle.dialogue_laws.specs.Dialogue.{SearchesServe, SearchesShowOnce, StopsOnce}
 use Rattle.dialogue_laws.specs.Existence.{EventsMayCome, TracesExist}
 use Rattle.dialogue_laws.specs.Limits.{CoresAreWithinLimits}
 use Rattle.dialogue_laws.specs.Pings.{NoneIsHeld, PingsHavePongs, PongsWait}
 use Rattle.dialogue_laws.specs.Values.{LastAskedStands, SearchesHaveSettings}
-use Rattle.dialogue_laws.specs.Wire.{EndsAreOnWire, EngineIsOnWire, GoFollowsPosition, GoneGetsNothing, IdleGetsThem, PonderGetsHit, SearchGetsStop}
+use Rattle.dialogue_laws.specs.Wire.{EndsAreOnWire, EngineIsOnWire, GoFollowsPosition}
+use Rattle.dialogue_laws.specs.Wire.{GoneGetsNothing, IdleGetsThem, PonderGetsHit, SearchGetsStop}
 
 -- What holds of every lawful trace with these settings, so of each one that a program makes.
 pub record HasLaws (o : Settings) : Type 0 where
@@ -25,7 +27,8 @@ pub record HasLaws (o : Settings) : Type 0 where
   pub desk_alone : DeskIsAlone o
   pub apart_from_engine : IsApartFromEngine o
   pub replies_alone : RepliesAreAlone o
-  -- the engine is what the wire shows, so is which sides have ended, and each order reaches only an engine that may get it
+  -- the engine is what the wire shows, so is which sides have ended, and each order reaches only
+  -- an engine that may get it
   pub engine_on_wire : EngineIsOnWire o
   pub ends_on_wire : EndsAreOnWire o
   pub idle_gets_them : IdleGetsThem o
@@ -36,7 +39,8 @@ pub record HasLaws (o : Settings) : Type 0 where
   -- nothing is written to a side that has ended or was lost
   pub silent_to_iface : IsSilentToIface o
   pub silent_to_engine : IsSilentToEngine o
-  -- a search gets one `stop` at most and shows one move at most, and an open current one is what is called for
+  -- a search gets one `stop` at most and shows one move at most, and an open current
+  -- one is what is called for
   pub stops_once : StopsOnce o
   pub searches_show_once : SearchesShowOnce o
   pub searches_serve : SearchesServe o
@@ -44,7 +48,8 @@ pub record HasLaws (o : Settings) : Type 0 where
   pub pings_have_pongs : PingsHavePongs o
   pub pongs_wait : PongsWait o
   pub no_ping_held : NoneIsHeld o
-  -- what was asked for an option last is what was written last, or is held; where a search begins it was written
+  -- what was asked for an option last is what was written last, or is held; where a
+  -- search begins it was written
   pub last_asked_stands : LastAskedStands o
   pub searches_have_settings : SearchesHaveSettings o
   -- what a core holds

@@ -13,16 +13,18 @@ use Rattle.adapter_core.specs.Trace.{Step, Lawful}
 use Rattle.adapter_core.specs.Parts.{CoreParts, situation}
 use Rattle.adapter_core.specs.Stands.{Stands}
 
--- Orders are held up to their number and their bytes, pings up to their number, and in a session that is not closed an open current
--- search is of the kind that is called for.
+-- Orders are held up to their number and their bytes, pings up to their number, and in a session
+-- that is not closed an open current search is of the kind that is called for.
 pub record IsWithinLimits (core : CoreParts) : Type 0 where
   pub orders : length core.held ≤ MOST_ORDERS
   pub bytes : length (batch_text core.held) ≤ MOST_BYTES
   pub pings : length core.desk.pings ≤ MOST_PINGS
   pub search :
       (k : GoKind) (stopped : Bool) → core.ends.closed ≡ false
-      → core.dialogue.state ≡ states.Search k false stopped → Serves k (call_before (situation core))
+      → core.dialogue.state ≡ states.Search k false stopped
+      → Serves k (call_before (situation core))
 
 abbrev pub CoresAreWithinLimits : Settings → Type 0
 CoresAreWithinLimits o =
-    (core : CoreParts) (trace : List Step) → IsProper o → Lawful o trace → Stands o core trace → IsWithinLimits core
+    (core : CoreParts) (trace : List Step) → IsProper o → Lawful o trace → Stands o core trace
+    → IsWithinLimits core

@@ -30,9 +30,12 @@ abbrev pub written_pongs : List Step → List ℕ
 written_pongs [] = []
 written_pongs (step ∷ trace) = written_pongs trace ++ pongs_told step.replies
 
--- Each accepted ping has one pong, in order, or is held: the pings are the pongs, and after them those that the desk holds.
+-- Each accepted ping has one pong, in order, or is held: the pings are the pongs, and after them
+-- those that the desk holds.
 abbrev pub PingsHavePongs : Settings → Type 0
-PingsHavePongs o = (trace : List Step) → Lawful o trace → accepted_pings o trace ≡ written_pongs trace ++ (state o trace).desk.pings
+PingsHavePongs o =
+    (trace : List Step) → Lawful o trace
+    → accepted_pings o trace ≡ written_pongs trace ++ (state o trace).desk.pings
 
 -- No pong is written in a step after whose event a Move is owed.
 abbrev pub PongsWait : Settings → Type 0

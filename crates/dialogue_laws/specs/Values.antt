@@ -10,7 +10,9 @@ use Rattle.dialogue_laws.specs.Dialogue.{begins_search}
 -- the settings that were asked for, the oldest first
 abbrev pub asked_for : Settings → List Step → List Order
 asked_for o [] = []
-asked_for o (step ∷ trace) = asked_for o trace ++ asked_by_effect (situation (state o trace)) (effect (state o trace) step.event)
+asked_for o (step ∷ trace) =
+    asked_for o trace
+    ++ asked_by_effect (situation (state o trace)) (effect (state o trace) step.event)
 
 -- the orders that were written, the oldest first
 abbrev pub orders_written : List Step → List Order
@@ -21,10 +23,12 @@ abbrev pub latest : Option Order → Option Order → Option Order
 latest None before = before
 latest (Some order) before = Some order
 
--- the last of these orders that is for the same game, or for the value of the same option, as this one
+-- the last of these orders that is for the same game, or for the value of the
+-- same option, as this one
 abbrev pub last_for : Order → List Order → Option Order
 last_for order [] = None
-last_for order (other ∷ later) = latest (last_for order later) (if are_for_same order other then Some other else None)
+last_for order (other ∷ later) =
+    latest (last_for order later) (if are_for_same order other then Some other else None)
 
 -- What was asked for last is what was written last, or is held.
 abbrev pub LastAskedStands : Settings → Type 0
@@ -33,8 +37,10 @@ LastAskedStands o =
     → last_for order (orders_written trace ++ (state o trace).held)
     ≡ last_for order (asked_for o trace)
 
--- So if a search is begun, the last value that was written for an option is the last one that was asked for.
+-- So if a search is begun, the last value that was written for an option is the
+-- last one that was asked for.
 abbrev pub SearchesHaveSettings : Settings → Type 0
 SearchesHaveSettings o =
-    (step : Step) (trace : List Step) (order : Order) → Lawful o (step ∷ trace) → begins_search step.orders ≡ true
+    (step : Step) (trace : List Step) (order : Order) → Lawful o (step ∷ trace)
+    → begins_search step.orders ≡ true
     → last_for order (orders_written (step ∷ trace)) ≡ last_for order (asked_for o (step ∷ trace))

@@ -1,5 +1,7 @@
--- The engine as the wire shows it: by the orders that were written and by what its lines say, without a look at the desk.
-use Rattle.std.specs.Prelude.{◌≡◌, ◌≢◌, List, [], ◌∷◌, ◌++◌, map, Bool, true, false, if◌then◌else◌, Option, Some, None}
+-- The engine as the wire shows it: by the orders that were written and by what its lines say,
+-- without a look at the desk.
+use Rattle.std.specs.Prelude.{◌≡◌, ◌≢◌, List, [], ◌∷◌, ◌++◌, map, Bool, true}
+use Rattle.std.specs.Prelude.{false, if◌then◌else◌, Option, Some, None}
 use Rattle.line_io.specs.Event.{Event}
 use Rattle.line_io.specs.Event as events
 use Rattle.peer_words.specs.declared.kinds.GoKind.{GoKind}
@@ -41,7 +43,8 @@ said_by closed events.EngineEnd = Some said.Ended
 said_by closed events.EngineLost = Some said.Ended
 said_by closed e = None
 
--- the engine after it was heard: `uciok` ends the boot, `readyok` the getting, `bestmove` the search
+-- the engine after it was heard: `uciok` ends the boot, `readyok` the
+-- getting, `bestmove` the search
 abbrev pub wire_once_heard : Wire → Option Said → Wire
 wire_once_heard e None = e
 wire_once_heard Boot (Some said.UciOk) = Idle
@@ -73,11 +76,13 @@ ends (step ∷ trace) = ends_after (ends trace) step.event
 -- the engine after a trace
 abbrev pub wire : List Step → Wire
 wire [] = Boot
-wire (step ∷ trace) = writing_all (wire_once_heard (wire trace) (said_by (ends trace).closed step.event)) step.orders
+wire (step ∷ trace) =
+    writing_all (wire_once_heard (wire trace) (said_by (ends trace).closed step.event)) step.orders
 
 -- the engine at the place of an order, with these of the step's orders before it
 abbrev pub wire_at : List Step → Step → List Order → Wire
-wire_at trace step before = writing_all (wire_once_heard (wire trace) (said_by (ends trace).closed step.event)) before
+wire_at trace step before =
+    writing_all (wire_once_heard (wire trace) (said_by (ends trace).closed step.event)) before
 
 -- what the wire shows of an engine whose searches have tickets
 abbrev pub on_wire : Engine → Wire
@@ -108,27 +113,33 @@ needs_idle order = false
 -- In a lawful trace they reach only an idle engine.
 abbrev pub IdleGetsThem : Settings → Type 0
 IdleGetsThem o =
-    (step : Step) (trace : List Step) (before behind : List Order) (order : Order) → Lawful o (step ∷ trace)
-    → step.orders ≡ before ++ order ∷ behind → needs_idle order ≡ true → wire_at trace step before ≡ Idle
+    (step : Step) (trace : List Step) (before behind : List Order) (order : Order)
+    → Lawful o (step ∷ trace)
+    → step.orders ≡ before ++ order ∷ behind → needs_idle order ≡ true
+    → wire_at trace step before ≡ Idle
 
 -- `stop` reaches only an open search that is not stopped.
 abbrev pub SearchGetsStop : Settings → Type 0
 SearchGetsStop o =
     (step : Step) (trace : List Step) (before behind : List Order) → Lawful o (step ∷ trace)
-    → step.orders ≡ before ++ orders.Stop ∷ behind → (k : GoKind) × (wire_at trace step before ≡ Search k false)
+    → step.orders ≡ before ++ orders.Stop ∷ behind
+    → (k : GoKind) × (wire_at trace step before ≡ Search k false)
 
 -- `ponderhit` reaches only an open Ponder search that is not stopped.
 abbrev pub PonderGetsHit : Settings → Type 0
 PonderGetsHit o =
     (step : Step) (trace : List Step) (before behind : List Order) → Lawful o (step ∷ trace)
-    → step.orders ≡ before ++ orders.PonderHit ∷ behind → wire_at trace step before ≡ Search kinds.Ponder false
+    → step.orders ≡ before ++ orders.PonderHit ∷ behind
+    → wire_at trace step before ≡ Search kinds.Ponder false
 
 -- Nothing reaches a gone engine.
 abbrev pub GoneGetsNothing : Settings → Type 0
 GoneGetsNothing o =
-    (step : Step) (trace : List Step) (before behind : List Order) (order : Order) → Lawful o (step ∷ trace)
+    (step : Step) (trace : List Step) (before behind : List Order) (order : Order)
+    → Lawful o (step ∷ trace)
     → step.orders ≡ before ++ order ∷ behind → wire_at trace step before ≢ Gone
 
 -- Each `go` comes directly after a `position`, and each `position` directly before a `go`.
 abbrev pub GoFollowsPosition : Settings → Type 0
-GoFollowsPosition o = (step : Step) (trace : List Step) → Lawful o (step ∷ trace) → Paired (map word_of step.orders)
+GoFollowsPosition o =
+    (step : Step) (trace : List Step) → Lawful o (step ∷ trace) → Paired (map word_of step.orders)

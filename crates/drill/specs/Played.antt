@@ -6,10 +6,12 @@ use Rattle.game_record.specs.Game.{now_of}
 use Rattle.policy_rules.specs.Policy.{usual}
 use Rattle.adapter_core.specs.Trace.{Step, Lawful}
 use Rattle.session_script.specs.Script.{events}
-use Rattle.drill.specs.Rounds.{Drill, Rounds, first_drill, greeting_events, preparation, closing_events}
+use Rattle.drill.specs.Rounds.{Drill, Rounds, first_drill, greeting_events}
+use Rattle.drill.specs.Rounds.{preparation, closing_events}
 use Rattle.drill.specs.Tally.{tally_of, line_of}
 
--- The line gives the counts of the lawful trace of the drill's events with the usual settings, and the position of its game.
+-- The line gives the counts of the lawful trace of the drill's events with the usual settings, and
+-- the position of its game.
 pub record Drills (number count : ℕ) (line : List ℕ) : Type 0 where
   pub rounds : List Event
   pub last : Drill

@@ -1,5 +1,7 @@
 -- The events of a drill.
-use Rattle.std.specs.Prelude.{◌≡◌, ◌≢◌, ◌⊎◌, ℕ, zero, suc, List, [], ◌∷◌, ◌++◌, length, codes, Bool, true, false, not, ◌&&◌, ◌||◌, if◌then◌else◌, nat_le, Option, Some, None, slice_get}
+use Rattle.std.specs.Prelude.{◌≡◌, ◌≢◌, ◌⊎◌, ℕ, zero, suc, List, [], ◌∷◌, ◌++◌}
+use Rattle.std.specs.Prelude.{length, codes, Bool, true, false, not, ◌&&◌, ◌||◌}
+use Rattle.std.specs.Prelude.{if◌then◌else◌, nat_le, Option, Some, None, slice_get}
 use Rattle.line_io.specs.Event.{Event, Iface, Engine, EngineEnd}
 use Rattle.chess_board.specs.declared.board.Move.{Move}
 use Rattle.chess_board.specs.Play.{start_position, HasLegal}
@@ -9,7 +11,8 @@ use Rattle.desk_rules.specs.Desk.{has_ended}
 use Rattle.drill.specs.Generator.{next, place_of}
 use Rattle.drill.specs.declared.round.TheConstants.{SPENT_PLIES}
 
--- where a drill stands: the last number of its generator, the game that it keeps, and the move that it has the engine ponder on
+-- where a drill stands: the last number of its generator, the game that it keeps, and the move that
+-- it has the engine ponder on
 pub record Drill : Type 0 where
   pub seed : ℕ
   pub game : Game
@@ -29,10 +32,13 @@ pub record Draws (s : Drill) (m : Move) : Type 0 where
 abbrev pub greeting_events : List Event
 greeting_events =
     Iface (codes "xboard") ∷ Iface (codes "protover 2")
-    ∷ Engine (codes "id name Drill") ∷ Engine (codes "option name Ponder type check default false") ∷ Engine (codes "uciok") ∷ Engine (codes "readyok") ∷ []
+    ∷ Engine (codes "id name Drill") ∷ Engine (codes "option name Ponder type check default false")
+    ∷ Engine (codes "uciok") ∷ Engine (codes "readyok") ∷ []
 
 abbrev pub preparation : List Event
-preparation = Iface (codes "new") ∷ Engine (codes "readyok") ∷ Iface (codes "post") ∷ Iface (codes "hard") ∷ Engine (codes "readyok") ∷ []
+preparation =
+    Iface (codes "new") ∷ Engine (codes "readyok") ∷ Iface (codes "post") ∷ Iface (codes "hard")
+    ∷ Engine (codes "readyok") ∷ []
 
 abbrev pub closing_events : List Event
 closing_events = Iface (codes "quit") ∷ EngineEnd ∷ []
@@ -65,7 +71,9 @@ unspent_drill s = if is_spent s.game then first_drill s.seed else s
 -- THE MOVE OF THE USER
 
 abbrev pub entry : Move → List Event
-entry m = Iface (codes "time 30000") ∷ Iface (codes "otim 30000") ∷ Iface (codes "usermove " ++ text_of m) ∷ []
+entry m =
+    Iface (codes "time 30000") ∷ Iface (codes "otim 30000") ∷ Iface (codes "usermove " ++ text_of m)
+    ∷ []
 
 -- after a move that was drawn
 abbrev pub drill_after_move : Drill → Move → Drill
@@ -85,20 +93,30 @@ abbrev pub answer : Move → List Event
 answer m = thinks m ∷ Engine (codes "bestmove " ++ text_of m) ∷ []
 
 abbrev pub answer_with : Move → Move → List Event
-answer_with m hint = thinks m ∷ Engine (codes "bestmove " ++ (text_of m ++ (codes " ponder " ++ text_of hint))) ∷ []
+answer_with m hint =
+    thinks m ∷ Engine (codes "bestmove " ++ (text_of m ++ (codes " ponder " ++ text_of hint))) ∷ []
 
 -- the engine ponders on the hint if the game has not ended, and would not have after the hint
 abbrev pub ponders : Game → Move → Bool
 ponders g hint = not (has_ended g) && not (has_ended (with_ply g (ply_of hint)))
 
 abbrev pub drill_with_hint : Drill → Move → Drill
-drill_with_hint s hint = record { seed = next s.seed; game = s.game; hint = (if ponders s.game hint then Some hint else None) }
+drill_with_hint s hint = record {
+  seed = next s.seed;
+  game = s.game;
+  hint = (if ponders s.game hint then Some hint else None);
+}
 
--- what the engine answers, if the game has not ended: with a hint, if the side then on move has a legal move
+-- what the engine answers, if the game has not ended: with a hint, if the side then
+-- on move has a legal move
 pub data Answers (s : Drill) (es : List Event) (s' : Drill) : Type 0 where
   Nothing : has_ended s.game ≡ true → es ≡ [] → s' ≡ s → Answers s es s'
-  Alone : (m : Move) → has_ended s.game ≡ false → Draws s m → ¬ HasLegal (now_of (drill_after_move s m).game) → es ≡ answer m → s' ≡ drill_after_move s m → Answers s es s'
-  WithHint : (m hint : Move) → has_ended s.game ≡ false → Draws s m → Draws (drill_after_move s m) hint → es ≡ answer_with m hint → s' ≡ drill_with_hint (drill_after_move s m) hint → Answers s es s'
+  Alone : (m : Move) → has_ended s.game ≡ false → Draws s m
+      → ¬ HasLegal (now_of (drill_after_move s m).game) → es ≡ answer m → s' ≡ drill_after_move s m
+      → Answers s es s'
+  WithHint : (m hint : Move) → has_ended s.game ≡ false → Draws s m
+      → Draws (drill_after_move s m) hint → es ≡ answer_with m hint
+      → s' ≡ drill_with_hint (drill_after_move s m) hint → Answers s es s'
 
 -- ROUNDS
 
@@ -115,4 +133,6 @@ pub record Round (s : Drill) (es : List Event) (s' : Drill) : Type 0 where
 -- so many rounds, one after the other
 abbrev pub Rounds : ℕ → Drill → List Event → Drill → Type 0
 Rounds zero s es s' = (es ≡ []) × (s' ≡ s)
-Rounds (suc n) s es s' = (between : Drill) × (first last : List Event) × Rounds n s first between × Round between last s' × (es ≡ first ++ last)
+Rounds (suc n) s es s' =
+    (between : Drill) × (first last : List Event) × Rounds n s first between × Round between last s'
+    × (es ≡ first ++ last)

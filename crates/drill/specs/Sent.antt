@@ -1,5 +1,6 @@
 -- What was sent to the core.
-use Rattle.std.specs.Prelude.{◌≡◌, ℕ, ◌+◌, ◌*◌, ◌≤◌, List, [], ◌∷◌, Bool, true, false, if◌then◌else◌, codes, length, eqb}
+use Rattle.std.specs.Prelude.{◌≡◌, ℕ, ◌+◌, ◌*◌, ◌≤◌, List, [], ◌∷◌, Bool}
+use Rattle.std.specs.Prelude.{true, false, if◌then◌else◌, codes, length, eqb}
 use Rattle.std.specs.List.{starts_with}
 use Rattle.line_io.specs.Event.{Event, is_line}
 use Rattle.line_io.specs.Lines.{parts}
@@ -30,7 +31,8 @@ pub record DrillSession : Type 0 where
 pub record Sends (old new : DrillSession) (e : Event) : Type 0 where
   pub step : Step
   pub event : step.event ≡ e
-  pub extends : (o : Settings) (t : List Step) → Lawful o t → Stands o old.core t → Lawful o (step ∷ t) × Stands o new.core (step ∷ t)
+  pub extends : (o : Settings) (t : List Step) → Lawful o t → Stands o old.core t
+      → Lawful o (step ∷ t) × Stands o new.core (step ∷ t)
   pub tally_is : new.tally ≡ tally_after old.tally step
 
 -- the text begins with a move
@@ -50,8 +52,10 @@ counted_texts t iface engine = record {
 pub record Steps (old new : CoreParts) (e : Event) (tally_old tally_new : Tally) : Type 0 where
   pub step : Step
   pub event : step.event ≡ e
-  pub extends : (o : Settings) (t : List Step) → Lawful o t → Stands o old t → Lawful o (step ∷ t) × Stands o new (step ∷ t)
-  pub tally_is : (o : Settings) (t : List Step) → Lawful o (step ∷ t) → tally_new ≡ tally_after tally_old step
+  pub extends : (o : Settings) (t : List Step) → Lawful o t → Stands o old t
+      → Lawful o (step ∷ t) × Stands o new (step ∷ t)
+  pub tally_is : (o : Settings) (t : List Step) → Lawful o (step ∷ t)
+      → tally_new ≡ tally_after tally_old step
   pub few : AreFew tally_new
 
 -- the events were sent, the first one first
@@ -61,7 +65,14 @@ Sent old new (e ∷ es) = (between : DrillSession) × Sends old between e × Sen
 
 -- both sides talk
 abbrev pub both_sides_open : Ends
-both_sides_open = record { opened = true; iface = false; engine = false; iface_lost = false; engine_lost = false; closed = false }
+both_sides_open = record {
+  opened = true;
+  iface = false;
+  engine = false;
+  iface_lost = false;
+  engine_lost = false;
+  closed = false;
+}
 
 -- so many steps more may be counted
 abbrev pub HasRoom : ℕ → DrillSession → Type 0

@@ -3,7 +3,8 @@ use Rattle.std.specs.Prelude.{◌≡◌, ℕ, List, ◌++◌}
 use Rattle.line_io.specs.Event.{Event}
 use Rattle.chess_board.specs.declared.board.Move.{Move}
 use Rattle.drill.specs.declared.round.Drill.{Drill}
-use Rattle.drill.specs.Rounds.{Drill as AnyDrill, Draws, Misses, Answers, Round, Rounds, entry, answer_with, drill_after_move, drill_with_hint}
+use Rattle.drill.specs.Rounds.{Drill as AnyDrill, Draws, Misses, Answers, Round, Rounds}
+use Rattle.drill.specs.Rounds.{entry, answer_with, drill_after_move, drill_with_hint}
 use Rattle.drill.specs.Sent.{Sent}
 
 abbrev pub stand_of : Drill → AnyDrill

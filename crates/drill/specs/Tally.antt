@@ -25,6 +25,7 @@ tally_of (step ∷ trace) = tally_after (tally_of trace) step
 -- the line of a drill: Open is not counted
 abbrev pub line_of : ℕ → ℕ → Tally → List ℕ → List ℕ
 line_of number count t fen =
-    codes "drill " ++ decimal number ++ codes " " ++ decimal count ++ codes ": " ++ decimal (t.steps - 1) ++ codes " events, "
-    ++ decimal t.to_iface ++ codes " lines to the interface, " ++ decimal t.to_engine ++ codes " lines to the engine, "
+    codes "drill " ++ decimal number ++ codes " " ++ decimal count ++ codes ": "
+    ++ decimal (t.steps - 1) ++ codes " events, " ++ decimal t.to_iface
+    ++ codes " lines to the interface, " ++ decimal t.to_engine ++ codes " lines to the engine, "
     ++ decimal t.shown ++ codes " moves shown, " ++ fen ++ line_feed ∷ []

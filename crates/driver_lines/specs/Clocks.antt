@@ -1,5 +1,6 @@
 -- The numbers of a `go` order, and the lines that set the engine's clocks.
-use Rattle.std.specs.Prelude.{ℕ, ◌+◌, ◌/◌, ◌%◌, ◌==◌, min, List, [], ◌∷◌, ◌++◌, codes, Bool, if◌then◌else◌, Option, Some, None}
+use Rattle.std.specs.Prelude.{ℕ, ◌+◌, ◌/◌, ◌%◌, ◌==◌, min, List, [], ◌∷◌, ◌++◌}
+use Rattle.std.specs.Prelude.{codes, Bool, if◌then◌else◌, Option, Some, None}
 use Rattle.std.specs.Option.{option_map}
 use Rattle.std.specs.Str.{bytes_eq}
 use Rattle.peer_words.specs.Tokens.{tokens}
@@ -9,7 +10,8 @@ use Rattle.chess_board.specs.declared.board.Side.TheVariants.{White, Black}
 use Rattle.driver_talk.specs.declared.words.GoClocks.{GoClocks}
 use Rattle.driver_lines.specs.declared.clocks.GoField.{GoField}
 use Rattle.driver_lines.specs.declared.clocks.GoField.TheVariants as fields
-use Rattle.driver_lines.specs.declared.clocks.TheConstants.{LONGEST, MOST_MOVES, MOST_SECONDS, MOST_PLIES}
+use Rattle.driver_lines.specs.declared.clocks.TheConstants.{LONGEST, MOST_MOVES}
+use Rattle.driver_lines.specs.declared.clocks.TheConstants.{MOST_SECONDS, MOST_PLIES}
 use Rattle.driver_lines.specs.Numbers.{natural}
 use Rattle.driver_lines.specs.Lines.{DownLine, St, Level, Time, Otim, Sd}
 use Rattle.peer_words.specs.declared.numbers.TheConstants.{SECOND}
@@ -56,7 +58,15 @@ clocks_from c (t ∷ ts) = clocks_from (hear (field_named t) c ts) ts
 
 -- the longest times, without increments and limits
 abbrev pub no_clocks : GoClocks
-no_clocks = record { wtime = LONGEST; btime = LONGEST; winc = 0; binc = 0; movetime = None; movestogo = 0; depth = 0 }
+no_clocks = record {
+  wtime = LONGEST;
+  btime = LONGEST;
+  winc = 0;
+  binc = 0;
+  movetime = None;
+  movestogo = 0;
+  depth = 0;
+}
 
 -- the last number after each word counts
 unfoldable pub clocks_in : List ℕ → GoClocks
@@ -83,12 +93,15 @@ increment White c = c.winc
 increment Black c = c.binc
 
 abbrev pub level_line : Side → GoClocks → DownLine
-level_line side c = Level (min c.movestogo MOST_MOVES) (capped (mine side c) / SECOND) (min (increment side c / SECOND) MOST_SECONDS)
+level_line side c =
+    Level (min c.movestogo MOST_MOVES) (capped (mine side c) / SECOND)
+    (min (increment side c / SECOND) MOST_SECONDS)
 
 -- the time of the move alone, or the clocks
 abbrev pub control_lines : Side → GoClocks → Option ℕ → List DownLine
 control_lines side c (Some time) = St (min (seconds_up time) MOST_SECONDS) ∷ []
-control_lines side c None = level_line side c ∷ Time (capped (mine side c) / 10) ∷ Otim (capped (theirs side c) / 10) ∷ []
+control_lines side c None =
+    level_line side c ∷ Time (capped (mine side c) / 10) ∷ Otim (capped (theirs side c) / 10) ∷ []
 
 abbrev pub depth_lines : ℕ → List DownLine
 depth_lines depth = if depth == 0 then [] else Sd (min depth MOST_PLIES) ∷ []

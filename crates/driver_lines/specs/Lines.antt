@@ -1,5 +1,6 @@
 -- The lines to both peers.
-use Rattle.std.specs.Prelude.{ℕ, ◌+◌, ◌/◌, ◌%◌, List, [], ◌∷◌, ◌++◌, codes, decimal, Bool, if◌then◌else◌, Option, Some, None}
+use Rattle.std.specs.Prelude.{ℕ, ◌+◌, ◌/◌, ◌%◌, List, [], ◌∷◌, ◌++◌, codes}
+use Rattle.std.specs.Prelude.{decimal, Bool, if◌then◌else◌, Option, Some, None}
 use Rattle.std.specs.Fmt.{signed_decimal}
 use Rattle.chess_board.specs.declared.board.Move.{Move as AnyMove}
 use Rattle.chess_board.specs.Text.{text_of}
@@ -44,13 +45,15 @@ two_digits n = (digit_zero + n / 10) ∷ (digit_zero + n % 10) ∷ []
 -- minutes and seconds, with its line feed
 abbrev pub level_text : ℕ → ℕ → ℕ → List ℕ
 level_text moves seconds increment =
-    codes "level " ++ decimal moves ++ codes " " ++ decimal (seconds / 60) ++ codes ":" ++ two_digits (seconds % 60) ++ codes " " ++ decimal increment ++ line_feed ∷ []
+    codes "level " ++ decimal moves ++ codes " " ++ decimal (seconds / 60) ++ codes ":"
+    ++ two_digits (seconds % 60) ++ codes " " ++ decimal increment ++ line_feed ∷ []
 
 abbrev pub move_text : Bool → List ℕ → List ℕ
 move_text has_usermove text = if has_usermove then codes "usermove " ++ text else text
 
 abbrev pub answer_text : Bool → List ℕ → List ℕ
-answer_text is_rejected name = if is_rejected then codes "rejected " ++ name else codes "accepted " ++ name
+answer_text is_rejected name =
+    if is_rejected then codes "rejected " ++ name else codes "accepted " ++ name
 
 abbrev pub line_with_feed : List ℕ → List ℕ
 line_with_feed text = text ++ line_feed ∷ []
@@ -91,7 +94,8 @@ best_text (Some m) = codes "bestmove " ++ text_of m
 abbrev pub figures_text : Thought → List ℕ
 figures_text t =
     (codes "info depth " ++ decimal t.depth)
-    ++ ((codes " score cp " ++ signed_decimal t.score) ++ ((codes " time " ++ decimal t.time) ++ (codes " nodes " ++ decimal t.nodes)))
+    ++ ((codes " score cp " ++ signed_decimal t.score)
+    ++ ((codes " time " ++ decimal t.time) ++ (codes " nodes " ++ decimal t.nodes)))
 
 abbrev pub info_text : Thought → List ℕ
 info_text t = figures_text t ++ (codes " pv " ++ text_of t.best)

@@ -1,5 +1,6 @@
 -- The moves that a CECP engine names in a position.
-use Rattle.std.specs.Prelude.{ℕ, ◌≡◌, ◌⊎◌, List, [], ◌∷◌, if◌then◌else◌, Option, Some, None, MatchOption}
+use Rattle.std.specs.Prelude.{ℕ, ◌≡◌, ◌⊎◌, List, [], ◌∷◌, if◌then◌else◌}
+use Rattle.std.specs.Prelude.{Option, Some, None, MatchOption}
 use Rattle.chess_board.specs.declared.board.Move.{Move}
 use Rattle.chess_board.specs.Position.{Position}
 use Rattle.chess_board.specs.Place.{legal}
@@ -27,8 +28,8 @@ Writes p text m = FitsAlone p text m ⊎ (FitsNone p text × IsLongRead p text (
 abbrev pub WritesNone : Position → List ℕ → Type 0
 WritesNone p text = FitsNone p text × IsLongRead p text None
 
--- A text names a legal move by its squares, or else as the one that fits it in standard algebraic notation, or else as the
--- one that it is in long algebraic form.
+-- A text names a legal move by its squares, or else as the one that fits it in standard algebraic
+-- notation, or else as the one that it is in long algebraic form.
 abbrev pub Names : Position → List ℕ → Move → Type 0
 Names p text m = (coordinates p text ≡ Some m) ⊎ ((coordinates p text ≡ None) × Writes p text m)
 
@@ -42,11 +43,13 @@ IsShown p text shown = MatchOption shown (NamesNone p text) (Names p text)
 -- the first token that names a legal move, and that move
 abbrev pub IsThought : Position → List (List ℕ) → Option Move → Type 0
 IsThought p [] best = best ≡ None
-IsThought p (t ∷ ts) best = ((m : Move) × (Names p t m × (best ≡ Some m))) ⊎ (NamesNone p t × IsThought p ts best)
+IsThought p (t ∷ ts) best =
+    ((m : Move) × (Names p t m × (best ≡ Some m))) ⊎ (NamesNone p t × IsThought p ts best)
 
 -- the first legal move in the order of the texts
 abbrev pub IsFirstMove : Position → Option Move → Type 0
 IsFirstMove p None = (m : Move) → IsLegal p m.from.index m.to.index m.promotion → ⊥
 IsFirstMove p (Some first) =
     IsLegal p first.from.index first.to.index first.promotion
-    × ((m : Move) → IsLegal p m.from.index m.to.index m.promotion → (m ≡ first) ⊎ ComesBefore first m)
+    × ((m : Move) → IsLegal p m.from.index m.to.index m.promotion
+    → (m ≡ first) ⊎ ComesBefore first m)

@@ -1,5 +1,6 @@
 -- The parts of a `feature` line.
-use Rattle.std.specs.Prelude.{ℕ, zero, suc, ◌+◌, ◌<◌, ◌≤◌, List, [], ◌∷◌, length, drop, Bool, ◌&&◌, ◌||◌, not, if◌then◌else◌, ◌==◌, Option, Some, None, IfSome}
+use Rattle.std.specs.Prelude.{ℕ, zero, suc, ◌+◌, ◌<◌, ◌≤◌, List, [], ◌∷◌, length, drop, Bool}
+use Rattle.std.specs.Prelude.{◌&&◌, ◌||◌, not, if◌then◌else◌, ◌==◌, Option, Some, None, IfSome}
 use Rattle.std.specs.List.{before_first, after_first, position_or_len}
 use Rattle.std.specs.Option.{option_map}
 use Rattle.peer_words.specs.Tokens.{is_white, trim_left, token_end}
@@ -58,7 +59,8 @@ cut_by (c ∷ cs) (b ∷ bs) behind =
     if b == equals then value_cut (c ∷ cs) bs else cut_without_feature behind
 
 abbrev pub cut_of : List ℕ → List ℕ → CutFeature
-cut_of text behind = cut_by (before_first ends_name text) (drop (position_or_len ends_name text) text) behind
+cut_of text behind =
+    cut_by (before_first ends_name text) (drop (position_or_len ends_name text) text) behind
 
 abbrev pub onto : Option Feature → List Feature → List Feature
 onto None fs = fs
@@ -83,4 +85,5 @@ IsNamed c = IfSome c.part (λ f. 0 < length f.name)
 
 -- what a feature and the rest leave of a text
 abbrev pub FitsIn : List ℕ → CutFeature → Type 0
-FitsIn text c = IfSome c.part (λ f. length f.name + length f.value + length c.rest + 1 ≤ length text)
+FitsIn text c =
+    IfSome c.part (λ f. length f.name + length f.value + length c.rest + 1 ≤ length text)

@@ -1,5 +1,6 @@
 -- What a line of the engine says.
-use Rattle.std.specs.Prelude.{ℕ, ℤ, List, [], ◌∷◌, codes, Bool, ◌||◌, if◌then◌else◌, Option, Some, None}
+use Rattle.std.specs.Prelude.{ℕ, ℤ, List, [], ◌∷◌, codes, Bool, ◌||◌}
+use Rattle.std.specs.Prelude.{if◌then◌else◌, Option, Some, None}
 use Rattle.std.specs.Str.{bytes_eq}
 use Rattle.peer_words.specs.Tokens.{tokens, first_token, rest}
 use Rattle.peer_words.specs.Numbers.{number}
@@ -24,11 +25,14 @@ engine_message_of (said.Move text) = Move text.now
 engine_message_of said.Over = Over
 engine_message_of (said.Pong n) = Pong n
 engine_message_of (said.Feature text) = Feature text.now
-engine_message_of (said.Report depth score time nodes moves) = Report depth score time nodes (tokens moves.now)
+engine_message_of (said.Report depth score time nodes moves) =
+    Report depth score time nodes (tokens moves.now)
 
 -- the engine resigns, or claims a result
 abbrev pub is_over : List ℕ → Bool
-is_over word = ((bytes_eq word (codes "resign") || bytes_eq word (codes "1-0")) || bytes_eq word (codes "0-1")) || bytes_eq word (codes "1/2-1/2")
+is_over word =
+    ((bytes_eq word (codes "resign") || bytes_eq word (codes "1-0")) || bytes_eq word (codes "0-1"))
+    || bytes_eq word (codes "1/2-1/2")
 
 abbrev pub word_named : List ℕ → EngineWord
 word_named word =
@@ -40,7 +44,8 @@ word_named word =
 
 abbrev pub report_fourth : ℤ → ℤ → ℤ → Option (ℤ × List (List ℕ)) → Option Says
 report_fourth depth score time None = None
-report_fourth depth score time (Some p) = Some (Report (natural depth) (clamped score) (ten_times (natural time)) (natural p.0) p.1)
+report_fourth depth score time (Some p) =
+    Some (Report (natural depth) (clamped score) (ten_times (natural time)) (natural p.0) p.1)
 
 abbrev pub report_third : ℤ → ℤ → Option (ℤ × List (List ℕ)) → Option Says
 report_third depth score None = None

@@ -2,7 +2,8 @@
 use Rattle.std.specs.Prelude.{ℕ, List, codes, Bool, if◌then◌else◌}
 use Rattle.std.specs.Str.{bytes_eq}
 use Rattle.driver_lines.specs.declared.words.OrderWord.{OrderWord}
-use Rattle.driver_lines.specs.declared.words.OrderWord.TheVariants.{Quit, Uci, IsReady, Position, Go, Stop, PonderHit, Other}
+use Rattle.driver_lines.specs.declared.words.OrderWord.TheVariants.{Quit, Uci, IsReady, Position}
+use Rattle.driver_lines.specs.declared.words.OrderWord.TheVariants.{Go, Stop, PonderHit, Other}
 
 abbrev pub ordered_in : List ℕ → OrderWord
 ordered_in word =

@@ -11,12 +11,14 @@ use Rattle.driver_runner.specs.declared.driving.Driving.{Driving}
 use Rattle.driver_runner.specs.Drives.{drives}
 use Rattle.driver_runner.specs.Recorded.{Recorded, IsWhole}
 
--- What was read and written is that of one run of a new driver, whose turns are those of its script.
+-- What was read and written is that of one run of a new driver, whose turns
+-- are those of its script.
 pub record Driven (before after : Outside) (failures : Failures) : Type 0 where
   pub driving : Driving
   pub mediated : Mediated drives driving [] before after failures
   -- what the books say of the events that the driver took
-  pub recorded : Recorded (events_of_turns mediated.ran.looped.turns) mediated.ran.looped.did.states (sent_by peers.Engine mediated.ran.later) before.books after.books failures
+  pub recorded : Recorded (events_of_turns mediated.ran.looped.turns) mediated.ran.looped.did.states
+      (sent_by peers.Engine mediated.ran.later) before.books after.books failures
 
 -- what a run leaves, whether an engine was started or not
 pub record Leaves (before after : Outside) (failures : Failures) : Type 0 where

@@ -21,19 +21,21 @@ use Rattle.mediator_host.specs.Recorded.{RecordedAs}
 use Rattle.driver_runner.specs.Told.{without_long}
 
 -- The peer's events among these are all that arrived from it, except long lines.
-pub record ComeFrom (p : Peer) (before after : Supplied) (events : List Event) (end : ReadEnd) : Type 0 where
+pub record ComeFrom (p : Peer) (before after : Supplied) (events : List Event)
+    (end : ReadEnd) : Type 0 where
   pub arrived : List Event
   pub did_arrive : Arrived p before after arrived end
   pub are : sent_by p events ≡ without_long arrived
 
--- What the books say of a run in which a new driver took these events, and was this after each, if the host tells its
--- bytes: the log is their script, and the engine took the driver's lines. This arrived of the engine.
+-- What the books say of a run in which a new driver took these events, and was this after each,
+-- if the host tells its bytes: the log is their script, and the engine took the driver's lines.
+-- This arrived of the engine.
 abbrev pub Recorded : List Event → List DriverParts → List Event → Books → Books → Failures → Type 0
 Recorded events states arrived before after failures =
     RecordedAs (script_text events states) (lines_down states) arrived before after failures
 
--- A run in which nothing failed, over a host that tells its bytes, whose engine says these: a new driver took the events of
--- both sides' bytes.
+-- A run in which nothing failed, over a host that tells its bytes, whose engine says these: a new
+-- driver took the events of both sides' bytes.
 pub record IsWhole (bytes : List ℕ) (before after : Outside) : Type 0 where
   pub events : List Event
   pub states : List DriverParts
@@ -41,9 +43,12 @@ pub record IsWhole (bytes : List ℕ) (before after : Outside) : Type 0 where
   pub sound : IsSound events states
   -- the log's bytes are the script of the events
   pub log : after.books.logs ≡ Some (script_text events states) ∷ []
-  -- which are those of the bytes that both sides gave, except long lines: the engine all that it says
-  pub engine : sent_by peers.Engine events ≡ without_long (arrivals peers.Engine (items line_limit bytes))
+  -- which are those of the bytes that both sides gave, except long lines:
+  -- the engine all that it says
+  pub engine :
+      sent_by peers.Engine events ≡ without_long (arrivals peers.Engine (items line_limit bytes))
   pub iface : ComeFrom peers.Iface before.input after.input events read_ends.Done
   -- both sides took the driver's lines, and no byte of the engine is left
-  pub run : after.books.runs ≡ record { given = Some bytes; left = Some []; taken = Some (lines_down states) } ∷ []
+  pub run : after.books.runs
+      ≡ record { given = Some bytes; left = Some []; taken = Some (lines_down states) } ∷ []
   pub output : Appends before.output.taken after.output.taken (lines_up states)

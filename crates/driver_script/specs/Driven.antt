@@ -16,8 +16,8 @@ use Rattle.cecp_driver.specs.Runs.{IsScript}
 use Rattle.driver_script.specs.Scripts.{IsDriven, IsFault, drives}
 use Rattle.line_io.specs.declared.limits.TheConstants.{SCRIPT_LINE}
 
--- All of the input was read, its lines are marks of events that may come and of written lines, and the script of a
--- driver that takes these events was written.
+-- All of the input was read, its lines are marks of events that may come and of written lines, and
+-- the script of a driver that takes these events was written.
 pub record AllDriven (before after : Streams) : Type 0 where
   pub got : List ℕ
   pub reads : Got before after got
@@ -26,8 +26,8 @@ pub record AllDriven (before after : Streams) : Type 0 where
   pub driven : IsDriven (items SCRIPT_LINE got) text
   pub written : Appends before.output.taken after.output.taken text
 
--- The first line that has no mark, or whose event may not come, was reported, and the script of the lines before it
--- was written.
+-- The first line that has no mark, or whose event may not come, was reported, and the script of the
+-- lines before it was written.
 pub record FaultReported (before after : Streams) : Type 0 where
   pub fault : Ending
   pub told : Appends before.diag.taken after.diag.taken (diagnostic fault)
@@ -56,14 +56,15 @@ pub record FrontDriven (before after : Streams) : Type 0 where
   pub front : ℕ
   pub written : Appends before.output.taken after.output.taken (take front text)
 
--- An input of fewer than 2^32 bytes is driven to its end or to its first fault, or there was no memory.
+-- An input of fewer than 2^32 bytes is driven to its end or to its first
+-- fault, or there was no memory.
 abbrev pub Completes : Streams → Streams → ℕ → Type 0
 Completes before after code =
     (x : List ℕ) → before.input.left ≡ Some x → length x < 2 ^ 32 → IsSteady before after
     → ((code ≡ 0) × AllDriven before after) ⊎ ((code ≡ 2) × FaultReported before after) ⊎ (code ≡ 3)
 
--- An input whose lines have no fault, and whose script is this, is driven to its end, and the script is written; or there was no
--- memory.
+-- An input whose lines have no fault, and whose script is this, is driven to its end, and the
+-- script is written; or there was no memory.
 abbrev pub PlaysAll : Streams → Streams → ℕ → Type 0
 PlaysAll before after code =
     (x text : List ℕ) → before.input.left ≡ Some x → length x < 2 ^ 32
@@ -86,7 +87,8 @@ pub record Driven (Untouched : Type 0) (before after : Streams) (code : ℕ) : T
   pub no_other : code ≡ 1 → ⊥
   pub fault_reported : code ≡ 2 → FaultReported before after
   pub memory : code ≡ 3 → Untouched
-  pub reading_failed : code ≡ 4 → Rose before.input.faults after.input.faults × WholeDriven 0 before after
+  pub reading_failed : code ≡ 4
+      → Rose before.input.faults after.input.faults × WholeDriven 0 before after
   pub writing_failed : code ≡ 5 → WritingBroke before after × (Untouched ⊎ FrontDriven before after)
   pub too_long : code ≡ 6 → WholeDriven (2 ^ 32) before after
   -- which status comes

@@ -1,5 +1,6 @@
 -- What a driver makes of the lines of a script.
-use Rattle.std.specs.Prelude.{◌≡◌, ℕ, ◌+◌, List, [], ◌∷◌, ◌++◌, length, true, false, Option, Some, None, is_some}
+use Rattle.std.specs.Prelude.{◌≡◌, ℕ, ◌+◌, List, [], ◌∷◌, ◌++◌, length}
+use Rattle.std.specs.Prelude.{true, false, Option, Some, None, is_some}
 use Rattle.std.specs.List.{flat_map, AllByRecursion}
 use Rattle.line_io.specs.Event.{Event}
 use Rattle.line_io.specs.Lines.{Piece, Whole, TooLong}
@@ -27,7 +28,8 @@ event_in mark = []
 abbrev pub events_of : List Piece → List Event
 events_of lines = flat_map (λ line. event_in (mark_in line)) lines
 
--- Each of these lines is a mark, each event may come, and this is the script of a driver that takes them.
+-- Each of these lines is a mark, each event may come, and this is the script of
+-- a driver that takes them.
 pub record IsDriven (lines : List Piece) (text : List ℕ) : Type 0 where
   pub marked : AllByRecursion (λ line. is_some (mark_in line) ≡ true) lines
   pub script : IsScript (events_of lines) text
@@ -40,7 +42,8 @@ now_of driven = last_of opening driven.script.after
 abbrev pub IsWrong : DriverParts → Piece → ℕ → Ending → Type 0
 IsWrong v line number (endings.NoMark n) = (n ≡ number) × (mark_in line ≡ None)
 IsWrong v line number (endings.MayNotCome n) =
-    (n ≡ number) × ((event : Event) × ((mark_in line ≡ Some (Happens event)) × (may_come v event ≡ false)))
+    (n ≡ number)
+    × ((event : Event) × ((mark_in line ≡ Some (Happens event)) × (may_come v event ≡ false)))
 IsWrong v line number ending = ⊥
 
 -- The last of these lines is a fault, and those before it are none, of which this is the script.
@@ -55,7 +58,8 @@ pub record IsFault (lines : List Piece) (fault : Ending) (text : List ℕ) : Typ
 
 -- The event was taken and its marks were put, or it may not come and nothing was put.
 abbrev pub Tries : ℕ → Event → Option Ending → DriverParts → DriverParts → Text → Text → Type 0
-Tries number event None v v' held held' = Takes event v v' × (held' ≡ with held (given_marks event v'))
+Tries number event None v v' held held' =
+    Takes event v v' × (held' ≡ with held (given_marks event v'))
 Tries number event (Some ending) v v' held held' =
     (ending ≡ endings.MayNotCome number) × ((may_come v event ≡ false) × (held' ≡ held))
 

@@ -1,5 +1,6 @@
 -- Laws of every list of calls. The lists have the newest call first.
-use Rattle.std.specs.Prelude.{ℕ, ◌≡◌, ◌+◌, ◌⊎◌, if◌then◌else◌, Bool, true, false, not, ◌&&◌, ◌||◌, List, [], ◌∷◌, Option, Some, None, IsSome}
+use Rattle.std.specs.Prelude.{ℕ, ◌≡◌, ◌+◌, ◌⊎◌, if◌then◌else◌, Bool, true, false, not}
+use Rattle.std.specs.Prelude.{◌&&◌, ◌||◌, List, [], ◌∷◌, Option, Some, None, IsSome}
 use Rattle.std.specs.Option.{option_or}
 use Rattle.chess_board.specs.declared.board.Move.{Move}
 use Rattle.peer_words.specs.declared.kinds.GoKind.{GoKind}
@@ -14,7 +15,8 @@ use Rattle.driver_talk.specs.declared.talk.DriverTalk.{DriverTalk}
 use Rattle.driver_talk.specs.declared.talk.Reach.TheVariants as reaches
 use Rattle.driver_talk.specs.declared.talk.DriverCall.{DriverCall}
 use Rattle.driver_talk.specs.declared.talk.DriverCall.TheVariants as calls
-use Rattle.driver_talk.specs.Talk.{first_talk, turn_of, quiet, is_free, is_thinking, is_awaited, open_search, is_open_stage}
+use Rattle.driver_talk.specs.Talk.{first_talk, turn_of, quiet, is_free, is_thinking}
+use Rattle.driver_talk.specs.Talk.{is_awaited, open_search, is_open_stage}
 
 -- the talk after these calls
 abbrev pub run : List DriverCall → DriverTalk
@@ -52,8 +54,8 @@ abbrev pub open_count : Option OpenSearch → ℕ
 open_count None = 0
 open_count (Some s) = 1
 
--- Each accepted `go` has its one `bestmove`, except the one that is open. This holds after each call, so no
--- `bestmove` comes before its `go`, and none twice.
+-- Each accepted `go` has its one `bestmove`, except the one that is open. This holds after each
+-- call, so no `bestmove` comes before its `go`, and none twice.
 abbrev pub AnsweredOnce : Type 0
 AnsweredOnce = (cs : List DriverCall) → gos cs ≡ answers cs + open_count (run cs).search
 
@@ -79,11 +81,13 @@ less_pong c t ping = ping
 -- the ping that was written last, if its pong has not come since
 abbrev pub unanswered_ping : List DriverCall → Option ℕ
 unanswered_ping [] = None
-unanswered_ping (c ∷ cs) = option_or (written_ping (deed_after cs c).down) (less_pong c (run cs) (unanswered_ping cs))
+unanswered_ping (c ∷ cs) =
+    option_or (written_ping (deed_after cs c).down) (less_pong c (run cs) (unanswered_ping cs))
 
 -- A ping that is awaited was written, and none after it.
 abbrev pub AwaitedWasWritten : Type 0
-AwaitedWasWritten = (cs : List DriverCall) (n : ℕ) → (run cs).awaited ≡ Some n → last_ping cs ≡ Some n
+AwaitedWasWritten =
+    (cs : List DriverCall) (n : ℕ) → (run cs).awaited ≡ Some n → last_ping cs ≡ Some n
 
 -- A ping is awaited as long as its pong has not come.
 abbrev pub AwaitedIsUnanswered : Type 0
@@ -99,7 +103,9 @@ tells_to_think down = false
 -- The engine was set to think since the last `bestmove`.
 abbrev pub has_thinking_search : List DriverCall → Bool
 has_thinking_search [] = false
-has_thinking_search (c ∷ cs) = if is_answer (deed_after cs c).up then false else tells_to_think (deed_after cs c).down || has_thinking_search cs
+has_thinking_search (c ∷ cs) =
+    if is_answer (deed_after cs c).up then false
+    else tells_to_think (deed_after cs c).down || has_thinking_search cs
 
 abbrev pub is_open : Option OpenSearch → Bool
 is_open None = false
@@ -131,10 +137,12 @@ goes_on kinds.Move stopped hit = false
 goes_on kinds.Ponder stopped hit = not stopped && not hit
 goes_on kinds.Analyse stopped hit = not stopped
 
--- An open search is one whose engine was set to think, an analysis that goes on, or one that waits for a ping whose pong has
--- not come.
+-- An open search is one whose engine was set to think, an analysis that goes on, or one that waits
+-- for a ping whose pong has not come.
 abbrev pub IsBusy : List DriverCall → OpenSearch → Type 0
-IsBusy cs s = (has_thinking_search cs ≡ true) ⊎ ((goes_on s.kind (stopped cs) (hit cs) ≡ true) ⊎ IsSome (unanswered_ping cs))
+IsBusy cs s =
+    (has_thinking_search cs ≡ true)
+    ⊎ ((goes_on s.kind (stopped cs) (hit cs) ≡ true) ⊎ IsSome (unanswered_ping cs))
 
 abbrev pub OpenIsBusy : Type 0
 OpenIsBusy = (cs : List DriverCall) (s : OpenSearch) → (run cs).search ≡ Some s → IsBusy cs s
@@ -143,11 +151,15 @@ OpenIsBusy = (cs : List DriverCall) (s : OpenSearch) → (run cs).search ≡ Som
 
 -- A `move`, a resignation or a result outside of thinking gives and changes nothing.
 abbrev pub MovesAreIgnored : Type 0
-MovesAreIgnored = (t : DriverTalk) (shown : Option Move) → is_thinking t ≡ false → (turn_of t (calls.Moved shown) ≡ quiet t) × (turn_of t calls.Resigned ≡ quiet t)
+MovesAreIgnored =
+    (t : DriverTalk) (shown : Option Move) → is_thinking t ≡ false
+    → (turn_of t (calls.Moved shown) ≡ quiet t) × (turn_of t calls.Resigned ≡ quiet t)
 
--- why there is no move: no position can be searched, the engine's move is illegal, it gave up, or it ended
+-- why there is no move: no position can be searched, the engine's move is
+-- illegal, it gave up, or it ended
 abbrev pub HasNoMove : DriverTalk → DriverCall → Type 0
-HasNoMove t (calls.Go w) = (is_free t ≡ true) × ((w.first ≡ None) ⊎ ((t.gone ≡ true) ⊎ (w.reach ≡ reaches.Nothing)))
+HasNoMove t (calls.Go w) =
+    (is_free t ≡ true) × ((w.first ≡ None) ⊎ ((t.gone ≡ true) ⊎ (w.reach ≡ reaches.Nothing)))
 HasNoMove t (calls.Moved None) = is_thinking t ≡ true
 HasNoMove t calls.Resigned = is_thinking t ≡ true
 HasNoMove t calls.Ended = is_open (open_search t) ≡ true
@@ -155,7 +167,8 @@ HasNoMove t c = ⊥
 
 -- `bestmove 0000` comes only so.
 abbrev pub NoMoveHasCause : Type 0
-NoMoveHasCause = (t : DriverTalk) (c : DriverCall) → (turn_of t c).deed.up ≡ ups.Best None → HasNoMove t c
+NoMoveHasCause =
+    (t : DriverTalk) (c : DriverCall) → (turn_of t c).deed.up ≡ ups.Best None → HasNoMove t c
 
 -- PONGS
 
@@ -171,4 +184,6 @@ IsAnswered (Some ping) c = ⊥
 
 -- The engine is set to think or to analyse only if no ping is awaited, or by the pong.
 abbrev pub PongsComeFirst : Type 0
-PongsComeFirst = (t : DriverTalk) (c : DriverCall) → begins_search (turn_of t c).deed.down ≡ true → IsAnswered t.awaited c
+PongsComeFirst =
+    (t : DriverTalk) (c : DriverCall) → begins_search (turn_of t c).deed.down ≡ true
+    → IsAnswered t.awaited c

@@ -1,5 +1,6 @@
 -- What comes of each call.
-use Rattle.std.specs.Prelude.{ℕ, ◌+◌, nat_lt, ◌==◌, if◌then◌else◌, Bool, true, false, ◌&&◌, Option, Some, None}
+use Rattle.std.specs.Prelude.{ℕ, ◌+◌, nat_lt, ◌==◌, if◌then◌else◌, Bool}
+use Rattle.std.specs.Prelude.{true, false, ◌&&◌, Option, Some, None}
 use Rattle.chess_board.specs.declared.board.Move.{Move}
 use Rattle.peer_words.specs.declared.kinds.GoKind.{GoKind}
 use Rattle.peer_words.specs.declared.kinds.GoKind.TheVariants as kinds
@@ -9,7 +10,8 @@ use Rattle.driver_talk.specs.declared.words.OpenSearch.{OpenSearch}
 use Rattle.driver_talk.specs.declared.words.AfterAnalysis.{AfterAnalysis}
 use Rattle.driver_talk.specs.declared.words.AfterAnalysis.TheVariants.{Answer, Play}
 use Rattle.driver_talk.specs.declared.words.Phase.{Phase}
-use Rattle.driver_talk.specs.declared.words.Phase.TheVariants.{Thinks, Analyses, Rests, Leaves, WaitsToThink, WaitsToAnalyse}
+use Rattle.driver_talk.specs.declared.words.Phase.TheVariants.{Thinks, Analyses, Rests, Leaves}
+use Rattle.driver_talk.specs.declared.words.Phase.TheVariants.{WaitsToThink, WaitsToAnalyse}
 use Rattle.driver_talk.specs.declared.words.ToIface.{ToIface}
 use Rattle.driver_talk.specs.declared.words.ToIface.TheVariants as ups
 use Rattle.driver_talk.specs.declared.words.ToEngine.{ToEngine}
@@ -46,13 +48,26 @@ abbrev pub next_ping : ℕ → ℕ
 next_ping last = if nat_lt last LAST_PING then last + 1 else 1
 
 abbrev pub pinged : DriverTalk → DriverTalk
-pinged t = record { stage = t.stage; gone = t.gone; awaited = Some (next_ping t.pings); pings = next_ping t.pings; search = t.search }
+pinged t = record {
+  stage = t.stage;
+  gone = t.gone;
+  awaited = Some (next_ping t.pings);
+  pings = next_ping t.pings;
+  search = t.search;
+}
 
 abbrev pub with_search : DriverTalk → Option OpenSearch → DriverTalk
-with_search t search = record { stage = t.stage; gone = t.gone; awaited = t.awaited; pings = t.pings; search = search }
+with_search t search = record {
+  stage = t.stage;
+  gone = t.gone;
+  awaited = t.awaited;
+  pings = t.pings;
+  search = search;
+}
 
 abbrev pub at_phase : DriverTalk → OpenSearch → Phase → DriverTalk
-at_phase t s phase = with_search t (Some (record { kind = s.kind; clocks = s.clocks; kept = s.kept; phase = phase }))
+at_phase t s phase =
+    with_search t (Some (record { kind = s.kind; clocks = s.clocks; kept = s.kept; phase = phase }))
 
 abbrev pub closed : DriverTalk → DriverTalk
 closed t = with_search t None
@@ -83,7 +98,13 @@ abbrev pub unless_gone : Bool → ToEngine → ToEngine
 unless_gone gone down = if gone then downs.Nothing else down
 
 abbrev pub at_stage : DriverTalk → DriverStage → DriverTalk
-at_stage t stage = record { stage = stage; gone = t.gone; awaited = t.awaited; pings = t.pings; search = t.search }
+at_stage t stage = record {
+  stage = stage;
+  gone = t.gone;
+  awaited = t.awaited;
+  pings = t.pings;
+  search = t.search;
+}
 
 abbrev pub quit_at : DriverTalk → DriverStage → DriverTurn
 quit_at t stages.Over = quiet t
@@ -94,7 +115,8 @@ abbrev pub after_quit : DriverTalk → DriverTurn
 after_quit t = quit_at t t.stage
 
 abbrev pub uci_at : DriverTalk → DriverStage → DriverTurn
-uci_at t stages.Fresh = give (at_stage t stages.Open) ups.Nothing (unless_gone t.gone downs.Greeting)
+uci_at t stages.Fresh =
+    give (at_stage t stages.Open) ups.Nothing (unless_gone t.gone downs.Greeting)
 uci_at t stage = quiet t
 
 -- `uci` is accepted once
@@ -155,7 +177,8 @@ after_go t w = if is_free t then after_begin t w else quiet t
 
 -- `exit` and a ping are written
 abbrev pub left : DriverTalk → OpenSearch → AfterAnalysis → DriverTurn
-left t s next = give (at_phase (pinged t) s (Leaves next)) ups.Nothing (downs.Leave (next_ping t.pings))
+left t s next =
+    give (at_phase (pinged t) s (Leaves next)) ups.Nothing (downs.Leave (next_ping t.pings))
 
 abbrev pub stopped : DriverTalk → OpenSearch → Phase → DriverTurn
 stopped t s (Thinks false) = give (at_phase t s (Thinks true)) ups.Nothing downs.Hurry
@@ -215,21 +238,35 @@ is_thinking t = thinks_in (open_search t)
 abbrev pub after_moved : DriverTalk → Option Move → DriverTurn
 after_moved t shown =
     if is_thinking t
-    then record { talk = closed t; deed = record { up = ups.Best shown; down = downs.Nothing; board = board_of shown } }
+    then record {
+      talk = closed t;
+      deed = record { up = ups.Best shown; down = downs.Nothing; board = board_of shown };
+    }
     else quiet t
 
 abbrev pub after_resigned : DriverTalk → DriverTurn
 after_resigned t =
     if is_thinking t
-    then record { talk = pinged (closed t); deed = record { up = ups.Best None; down = downs.Retreat (next_ping t.pings); board = boards.Lost } }
+    then record {
+      talk = pinged (closed t);
+      deed = record {
+        up = ups.Best None;
+        down = downs.Retreat (next_ping t.pings);
+        board = boards.Lost;
+      };
+    }
     else quiet t
 
 abbrev pub resumed : DriverTalk → OpenSearch → Phase → DriverTurn
 resumed t s (Leaves Answer) = give (closed t) (ups.Best (Some s.kept)) downs.Nothing
 resumed t s (Leaves Play) = give (at_phase t s (Thinks false)) ups.Nothing (downs.Resume s.clocks)
-resumed t s (WaitsToThink hurried) = give (at_phase t s (Thinks hurried)) ups.Nothing (downs.Play s.clocks hurried)
-resumed t s (WaitsToAnalyse None) = give (at_phase t s Analyses) ups.Nothing (downs.Analyse s.clocks None)
-resumed t s (WaitsToAnalyse (Some next)) = give (at_phase (pinged t) s (Leaves next)) ups.Nothing (downs.Analyse s.clocks (Some (next_ping t.pings)))
+resumed t s (WaitsToThink hurried) =
+    give (at_phase t s (Thinks hurried)) ups.Nothing (downs.Play s.clocks hurried)
+resumed t s (WaitsToAnalyse None) =
+    give (at_phase t s Analyses) ups.Nothing (downs.Analyse s.clocks None)
+resumed t s (WaitsToAnalyse (Some next)) =
+    give (at_phase (pinged t) s (Leaves next)) ups.Nothing
+    (downs.Analyse s.clocks (Some (next_ping t.pings)))
 resumed t s phase = quiet t
 
 abbrev pub resume_in : Option OpenSearch → DriverTalk → DriverTurn
@@ -241,7 +278,13 @@ is_awaited None n = false
 is_awaited (Some ping) n = ping == n
 
 abbrev pub without_awaited : DriverTalk → DriverTalk
-without_awaited t = record { stage = t.stage; gone = t.gone; awaited = None; pings = t.pings; search = t.search }
+without_awaited t = record {
+  stage = t.stage;
+  gone = t.gone;
+  awaited = None;
+  pings = t.pings;
+  search = t.search;
+}
 
 abbrev pub is_open_stage : DriverStage → Bool
 is_open_stage stages.Open = true
@@ -249,15 +292,20 @@ is_open_stage stages.Fresh = false
 is_open_stage stages.Over = false
 
 abbrev pub after_pong : DriverTalk → ℕ → DriverTurn
-after_pong t n = if is_open_stage t.stage && is_awaited t.awaited n then resume_in t.search (without_awaited t) else quiet t
+after_pong t n =
+    if is_open_stage t.stage && is_awaited t.awaited n then resume_in t.search (without_awaited t)
+    else quiet t
 
 abbrev pub better : OpenSearch → Move → OpenSearch
 better s m = record { kind = s.kind; clocks = s.clocks; kept = m; phase = s.phase }
 
 abbrev pub kept : DriverTalk → OpenSearch → Phase → Thought → DriverTurn
-kept t s (Thinks hurried) thought = give (at_phase t (better s thought.best) (Thinks hurried)) (ups.Info thought) downs.Nothing
-kept t s Analyses thought = give (at_phase t (better s thought.best) Analyses) (ups.Info thought) downs.Nothing
-kept t s Rests thought = give (at_phase t (better s thought.best) Rests) (ups.Info thought) downs.Nothing
+kept t s (Thinks hurried) thought =
+    give (at_phase t (better s thought.best) (Thinks hurried)) (ups.Info thought) downs.Nothing
+kept t s Analyses thought =
+    give (at_phase t (better s thought.best) Analyses) (ups.Info thought) downs.Nothing
+kept t s Rests thought =
+    give (at_phase t (better s thought.best) Rests) (ups.Info thought) downs.Nothing
 kept t s phase thought = quiet t
 
 abbrev pub thought_in : Option OpenSearch → DriverTalk → Thought → DriverTurn
@@ -268,7 +316,13 @@ abbrev pub after_thought : DriverTalk → Thought → DriverTurn
 after_thought t thought = thought_in (open_search t) t thought
 
 abbrev pub without_engine : DriverTalk → DriverTalk
-without_engine t = record { stage = t.stage; gone = true; awaited = t.awaited; pings = t.pings; search = t.search }
+without_engine t = record {
+  stage = t.stage;
+  gone = true;
+  awaited = t.awaited;
+  pings = t.pings;
+  search = t.search;
+}
 
 abbrev pub ended_in : Option OpenSearch → DriverTalk → DriverTurn
 ended_in None t = quiet t

@@ -63,7 +63,8 @@ SearchesHeld o ordered taken (s ∷ ss) =
 -- RUNS
 
 -- What was written to the engine for an event, and what it has taken before and after.
-pub record Hears (o : Settings) (event : Event) (v v' : DriverParts) (taken taken' : List Event) : Type 0 where
+pub record Hears (o : Settings) (event : Event) (v v' : DriverParts)
+    (taken taken' : List Event) : Type 0 where
   pub spoken : List Spoken
   pub written : v'.down.text ≡ spoken_text spoken
   pub spelled : AllByRecursion IsSpelled spoken

@@ -1,5 +1,6 @@
 -- The lines to an engine as an engine reads them: messages of CECP.
-use Rattle.std.specs.Prelude.{◌≡◌, ℕ, pos, ◌*◌, ◌/◌, ◌%◌, List, [], ◌∷◌, ◌++◌, codes, decimal, false, Result, Ok, Err}
+use Rattle.std.specs.Prelude.{◌≡◌, ℕ, pos, ◌*◌, ◌/◌, ◌%◌, List, [], ◌∷◌}
+use Rattle.std.specs.Prelude.{◌++◌, codes, decimal, false, Result, Ok, Err}
 use Rattle.line_io.specs.Event.{has_feed}
 use Rattle.chess_board.specs.declared.board.Move.{Move}
 use Rattle.chess_board.specs.Position.{Position}
@@ -12,7 +13,10 @@ use Rattle.game_record.specs.Line.{ply_text}
 use Rattle.cecp_lines.specs.Messages.{IfaceMsg}
 use Rattle.cecp_lines.specs.Messages as says
 use Rattle.cecp_lines.specs.Reading.{Spells}
-use Rattle.driver_lines.specs.Lines.{DownLine, XBoard, Protover, Quit, New, Force, Post, SetBoard, Played, St, Level, Time, Otim, Sd, Go, Analyze, Hurry, Exit, Ping, Accepted, Rejected, line_with_feed, line_text, move_text, two_digits}
+use Rattle.driver_lines.specs.Lines.{DownLine, XBoard, Protover, Quit, New, Force, Post}
+use Rattle.driver_lines.specs.Lines.{SetBoard, Played, St, Level, Time, Otim, Sd, Go}
+use Rattle.driver_lines.specs.Lines.{Analyze, Hurry, Exit, Ping, Accepted, Rejected}
+use Rattle.driver_lines.specs.Lines.{line_with_feed, line_text, move_text, two_digits}
 use Rattle.cecp_driver.specs.EngineGame.{set_by}
 use Rattle.cecp_driver.specs.Said.{CanBeSaid}
 use Rattle.peer_words.specs.declared.numbers.TheConstants.{SECOND}
@@ -29,7 +33,8 @@ bare_text (SetBoard p) = codes "setboard " ++ position_fen p
 bare_text (Played has_usermove m) = move_text has_usermove (ply_text m)
 bare_text (St seconds) = codes "st " ++ decimal seconds
 bare_text (Level moves seconds increment) =
-    codes "level " ++ decimal moves ++ codes " " ++ decimal (seconds / 60) ++ codes ":" ++ two_digits (seconds % 60) ++ codes " " ++ decimal increment
+    codes "level " ++ decimal moves ++ codes " " ++ decimal (seconds / 60) ++ codes ":"
+    ++ two_digits (seconds % 60) ++ codes " " ++ decimal increment
 bare_text (Time centis) = codes "time " ++ decimal centis
 bare_text (Otim centis) = codes "otim " ++ decimal centis
 bare_text (Sd plies) = codes "sd " ++ decimal plies
@@ -48,10 +53,13 @@ IsMessage Quit msg = msg ≡ says.Quit
 IsMessage New msg = msg ≡ says.New
 IsMessage Force msg = msg ≡ says.Force
 IsMessage Post msg = msg ≡ says.Post
-IsMessage (SetBoard p) msg = (text : List ℕ) × ((msg ≡ says.SetBoard text) × (position_of text ≡ Ok p))
-IsMessage (Played has_usermove m) msg = (move : Move) × ((ply_of move ≡ m) × (msg ≡ says.UserMove move))
+IsMessage (SetBoard p) msg =
+    (text : List ℕ) × ((msg ≡ says.SetBoard text) × (position_of text ≡ Ok p))
+IsMessage (Played has_usermove m) msg =
+    (move : Move) × ((ply_of move ≡ m) × (msg ≡ says.UserMove move))
 IsMessage (St seconds) msg = msg ≡ says.St (seconds * SECOND)
-IsMessage (Level moves seconds increment) msg = msg ≡ says.Level moves (seconds * SECOND) (increment * SECOND)
+IsMessage (Level moves seconds increment) msg =
+    msg ≡ says.Level moves (seconds * SECOND) (increment * SECOND)
 IsMessage (Time centis) msg = msg ≡ says.Time (pos centis)
 IsMessage (Otim centis) msg = msg ≡ says.Otim (pos centis)
 IsMessage (Sd plies) msg = msg ≡ says.Sd plies
@@ -73,8 +81,8 @@ game_by g (says.SetBoard text) = at_position g (position_of text)
 game_by g (says.UserMove m) = with_ply g (ply_of m)
 game_by g msg = g
 
--- A line, its text and its message: the text is one line, that spells the message, and the message does to each game what the
--- line does.
+-- A line, its text and its message: the text is one line, that spells the message, and the message
+-- does to each game what the line does.
 pub record IsCecp (line : DownLine) (msg : IfaceMsg) : Type 0 where
   pub whole : line_text line ≡ line_with_feed (bare_text line)
   pub no_feed : has_feed (bare_text line) ≡ false

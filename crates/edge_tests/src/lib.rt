@@ -1,4 +1,5 @@
-//! Sources, sinks, the channel and the scripted engine, over bytes in memory.
+//! Sources, sinks, the channel, words, hosts and the scripted engine, over bytes in memory; and hosts
+//! over real programs.
 #![tactic(auto)]
 
 #[cfg(test)]

@@ -27,7 +27,8 @@ const NOTHING: Given = Given {
     end: ReadEnd::Done,
 };
 
-/// What the engine gives, then the interface, and the events of both.
+/// What the engine and the interface give, and the events of both, of which those of the interface
+/// come first.
 type Row = (Given, Given, &'static [Event<'static>]);
 
 const ROWS: [Row; 3] = [
@@ -44,11 +45,11 @@ const ROWS: [Row; 3] = [
             ..NOTHING
         },
         &[
+            Event::Iface(b"ping 1"),
+            Event::Iface(b"quit"),
             Event::Engine(b"uciok"),
             Event::Engine(b"best"),
             Event::EngineEnd,
-            Event::Iface(b"ping 1"),
-            Event::Iface(b"quit"),
         ],
     ),
     // the line that was not read to its end is not sent
@@ -60,7 +61,7 @@ const ROWS: [Row; 3] = [
             end: ReadEnd::Fault(ReadFault),
             ..NOTHING
         },
-        &[Event::EngineEnd, Event::Iface(b"xboard"), Event::IfaceEnd],
+        &[Event::Iface(b"xboard"), Event::IfaceEnd, Event::EngineEnd],
     ),
     // a line of 65,537 bytes, and an empty one
     (
@@ -72,10 +73,10 @@ const ROWS: [Row; 3] = [
         },
         NOTHING,
         &[
+            Event::IfaceEnd,
             Event::EngineLong,
             Event::Engine(b""),
             Event::EngineEnd,
-            Event::IfaceEnd,
         ],
     ),
 ];
@@ -113,8 +114,8 @@ fn take_all(rt: &(impl Abort + Wait), taker: &mut PipeTake, events: &[Event], ro
 fn lines_arrive_in_order(rt: HostRuntime) {
     for (row, (engine, iface, events)) in ROWS.iter().enumerate() {
         let (mut input, mut child, mut taker) = Pipe::make(rt.alloc()).expect(&rt, "a channel");
-        send(&rt, rt.alloc(), engine, &mut child);
         send(&rt, rt.alloc(), iface, &mut input);
+        send(&rt, rt.alloc(), engine, &mut child);
         take_all(&rt, &mut taker, events, row);
         Pipe::finish(input, child, taker);
     }

@@ -1,12 +1,14 @@
 -- The order that a line is.
-use Rattle.std.specs.Prelude.{ℕ, List, [], ◌∷◌, codes, Bool, true, false, if◌then◌else◌, Option, Some, None}
+use Rattle.std.specs.Prelude.{ℕ, List, [], ◌∷◌, codes, Bool, true}
+use Rattle.std.specs.Prelude.{false, if◌then◌else◌, Option, Some, None}
 use Rattle.peer_words.specs.Tokens.{tokens, trimmed}
 use Rattle.uci_lines.specs.Cuts.{is_word}
 use Rattle.uci_lines.specs.Orders.{Order as OwnOrder}
 use Rattle.uci_lines.specs.OrderReading.{order_in as own_order_in}
 use Rattle.uci_talk.specs.Kinds.{has_word, kind_asked}
 use Rattle.uci_talk.specs.Lines.{Line, line_of}
-use Rattle.engine_revival.specs.Orders.{RevivalOrder, Uci, IsReady, NewGame, Stop, PonderHit, Quit, Value, Button, Position, Go, name_in}
+use Rattle.engine_revival.specs.Orders.{RevivalOrder, Uci, IsReady, NewGame, Stop, PonderHit}
+use Rattle.engine_revival.specs.Orders.{Quit, Value, Button, Position, Go, name_in}
 
 -- an order of one word
 abbrev pub word_asked : List ℕ → Option RevivalOrder
@@ -18,7 +20,8 @@ word_asked line =
     else (if is_word (codes "ponderhit") line then Some PonderHit
     else (if is_word (codes "quit") line then Some Quit else None)))))
 
--- a setting of the option that these tokens name, with a value if one of them after the first is `value`
+-- a setting of the option that these tokens name, with a value if one of them
+-- after the first is `value`
 abbrev pub setting_of : Bool → List (List ℕ) → List ℕ → RevivalOrder
 setting_of true ts line = Value (name_in ts) line
 setting_of false ts line = Button (name_in ts) line
@@ -33,7 +36,8 @@ abbrev pub setting_asked : List (List ℕ) → List ℕ → Option RevivalOrder
 setting_asked [] line = None
 setting_asked (t ∷ ts) line = if is_word (codes "name") t then setting_after_name ts line else None
 
--- A `position` is one in the spelling that the bridge writes, or one that says a position and moves that are legal in their turn.
+-- A `position` is one in the spelling that the bridge writes, or one that says a position and moves
+-- that are legal in their turn.
 abbrev pub position_asked : Option OwnOrder → Option Line → List ℕ → Option RevivalOrder
 position_asked (Some own) said line = Some (Position line)
 position_asked None (Some said) line = Some (Position line)
@@ -44,7 +48,8 @@ abbrev pub asked_by : List (List ℕ) → List ℕ → Option RevivalOrder
 asked_by [] line = None
 asked_by (t ∷ ts) line =
     if is_word (codes "setoption") t then setting_asked ts line
-    else (if is_word (codes "position") t then position_asked (own_order_in line) (line_of line) line
+    else (if is_word (codes "position") t
+    then position_asked (own_order_in line) (line_of line) line
     else (if is_word (codes "go") t then Some (Go (kind_asked line) line) else word_asked line))
 
 -- the order that a line without white space at its ends is, if it is one

@@ -6,7 +6,10 @@ use Rattle.engine_revival.specs.declared.words.LifeState.TheVariants as life
 use Rattle.engine_revival.specs.declared.state.RevivalState.{RevivalState}
 use Rattle.engine_revival.specs.Dialogue.{said_in}
 use Rattle.engine_revival.specs.Lists.{batch_text}
-use Rattle.engine_revival.specs.Steps.{state_after_line, at_once, state_once_heard, line_passed_up, state_once_ended, state_at_new_life, first_order, state_once_over, is_alive, is_ended, may_begin, state_once_settled, settled_orders, answer_of, answer_text}
+use Rattle.engine_revival.specs.Steps.{state_after_line, at_once, state_once_heard, line_passed_up}
+use Rattle.engine_revival.specs.Steps.{state_once_ended, state_at_new_life, first_order}
+use Rattle.engine_revival.specs.Steps.{state_once_over, is_alive, is_ended, may_begin}
+use Rattle.engine_revival.specs.Steps.{state_once_settled, settled_orders, answer_of, answer_text}
 
 pub data RevivalCall : Type 0 where
   Order : (line : List ℕ) → RevivalCall
@@ -63,7 +66,8 @@ abbrev pub child_of : RevivalState → RevivalCall → List ℕ
 child_of s call = batch_text (orders_of s call)
 
 -- what the call leaves, and the texts that it gave
-pub record Gives (s : RevivalState) (call : RevivalCall) (last : RevivalState) (up child : List ℕ) : Type 0 where
+pub record Gives (s : RevivalState) (call : RevivalCall) (last : RevivalState)
+    (up child : List ℕ) : Type 0 where
   pub state_is : last ≡ after s call
   pub up_is : up ≡ up_of s call
   pub child_is : child ≡ child_of s call

@@ -1,4 +1,5 @@
--- The order of a dialogue with an engine: which orders may stand where, and what the engine's lines change.
+-- The order of a dialogue with an engine: which orders may stand where, and what
+-- the engine's lines change.
 use Rattle.std.specs.Prelude.{ℕ, List, Bool, true, false, Option, Some, None}
 use Rattle.peer_words.specs.declared.kinds.GoKind.TheVariants as kinds
 use Rattle.uci_lines.specs.Messages.{EngineMsg}
@@ -7,7 +8,8 @@ use Rattle.uci_lines.specs.Engine.{engine_message}
 use Rattle.engine_revival.specs.Orders.{RevivalOrder}
 use Rattle.engine_revival.specs.Orders as orders
 use Rattle.engine_revival.specs.declared.words.DialogueState.{DialogueState}
-use Rattle.engine_revival.specs.declared.words.DialogueState.TheVariants.{Before, Boot, Getting, Idle, Placed, Search}
+use Rattle.engine_revival.specs.declared.words.DialogueState.TheVariants.{Before, Boot, Getting}
+use Rattle.engine_revival.specs.declared.words.DialogueState.TheVariants.{Idle, Placed, Search}
 use Rattle.engine_revival.specs.declared.words.LifeSaid.{LifeSaid}
 use Rattle.engine_revival.specs.declared.words.LifeSaid.TheVariants as said
 
@@ -35,9 +37,10 @@ abbrev pub after_stop : DialogueState → Option DialogueState
 after_stop (Search kind false) = Some (Search kind true)
 after_stop state = None
 
--- After an order; nothing if it may not come there. `uci` is the first and comes once. Settings, `isready` and `position` go to
--- an idle engine, `go` comes directly after a `position`, and what follows a `position` is its `go`. `ponderhit` goes into a
--- Ponder search that is not stopped, and `stop` into a search that is not stopped. Of `quit` it says nothing.
+-- After an order; nothing if it may not come there. `uci` is the first and comes once. Settings,
+-- `isready` and `position` go to an idle engine, `go` comes directly after a `position`, and what
+-- follows a `position` is its `go`. `ponderhit` goes into a Ponder search that is not stopped, and
+-- `stop` into a search that is not stopped. Of `quit` it says nothing.
 abbrev pub after_order : RevivalOrder → DialogueState → Option DialogueState
 after_order orders.Uci state = where_true (is_before state) Boot
 after_order (orders.Value name line) state = where_true (is_idle state) Idle

@@ -1,5 +1,6 @@
 -- How orders are kept: their lines stand in one buffer, each with its line feed.
-use Rattle.std.specs.Prelude.{◌≡◌, ℕ, ◌+◌, ◌≤◌, List, take, drop, map, length, false, Option, Some, None}
+use Rattle.std.specs.Prelude.{◌≡◌, ℕ, ◌+◌, ◌≤◌, List, take, drop}
+use Rattle.std.specs.Prelude.{map, length, false, Option, Some, None}
 use Rattle.std.specs.List.{AllByRecursion}
 use Rattle.line_io.specs.Event.{has_feed}
 use Rattle.line_io.specs.Out.{Text}

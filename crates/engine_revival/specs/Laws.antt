@@ -1,5 +1,6 @@
 -- Laws of every list of calls.
-use Rattle.std.specs.Prelude.{◌≡◌, ◌⊎◌, ℕ, List, [], ◌∷◌, ◌++◌, Bool, true, false, if◌then◌else◌, Option, Some, None}
+use Rattle.std.specs.Prelude.{◌≡◌, ◌⊎◌, ℕ, List, [], ◌∷◌, ◌++◌, Bool, true}
+use Rattle.std.specs.Prelude.{false, if◌then◌else◌, Option, Some, None}
 use Rattle.engine_revival.specs.Orders.{RevivalOrder as AnyOrder, are_same_names}
 use Rattle.engine_revival.specs.Lists.{are_for_same}
 use Rattle.engine_revival.specs.Orders as orders
@@ -17,8 +18,10 @@ use Rattle.engine_revival.specs.declared.words.StandInAnswer.{StandInAnswer}
 use Rattle.engine_revival.specs.declared.words.StandInAnswer.TheVariants as answers
 use Rattle.engine_revival.specs.declared.state.RevivalState.{RevivalState}
 use Rattle.engine_revival.specs.Dialogue.{after_order, after_said, said_in}
-use Rattle.engine_revival.specs.Steps.{opening, is_alive, gives, answer_of, upper_if_accepted, due_of, settled_orders}
-use Rattle.engine_revival.specs.Calls.{RevivalCall, Order, Heard, Ended, Begin, Over, may, after, state_after_call, orders_of}
+use Rattle.engine_revival.specs.Steps.{opening, is_alive, gives, answer_of}
+use Rattle.engine_revival.specs.Steps.{upper_if_accepted, due_of, settled_orders}
+use Rattle.engine_revival.specs.Calls.{RevivalCall, Order, Heard, Ended, Begin, Over}
+use Rattle.engine_revival.specs.Calls.{may, after, state_after_call, orders_of}
 
 -- CALLS IN A ROW, THE LAST ONE FIRST
 
@@ -34,7 +37,8 @@ MayCome lives (call ∷ calls) = MayCome lives calls × (may (state_of lives cal
 
 -- THE LINES TO A LIFE
 
--- The dialogue of a life: open, closed by `quit`, gone if the life has ended, or broken by an order where it may not stand.
+-- The dialogue of a life: open, closed by `quit`, gone if the life has ended, or broken by an
+-- order where it may not stand.
 pub data LifeWire : Type 0 where
   Open : (state : DialogueState) → LifeWire
   Closed : LifeWire
@@ -76,17 +80,21 @@ wire_after_call Over wire = Gone
 -- the dialogue of the present life
 abbrev pub wire_of : ℕ → List RevivalCall → LifeWire
 wire_of lives [] = Open upper.Before
-wire_of lives (call ∷ calls) = all_written (orders_of (state_of lives calls) call) (wire_after_call call (wire_of lives calls))
+wire_of lives (call ∷ calls) =
+    all_written (orders_of (state_of lives calls) call) (wire_after_call call (wire_of lives calls))
 
 abbrev pub is_whole : LifeWire → Bool
 is_whole Broken = false
 is_whole wire = true
 
--- The lines to each life, with the lines heard from it, are a dialogue in order: `uci` is the first and comes once; settings,
--- `isready` and `position` reach only an idle engine; `go` comes directly after a `position`; `ponderhit` and `stop` reach only
--- a search where they may come; `quit` is the last; and nothing reaches a life that has ended.
+-- The lines to each life, with the lines heard from it, are a dialogue in order: `uci` is the first
+-- and comes once; settings, `isready` and `position` reach only an idle engine; `go` comes directly
+-- after a `position`; `ponderhit` and `stop` reach only a search where they may come; `quit` is the
+-- last; and nothing reaches a life that has ended.
 abbrev pub LivesAreInOrder : Type 0
-LivesAreInOrder = (lives : ℕ) (calls : List RevivalCall) → MayCome lives calls → is_whole (wire_of lives calls) ≡ true
+LivesAreInOrder =
+    (lives : ℕ) (calls : List RevivalCall) → MayCome lives calls
+    → is_whole (wire_of lives calls) ≡ true
 
 -- THE LINES UP
 
@@ -103,10 +111,12 @@ FitsUp said.Report state = is_search state ≡ true
 FitsUp said.Best state = is_search state ≡ true
 FitsUp said.Nothing state = ⊥
 
--- A line of the engine is passed up only if the upper dialogue waits for it. So a search gets one `bestmove` at most.
+-- A line of the engine is passed up only if the upper dialogue waits for it. So a search
+-- gets one `bestmove` at most.
 abbrev pub GivenFits : Type 0
 GivenFits =
-    (lives : ℕ) (calls : List RevivalCall) (line : List ℕ) → MayCome lives calls → gives (state_of lives calls) (said_in line) ≡ true
+    (lives : ℕ) (calls : List RevivalCall) (line : List ℕ) → MayCome lives calls
+    → gives (state_of lives calls) (said_in line) ≡ true
     → FitsUp (said_in line) (state_of lives calls).upper
 
 -- what stands in for the engine says
@@ -120,7 +130,8 @@ abbrev pub IsAnswerIn : StandInAnswer → RevivalState → Type 0
 IsAnswerIn answers.Nothing s = Unit {0}
 IsAnswerIn answer s = (s.life ≡ life.Over) × FitsUp (answer_says answer) s.upper
 
--- Something stands in for the engine only if no life follows, and only if the upper dialogue waits for it.
+-- Something stands in for the engine only if no life follows, and only if the
+-- upper dialogue waits for it.
 abbrev pub AnswersFit : Type 0
 AnswersFit = (s : RevivalState) → IsAnswerIn (answer_of s) s
 
@@ -135,32 +146,39 @@ waits upper.Getting = true
 waits (upper.Search kind stopped) = true
 waits state = false
 
--- After each call before an accepted `quit` no life is idle while the upper state is Getting or Search.
+-- After each call before an accepted `quit` no life is idle while the upper
+-- state is Getting or Search.
 abbrev pub NoLifeIdles : Type 0
 NoLifeIdles =
-    (s : RevivalState) (call : RevivalCall) → (after s call).quit ≡ false → is_idle_life (after s call).life ≡ true → waits (after s call).upper ≡ false
+    (s : RevivalState) (call : RevivalCall) → (after s call).quit ≡ false
+    → is_idle_life (after s call).life ≡ true → waits (after s call).upper ≡ false
 
 -- WHAT A LIFE ANSWERS
 
--- what a life was asked for, by the lines written to it and heard from it: that it is ready, or what it says of a search
+-- what a life was asked for, by the lines written to it and heard from it: that it is ready, or
+-- what it says of a search
 abbrev pub is_awaited : LifeWire → LifeSaid → Bool
 is_awaited (Open upper.Getting) said.ReadyOk = true
 is_awaited (Open (upper.Search kind stopped)) said.Report = true
 is_awaited (Open (upper.Search kind stopped)) said.Best = true
 is_awaited wire word = false
 
--- The `readyok` of a life that got `isready` is passed up, and each `info` and the `bestmove` of one that got a `go`, until that
--- `bestmove`.
+-- The `readyok` of a life that got `isready` is passed up, and each `info` and the `bestmove` of
+-- one that got a `go`, until that `bestmove`.
 abbrev pub AwaitedIsGiven : Type 0
 AwaitedIsGiven =
-    (lives : ℕ) (calls : List RevivalCall) (line : List ℕ) → MayCome lives calls → is_awaited (wire_of lives calls) (said_in line) ≡ true
+    (lives : ℕ) (calls : List RevivalCall) (line : List ℕ) → MayCome lives calls
+    → is_awaited (wire_of lives calls) (said_in line) ≡ true
     → gives (state_of lives calls) (said_in line) ≡ true
 
--- While `readyok` or `bestmove` is waited for, a life that has not ended boots, or was asked for just this.
+-- While `readyok` or `bestmove` is waited for, a life that has not ended boots, or
+-- was asked for just this.
 abbrev pub IsAskedIn : ℕ → List RevivalCall → Type 0
 IsAskedIn lives calls =
-    (state_of lives calls).quit ≡ false → is_alive (state_of lives calls).life ≡ true → waits (state_of lives calls).upper ≡ true
-    → (wire_of lives calls ≡ Open upper.Boot) ⊎ (wire_of lives calls ≡ Open (state_of lives calls).upper)
+    (state_of lives calls).quit ≡ false → is_alive (state_of lives calls).life ≡ true
+    → waits (state_of lives calls).upper ≡ true
+    → (wire_of lives calls ≡ Open upper.Boot)
+    ⊎ (wire_of lives calls ≡ Open (state_of lives calls).upper)
 
 abbrev pub LivesAreAsked : Type 0
 LivesAreAsked = (lives : ℕ) (calls : List RevivalCall) → MayCome lives calls → IsAskedIn lives calls
@@ -197,7 +215,8 @@ accepted_in s call = []
 -- all accepted orders, the first one first
 abbrev pub accepted_of : ℕ → List RevivalCall → List AnyOrder
 accepted_of lives [] = []
-accepted_of lives (call ∷ calls) = accepted_of lives calls ++ accepted_in (state_of lives calls) call
+accepted_of lives (call ∷ calls) =
+    accepted_of lives calls ++ accepted_in (state_of lives calls) call
 
 abbrev pub orders_in_same_life : RevivalCall → List AnyOrder → List AnyOrder
 orders_in_same_life Begin list = []
@@ -206,7 +225,8 @@ orders_in_same_life call list = list
 -- all orders that were written to the present life, the first one first
 abbrev pub life_orders : ℕ → List RevivalCall → List AnyOrder
 life_orders lives [] = []
-life_orders lives (call ∷ calls) = orders_in_same_life call (life_orders lives calls) ++ orders_of (state_of lives calls) call
+life_orders lives (call ∷ calls) =
+    orders_in_same_life call (life_orders lives calls) ++ orders_of (state_of lives calls) call
 
 -- an order after those seen since the last `position`
 abbrev pub seen_then : AnyOrder → List AnyOrder → List AnyOrder
@@ -218,19 +238,26 @@ abbrev pub since_position : List AnyOrder → List AnyOrder → List AnyOrder
 since_position [] seen = seen
 since_position (order ∷ list) seen = since_position list (seen_then order seen)
 
--- Wherever a life is given a search, the orders after its settings are those of the open upper search: all that were accepted from
--- the last `position` on, as they came. They lead from an idle engine to the state that the search is in. And unless a setting had no room, this life was given of each option the line that set
--- it to a value last, whenever that was.
+-- Wherever a life is given a search, the orders after its settings are those of the open upper
+-- search: all that were accepted from the last `position` on, as they came. They lead from an idle
+-- engine to the state that the search is in. And unless a setting had no room, this life was given
+-- of each option the line that set it to a value last, whenever that was.
 pub record IsGiven (lives : ℕ) (call : RevivalCall) (calls : List RevivalCall) : Type 0 where
-  pub orders_are : settled_orders (state_after_call (state_of lives calls) call) ≡ (state_after_call (state_of lives calls) call).unsent ++ (state_after_call (state_of lives calls) call).search
-  pub as_they_came : (state_after_call (state_of lives calls) call).search ≡ since_position (accepted_of lives (call ∷ calls)) []
-  pub leads : all_written (state_after_call (state_of lives calls) call).search (Open upper.Idle) ≡ Open (state_after_call (state_of lives calls) call).upper
+  pub orders_are : settled_orders (state_after_call (state_of lives calls) call)
+      ≡ (state_after_call (state_of lives calls) call).unsent
+      ++ (state_after_call (state_of lives calls) call).search
+  pub as_they_came : (state_after_call (state_of lives calls) call).search
+      ≡ since_position (accepted_of lives (call ∷ calls)) []
+  pub leads : all_written (state_after_call (state_of lives calls) call).search (Open upper.Idle)
+      ≡ Open (state_after_call (state_of lives calls) call).upper
   pub settings : (name : List (List ℕ)) → (state_of lives (call ∷ calls)).full ≡ false
-      → value_in name (life_orders lives (call ∷ calls)) ≡ value_in name (accepted_of lives (call ∷ calls))
+      → value_in name (life_orders lives (call ∷ calls))
+      ≡ value_in name (accepted_of lives (call ∷ calls))
 
 abbrev pub SearchesAreGiven : Type 0
 SearchesAreGiven =
-    (lives : ℕ) (call : RevivalCall) (calls : List RevivalCall) → MayCome lives (call ∷ calls) → due_of (state_after_call (state_of lives calls) call) ≡ due.Search
+    (lives : ℕ) (call : RevivalCall) (calls : List RevivalCall) → MayCome lives (call ∷ calls)
+    → due_of (state_after_call (state_of lives calls) call) ≡ due.Search
     → IsGiven lives call calls
 
 -- BUTTONS AND NEW GAMES
@@ -252,19 +279,25 @@ last_for order (other ∷ list) = later_or (last_for order list) (same_order ord
 -- the orders that were accepted since the present life began, the first one first
 abbrev pub accepted_in_life : ℕ → List RevivalCall → List AnyOrder
 accepted_in_life lives [] = []
-accepted_in_life lives (call ∷ calls) = orders_in_same_life call (accepted_in_life lives calls) ++ accepted_in (state_of lives calls) call
+accepted_in_life lives (call ∷ calls) =
+    orders_in_same_life call (accepted_in_life lives calls)
+    ++ accepted_in (state_of lives calls) call
 
 -- the settings go to the life, with `isready` or with a search
 abbrev pub gives_settings : DueOrders → Bool
 gives_settings due.Nothing = false
 gives_settings d = true
 
--- A life that is given settings was given, unless one had no room, each button and `ucinewgame` that was accepted since it
--- began, the last line of each, and none that a life before it was sent.
+-- A life that is given settings was given, unless one had no room, each button and `ucinewgame`
+-- that was accepted since it began, the last line of each, and none that a life before it was sent.
 abbrev pub IsPressed : ℕ → RevivalCall → List RevivalCall → AnyOrder → Type 0
 IsPressed lives call calls order =
-    gives_settings (due_of (state_after_call (state_of lives calls) call)) ≡ true → is_press order ≡ true → (state_of lives (call ∷ calls)).full ≡ false
-    → last_for order (life_orders lives (call ∷ calls)) ≡ last_for order (accepted_in_life lives (call ∷ calls))
+    gives_settings (due_of (state_after_call (state_of lives calls) call)) ≡ true
+    → is_press order ≡ true → (state_of lives (call ∷ calls)).full ≡ false
+    → last_for order (life_orders lives (call ∷ calls))
+    ≡ last_for order (accepted_in_life lives (call ∷ calls))
 
 abbrev pub PressesAreGiven : Type 0
-PressesAreGiven = (lives : ℕ) (call : RevivalCall) (calls : List RevivalCall) (order : AnyOrder) → IsPressed lives call calls order
+PressesAreGiven =
+    (lives : ℕ) (call : RevivalCall) (calls : List RevivalCall) (order : AnyOrder)
+    → IsPressed lives call calls order

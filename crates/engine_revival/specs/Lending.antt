@@ -7,4 +7,5 @@ use Rattle.engine_revival.specs.declared.revival.RevivalStep.{RevivalStep}
 use Rattle.engine_revival.specs.contracts.revival.Revival.{the_row}
 
 abbrev pub CallGives : MutBor Revival → RevivalCall → RevivalStep → Fml
-CallGives revival call r = Rests the_row revival (λ last. Gives revival.now.state call last.state r.up.now r.child.now)
+CallGives revival call r =
+    Rests the_row revival (λ last. Gives revival.now.state call last.state r.up.now r.child.now)

@@ -1,7 +1,9 @@
 -- Lists of orders that set up an engine.
-use Rattle.std.specs.Prelude.{ℕ, List, [], ◌∷◌, ◌++◌, filter, length, Bool, true, false, not, ◌&&◌, nat_le}
+use Rattle.std.specs.Prelude.{ℕ, List, [], ◌∷◌, ◌++◌, filter, length}
+use Rattle.std.specs.Prelude.{Bool, true, false, not, ◌&&◌, nat_le}
 use Rattle.std.specs.List.{flat_map}
-use Rattle.engine_revival.specs.Orders.{RevivalOrder, NewGame, Value, Button, are_same_names, order_text}
+use Rattle.engine_revival.specs.Orders.{RevivalOrder, NewGame, Value}
+use Rattle.engine_revival.specs.Orders.{Button, are_same_names, order_text}
 use Rattle.engine_revival.specs.declared.order_list.TheConstants.{MOST_ORDERS, MOST_BYTES}
 use Rattle.line_io.specs.Lines.{line_feed}
 
@@ -29,7 +31,9 @@ batch_text list = flat_map order_line list
 
 -- whether an order may join within both limits
 abbrev pub can_join : List RevivalOrder → RevivalOrder → Bool
-can_join list order = nat_le (length (with_order list order)) MOST_ORDERS && nat_le (length (batch_text (with_order list order))) MOST_BYTES
+can_join list order =
+    nat_le (length (with_order list order)) MOST_ORDERS
+    && nat_le (length (batch_text (with_order list order))) MOST_BYTES
 
 abbrev pub is_nil : List RevivalOrder → Bool
 is_nil [] = true

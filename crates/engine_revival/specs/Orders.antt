@@ -8,8 +8,8 @@ use Rattle.uci_lines.specs.Cuts.{is_word}
 use Rattle.engine_revival.specs.declared.orders.RevivalOrder.{RevivalOrder as CodeOrder}
 use Rattle.engine_revival.specs.declared.orders.RevivalOrder.TheVariants as orders
 
--- A setting, a `position` and a `go` have their line, as it came. A setting to a value, and one without, as of a button, have the
--- words of the option's name, in lower case.
+-- A setting, a `position` and a `go` have their line, as it came. A setting to a value, and one
+-- without, as of a button, have the words of the option's name, in lower case.
 pub data RevivalOrder : Type 0 where
   Uci : RevivalOrder
   IsReady : RevivalOrder
@@ -44,7 +44,8 @@ in_lowercase word = map to_ascii_lowercase word
 -- the words before the first `value`
 abbrev pub words_before_value : List (List ℕ) → List (List ℕ)
 words_before_value [] = []
-words_before_value (t ∷ ts) = if is_word (codes "value") t then [] else in_lowercase t ∷ words_before_value ts
+words_before_value (t ∷ ts) =
+    if is_word (codes "value") t then [] else in_lowercase t ∷ words_before_value ts
 
 -- the words of a name, which has one at least
 abbrev pub name_in : List (List ℕ) → List (List ℕ)

@@ -4,7 +4,8 @@ use Rattle.peer_words.specs.declared.kinds.GoKind.TheVariants as kinds
 use Rattle.engine_revival.specs.Orders.{RevivalOrder, NewGame}
 use Rattle.engine_revival.specs.declared.words.DialogueState.{DialogueState}
 use Rattle.engine_revival.specs.declared.words.DialogueState.TheVariants as upper
-use Rattle.engine_revival.specs.declared.order_list.TheConstants.{MOST_ORDERS, MOST_BYTES, LIST_BYTES}
+use Rattle.engine_revival.specs.declared.order_list.TheConstants.{MOST_ORDERS}
+use Rattle.engine_revival.specs.declared.order_list.TheConstants.{MOST_BYTES, LIST_BYTES}
 use Rattle.engine_revival.specs.declared.state.TheConstants.{MOST_LINE, SEARCH_BYTES}
 use Rattle.engine_revival.specs.declared.state.RevivalState.{RevivalState}
 use Rattle.engine_revival.specs.Lists.{staying_beside, batch_text}

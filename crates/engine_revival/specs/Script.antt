@@ -1,10 +1,12 @@
 -- The marks of a script of version 1, and what is written for each.
-use Rattle.std.specs.Prelude.{◌≡◌, ℕ, List, [], ◌∷◌, ◌++◌, codes, Bool, true, false, not, if◌then◌else◌}
+use Rattle.std.specs.Prelude.{◌≡◌, ℕ, List, [], ◌∷◌, ◌++◌, codes}
+use Rattle.std.specs.Prelude.{Bool, true, false, not, if◌then◌else◌}
 use Rattle.line_io.specs.Event.{Event, Iface, IfaceEnd, Engine, EngineLong, EngineEnd}
 use Rattle.script_lines.specs.StepText.{step_marks}
 use Rattle.engine_revival.specs.declared.state.RevivalState.{RevivalState}
 use Rattle.engine_revival.specs.Steps.{opening, state_once_ended, may_begin, is_alive, is_ended}
-use Rattle.engine_revival.specs.Calls.{RevivalCall, Order, Heard, Begin, Over, after, up_of, child_of}
+use Rattle.engine_revival.specs.Calls.{RevivalCall, Order, Heard, Begin}
+use Rattle.engine_revival.specs.Calls.{Over, after, up_of, child_of}
 
 -- The events that may come. No line of the engine comes after it was over.
 abbrev pub may_happen : RevivalState → Event → Bool
@@ -15,8 +17,9 @@ may_happen s EngineLong = is_alive s.life
 may_happen s EngineEnd = is_alive s.life
 may_happen s event = false
 
--- The last call of an event: a line of the interface is an order, and its end is `quit`; after the end of a life, which is the
--- mark of a long line of the engine, another begins or none follows; and none follows after the engine's end.
+-- The last call of an event: a line of the interface is an order, and its end is `quit`; after the
+-- end of a life, which is the mark of a long line of the engine, another begins or none follows;
+-- and none follows after the engine's end.
 abbrev pub call_of : RevivalState → Event → RevivalCall
 call_of s (Iface line) = Order line
 call_of s IfaceEnd = Order (codes "quit")
@@ -34,14 +37,17 @@ state_after s event = after (state_before s event) (call_of s event)
 
 -- the mark of the event, and those of the lines up and to the engine
 abbrev pub event_text : RevivalState → Event → List ℕ
-event_text s event = step_marks event (up_of (state_before s event) (call_of s event)) (child_of (state_before s event) (call_of s event))
+event_text s event =
+    step_marks event (up_of (state_before s event) (call_of s event))
+    (child_of (state_before s event) (call_of s event))
 
 -- EVENTS IN A ROW, THE FIRST ONE FIRST
 
 -- Each of them may come at its place.
 abbrev pub AllMayHappen : RevivalState → List Event → Type 0
 AllMayHappen s [] = Unit {0}
-AllMayHappen s (event ∷ events) = (may_happen s event ≡ true) × AllMayHappen (state_after s event) events
+AllMayHappen s (event ∷ events) =
+    (may_happen s event ≡ true) × AllMayHappen (state_after s event) events
 
 -- the state after them
 abbrev pub state_behind : RevivalState → List Event → RevivalState

@@ -1,5 +1,6 @@
 -- What is kept of an engine that is started again, and how each call changes it.
-use Rattle.std.specs.Prelude.{ℕ, ◌+◌, List, [], ◌∷◌, ◌++◌, codes, Bool, true, false, not, ◌&&◌, if◌then◌else◌, nat_lt, Option, Some, None}
+use Rattle.std.specs.Prelude.{ℕ, ◌+◌, List, [], ◌∷◌, ◌++◌, codes, Bool, true, false}
+use Rattle.std.specs.Prelude.{not, ◌&&◌, if◌then◌else◌, nat_lt, Option, Some, None}
 use Rattle.peer_words.specs.declared.kinds.GoKind.TheVariants as kinds
 use Rattle.cecp_lines.specs.Quit.{is_quit}
 use Rattle.engine_revival.specs.Orders.{RevivalOrder}
@@ -20,10 +21,12 @@ use Rattle.engine_revival.specs.Dialogue.{after_order, after_said, said_in, is_b
 use Rattle.engine_revival.specs.Lists.{with_order, can_join, is_nil}
 use Rattle.line_io.specs.Lines.{line_feed}
 
--- The state has the number of lives that may be begun and of those begun; whether `quit` was accepted, and whether a setting came
--- that no list had room for; the upper state, that is the dialogue with who gives the orders, by the orders that were accepted and
--- the lines passed up; and the state of the present life. Of the lists of orders, `kept` has what each option was set to last,
--- `unsent` what the present life did not get of the settings, and `search` the orders of the last search.
+-- The state has the number of lives that may be begun and of those begun; whether `quit` was
+-- accepted, and whether a setting came that no list had room for; the upper state, that is the
+-- dialogue with who gives the orders, by the orders that were accepted and the lines passed up;
+-- and the state of the present life. Of the lists of orders, `kept` has what each option was
+-- set to last, `unsent` what the present life did not get of the settings, and `search` the
+-- orders of the last search.
 
 -- the first life is begun
 abbrev pub opening : ℕ → RevivalState
@@ -43,19 +46,26 @@ opening lives = record {
 
 -- A setting that either list has no room for joins neither.
 abbrev pub with_value : Bool → RevivalState → RevivalOrder → RevivalState
-with_value true s order = record s { kept = with_order s.kept order; unsent = with_order s.unsent order }
+with_value true s order = record s {
+  kept = with_order s.kept order;
+  unsent = with_order s.unsent order;
+}
 with_value false s order = record s { full = true }
 
 abbrev pub with_button : Bool → RevivalState → RevivalOrder → RevivalState
 with_button true s order = record s { unsent = with_order s.unsent order }
 with_button false s order = record s { full = true }
 
--- The lists after an accepted order. Kept is of each option the last value that it was set to. Unsent is that too, and each button
--- and `ucinewgame` once, all in the order in which they came last. Of a search all orders are kept, from its `position` on.
+-- The lists after an accepted order. Kept is of each option the last value that it was set to.
+-- Unsent is that too, and each button and `ucinewgame` once, all in the order in which they came
+-- last. Of a search all orders are kept, from its `position` on.
 abbrev pub state_with_kept : RevivalState → RevivalOrder → RevivalState
 state_with_kept s (orders.Value name line) =
-    with_value (can_join s.kept (orders.Value name line) && can_join s.unsent (orders.Value name line)) s (orders.Value name line)
-state_with_kept s (orders.Button name line) = with_button (can_join s.unsent (orders.Button name line)) s (orders.Button name line)
+    with_value
+    (can_join s.kept (orders.Value name line) && can_join s.unsent (orders.Value name line)) s
+    (orders.Value name line)
+state_with_kept s (orders.Button name line) =
+    with_button (can_join s.unsent (orders.Button name line)) s (orders.Button name line)
 state_with_kept s orders.NewGame = record s { unsent = with_order s.unsent orders.NewGame }
 state_with_kept s (orders.Position line) = record s { search = orders.Position line ∷ [] }
 state_with_kept s (orders.Go kind line) = record s { search = s.search ++ orders.Go kind line ∷ [] }
@@ -142,7 +152,8 @@ answer_text answers.NoMove = codes "bestmove 0000" ++ line_feed ∷ []
 
 -- WHAT IS GIVEN UP AS HEARD
 
--- Names, options and `uciok` while the upper engine boots; `readyok` of a life that got all settings; what a life says of its search.
+-- Names, options and `uciok` while the upper engine boots; `readyok` of a life that got all
+-- settings; what a life says of its search.
 abbrev pub is_given : LifeSaid → LifeState → DialogueState → Bool → Bool
 is_given said.Introduction state upper.Boot got_all = true
 is_given said.UciOk state upper.Boot got_all = true
@@ -162,7 +173,10 @@ line_passed_up s line = if gives s (said_in line) then line ++ line_feed ∷ [] 
 
 abbrev pub state_if_accepted : Option DialogueState → RevivalState → RevivalOrder → RevivalState
 state_if_accepted None s order = s
-state_if_accepted (Some up) s order = record (state_with_kept s order) { upper = up; life = after_at_once s.life order }
+state_if_accepted (Some up) s order = record (state_with_kept s order) {
+  upper = up;
+  life = after_at_once s.life order;
+}
 
 -- No order is accepted after `quit`.
 abbrev pub upper_if_accepted : RevivalState → RevivalOrder → Option DialogueState

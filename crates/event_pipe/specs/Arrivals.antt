@@ -1,5 +1,6 @@
 -- What arrives of a side: the events of its lines, up to its end.
-use Rattle.std.specs.Prelude.{◌≡◌, ℕ, ◌+◌, ◌≤◌, List, [], ◌∷◌, ◌++◌, length, map, Bool, true, false, if◌then◌else◌, IfSome, Result, IsErr, IsTrue}
+use Rattle.std.specs.Prelude.{◌≡◌, ℕ, ◌+◌, ◌≤◌, List, [], ◌∷◌, ◌++◌, length, map, Bool}
+use Rattle.std.specs.Prelude.{true, false, if◌then◌else◌, IfSome, Result, IsErr, IsTrue}
 use Rattle.std.specs.List.{list_any}
 use Rattle.std.specs.Io.KnownBytes.{IsAtEnd}
 use Rattle.line_io.specs.Event.{Event, IfaceEnd, EngineEnd}
@@ -56,8 +57,8 @@ pub record CutShort (p : Peer) (lines : List Piece) (sent : List Event) : Type 0
   pub sent_is : sent ≡ piece_events p front ++ last_event p ∷ []
   pub going : has_last_event (piece_events p front) ≡ false
 
--- What the last read gave comes after the bytes that had come before, among whose lines is no `quit`. So once the line `quit` has
--- come nothing more is read.
+-- What the last read gave comes after the bytes that had come before, among whose lines is no
+-- `quit`. So of what comes after a `quit` no more is read than one read has room for.
 pub record LastRead (p : Peer) (got : List ℕ) : Type 0 where
   pub first : List ℕ
   pub last : List ℕ
@@ -70,17 +71,19 @@ is_read_fault (read_ends.Fault f) = true
 is_read_fault r = false
 
 -- What a reader has sent, of the bytes that its source gave.
-pub record Arrived (p : Peer) (before after : Supplied) (sent : List Event) (r : ReadEnd) : Type 0 where
+pub record Arrived (p : Peer) (before after : Supplied) (sent : List Event)
+    (r : ReadEnd) : Type 0 where
   pub got : List ℕ
   pub reads : Reads before after got
-  -- no read was made after a `quit`
+  -- after a `quit` no more than the read that brought it has room for
   pub last_read : LastRead p got
   -- its side has ended
   pub over : has_last_event sent ≡ true
   -- all that arrives
   pub all : r ≡ read_ends.Done → sent ≡ arrivals p (items line_limit got)
   -- no byte is left, but after `quit`
-  pub at_end : r ≡ read_ends.Done → has_close_event sent ≡ true → IfSome before.left (λ _. IsAtEnd after.left)
+  pub at_end : r ≡ read_ends.Done → has_close_event sent ≡ true
+      → IfSome before.left (λ _. IsAtEnd after.left)
   -- if reading failed: of the lines that a line feed ended
   pub at_fault : (f : ReadFault) → r ≡ read_ends.Fault f → sent ≡ arrivals p (whole line_limit got)
   -- if there was no memory
@@ -90,9 +93,13 @@ pub record Arrived (p : Peer) (before after : Supplied) (sent : List Event) (r :
 
 -- what a turn has sent, if the call of the reader of lines answered this
 abbrev pub Sends : Peer → Result Item ReadFault → List Event → List Event → ReaderTurn → Type 0
-Sends p r before now turns.More = IsTrue (goes_on r) × (now ≡ before ++ piece_events p (pieces_of (outcome r))) × (has_last_event (piece_events p (pieces_of (outcome r))) ≡ false)
+Sends p r before now turns.More =
+    IsTrue (goes_on r) × (now ≡ before ++ piece_events p (pieces_of (outcome r)))
+    × (has_last_event (piece_events p (pieces_of (outcome r))) ≡ false)
 Sends p r before now turns.Done = IsTrue (is_end_answer r) × (now ≡ before ++ last_event p ∷ [])
-Sends p r before now turns.Quit = (piece : Piece) × (outcome r ≡ Gave piece) × (is_end (piece_event p piece) ≡ true) × IsTrue (goes_on r) × (now ≡ before ++ piece_event p piece ∷ [])
+Sends p r before now turns.Quit =
+    (piece : Piece) × (outcome r ≡ Gave piece) × (is_end (piece_event p piece) ≡ true)
+    × IsTrue (goes_on r) × (now ≡ before ++ piece_event p piece ∷ [])
 Sends p r before now turns.Fault = IsErr r × (now ≡ before ++ last_event p ∷ [])
 Sends p r before now turns.NoMemory = IsTrue (goes_on r) × (now ≡ before ++ last_event p ∷ [])
 
@@ -101,7 +108,8 @@ is_fault turns.Fault = true
 is_fault t = false
 
 -- what one turn of a reader did
-pub record Goes (p : Peer) (old new : Held) (before after : Supplied) (sent now : List Event) (turn : ReaderTurn) : Type 0 where
+pub record Goes (p : Peer) (old new : Held) (before after : Supplied) (sent now : List Event)
+    (turn : ReaderTurn) : Type 0 where
   pub got : List ℕ
   pub reads : Reads before after got
   pub result : Result Item ReadFault
@@ -111,7 +119,8 @@ pub record Goes (p : Peer) (old new : Held) (before after : Supplied) (sent now 
   pub count : Tells before.faults after.faults (is_fault turn)
 
 -- so far: the lines that were given were sent
-pub record Heard (p : Peer) (held : Held) (before after : Supplied) (sent : List Event) : Type 0 where
+pub record Heard (p : Peer) (held : Held) (before after : Supplied)
+    (sent : List Event) : Type 0 where
   pub got : List ℕ
   pub reads : Reads before after got
   pub limit : held.limit ≡ line_limit

@@ -40,7 +40,8 @@ IsFreshTaker t = IsTaker t × (events_taken t ≡ [])
 
 -- it is the sender of the same peer on the same channel
 abbrev pub KeepsSender : PipeSend → PipeSend → Type 0
-KeepsSender old new = IsSender new × (new.peer ≡ old.peer) × (sends_on new.sender ≡ sends_on old.sender)
+KeepsSender old new =
+    IsSender new × (new.peer ≡ old.peer) × (sends_on new.sender ≡ sends_on old.sender)
 
 -- it is the taker of the same channel
 abbrev pub KeepsTaker : PipeTake → PipeTake → Type 0
@@ -48,7 +49,8 @@ KeepsTaker old new = IsTaker new × (receives_on new.receiver ≡ receives_on ol
 
 -- the three are the ends of one channel
 abbrev pub AreOne : PipeSend → PipeSend → PipeTake → Type 0
-AreOne a b t = (sends_on a.sender ≡ receives_on t.receiver) × (sends_on b.sender ≡ receives_on t.receiver)
+AreOne a b t =
+    (sends_on a.sender ≡ receives_on t.receiver) × (sends_on b.sender ≡ receives_on t.receiver)
 
 -- both senders together are at most the channel's room ahead of the taker
 abbrev pub AreWithinRoom : PipeSend → PipeSend → PipeTake → Type 0

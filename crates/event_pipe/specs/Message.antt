@@ -1,6 +1,7 @@
 -- What a message stands for.
 use Rattle.std.specs.Prelude.{ℕ, Bool, true, false}
-use Rattle.line_io.specs.Event.{Event, Iface, IfaceLong, IfaceEnd, Engine, EngineLong, EngineEnd, is_line}
+use Rattle.line_io.specs.Event.{Event, Iface, IfaceLong, IfaceEnd}
+use Rattle.line_io.specs.Event.{Engine, EngineLong, EngineEnd, is_line}
 use Rattle.cecp_lines.specs.Quit.{is_quit}
 use Rattle.event_pipe.specs.declared.message.Peer.{Peer}
 use Rattle.event_pipe.specs.declared.message.Peer.TheVariants as peers

@@ -1,5 +1,7 @@
--- The rule of the channel: of each reader, what it has sent is what was taken of it, and then what the channel holds of it.
-use Rattle.std.specs.Prelude.{◌≡◌, ◌≢◌, ℕ, ◌<◌, ◌≤◌, List, [], ◌∷◌, ◌++◌, length, Bool, true, false, filter, ◌==◌}
+-- The rule of the channel: of each reader, what it has sent is what was taken of it, and then what
+-- the channel holds of it.
+use Rattle.std.specs.Prelude.{◌≡◌, ◌≢◌, ℕ, ◌<◌, ◌≤◌, List, [], ◌∷◌, ◌++◌}
+use Rattle.std.specs.Prelude.{length, Bool, true, false, filter, ◌==◌}
 use Rattle.std.specs.List.{list_any}
 use mathlib.Core.Option.{Option, some, none}
 use lib.ListN.{get_elem?}
@@ -36,7 +38,15 @@ AllGood (e ∷ es) = ((is_good e ≡ true) × (role_of_event e ≢ 3)) × AllGoo
 
 abbrev pub knowledge_of_pass : ℕ → ℕ → ℕ → List Event → List Event → List Event → List Event
     → KnownOfPass
-knowledge_of_pass role made joined sent taken first second = record { role = role; made = made; joined = joined; sent = sent; taken = taken; first = first; second = second }
+knowledge_of_pass role made joined sent taken first second = record {
+  role = role;
+  made = made;
+  joined = joined;
+  sent = sent;
+  taken = taken;
+  first = first;
+  second = second;
+}
 
 -- a pass that knows nothing yet, of the taker
 abbrev pub idle : KnownOfPass
@@ -48,14 +58,17 @@ Adds v x w = w ≡ record v { sent = v.sent ++ x ∷ [] }
 
 -- after what was taken it may come: its side has not ended, and its line is within the limit
 abbrev pub Follows : List Event → Event → Type 0
-Follows taken x = (has_last_event (of (role_of_event x) taken) ≡ false) × (is_good x ≡ true) × (role_of_event x ≢ 3)
+Follows taken x =
+    (has_last_event (of (role_of_event x) taken) ≡ false) × (is_good x ≡ true)
+    × (role_of_event x ≢ 3)
 
 -- a receive adds the event to what was taken, and changes nothing else
 abbrev pub Gets : KnownOfPass → Event → KnownOfPass → Type 0
 Gets v x w = (w ≡ record v { taken = v.taken ++ x ∷ [] }) × Follows v.taken x
 
 -- each role has one pass, which knows what was sent, or taken
-pub record Fits (seat : ℕ → Option ℕ) (sent : ℕ → List Event) (taken : List Event) (pass : ℕ) (v : KnownOfPass) : Type 0 where
+pub record Fits (seat : ℕ → Option ℕ) (sent : ℕ → List Event) (taken : List Event) (pass : ℕ)
+    (v : KnownOfPass) : Type 0 where
   pub seated : v.role ≢ 3 → seat v.role ≡ some pass
   pub sends : v.role ≢ 3 → v.role ≢ 0 → v.sent ≡ sent v.role
   pub takes : v.role ≡ 0 → v.taken ≡ taken
@@ -78,7 +91,8 @@ pub record Delivers (items : List Event) (views : List KnownOfPass) : Type 0 whe
   pub orderly : (role : ℕ) → Orderly (sent role)
   -- each line is within the limit, and has no line feed
   pub good : AllGood (taken ++ items)
-  pub fits : (pass : ℕ) (v : KnownOfPass) → get_elem? views pass ≡ some v → Fits seat sent taken pass v
+  pub fits : (pass : ℕ) (v : KnownOfPass) → get_elem? views pass ≡ some v
+      → Fits seat sent taken pass v
 
 -- what the taker learns when both senders were taken in
 pub record Total (v : KnownOfPass) (items : List Event) : Type 0 where

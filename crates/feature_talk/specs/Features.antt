@@ -1,5 +1,6 @@
 -- The list of features, a reply each.
-use Rattle.std.specs.Prelude.{◌≡◌, ℕ, ◌+◌, ◌≤◌, List, [], ◌∷◌, ◌++◌, codes, length, map, filter, Bool, true, false, not, ◌||◌, if◌then◌else◌, nat_lt}
+use Rattle.std.specs.Prelude.{◌≡◌, ℕ, ◌+◌, ◌≤◌, List, [], ◌∷◌, ◌++◌, codes, length, map}
+use Rattle.std.specs.Prelude.{filter, Bool, true, false, not, ◌||◌, if◌then◌else◌, nat_lt}
 use Rattle.std.specs.List.{flat_map}
 use Rattle.cecp_lines.specs.Replies.{Reply, Feature, reply_text}
 use Rattle.option_map.specs.Names.{holds}
@@ -27,10 +28,14 @@ bit false = codes "0"
 -- the features that are the same for all engines
 abbrev pub fixed_features : List Reply
 fixed_features =
-    Feature (codes "ping") (codes "1") ∷ Feature (codes "setboard") (codes "1") ∷ Feature (codes "playother") (codes "1") ∷ Feature (codes "san") (codes "0")
-    ∷ Feature (codes "usermove") (codes "1") ∷ Feature (codes "time") (codes "1") ∷ Feature (codes "draw") (codes "1") ∷ Feature (codes "sigint") (codes "0")
-    ∷ Feature (codes "sigterm") (codes "0") ∷ Feature (codes "reuse") (codes "1") ∷ Feature (codes "analyze") (codes "1")
-    ∷ Feature (codes "variants") (in_quotes (codes "normal")) ∷ Feature (codes "colors") (codes "0") ∷ []
+    Feature (codes "ping") (codes "1") ∷ Feature (codes "setboard") (codes "1")
+    ∷ Feature (codes "playother") (codes "1") ∷ Feature (codes "san") (codes "0")
+    ∷ Feature (codes "usermove") (codes "1") ∷ Feature (codes "time") (codes "1")
+    ∷ Feature (codes "draw") (codes "1") ∷ Feature (codes "sigint") (codes "0")
+    ∷ Feature (codes "sigterm") (codes "0") ∷ Feature (codes "reuse") (codes "1")
+    ∷ Feature (codes "analyze") (codes "1")
+    ∷ Feature (codes "variants") (in_quotes (codes "normal")) ∷ Feature (codes "colors") (codes "0")
+    ∷ []
 
 -- the feature of endgame tables, if it is in the list
 abbrev pub tables : Bool → List Reply
@@ -53,7 +58,8 @@ shown_options os = filter (λ o. not o.hidden) os
 -- The whole list. The name is the one that the engine said, or nothing.
 abbrev pub feature_list : List OptionSetting → List ℕ → List Reply
 feature_list os said =
-    Feature (codes "myname") (in_quotes (shown_name said)) ∷ fixed_features ++ by_options os ++ map option_feature (shown_options os) ++ Feature (codes "done") (codes "1") ∷ []
+    Feature (codes "myname") (in_quotes (shown_name said)) ∷ fixed_features ++ by_options os
+    ++ map option_feature (shown_options os) ++ Feature (codes "done") (codes "1") ∷ []
 
 -- a reply as it is written, with its line feed
 abbrev pub reply_line : Reply → List ℕ
@@ -64,7 +70,9 @@ reply_lines replies = flat_map reply_line replies
 
 -- how long the list may be
 abbrev pub IsShort : Type 0
-IsShort = (os : List OptionSetting) (said : List ℕ) → length (reply_lines (feature_list os said)) ≤ COMMON_BYTES + text_size os + length os
+IsShort =
+    (os : List OptionSetting) (said : List ℕ)
+    → length (reply_lines (feature_list os said)) ≤ COMMON_BYTES + text_size os + length os
 
 -- The name that is shown is shown again.
 abbrev pub ShowsAgain : Type 0

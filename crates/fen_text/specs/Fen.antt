@@ -11,7 +11,8 @@ use Rattle.chess_board.specs.Position.{Position}
 use Rattle.chess_board.specs.Play.{position_if_built}
 use Rattle.peer_words.specs.Tokens.{tokens}
 use Rattle.fen_text.specs.declared.fault.FenFault.{FenFault}
-use Rattle.fen_text.specs.declared.fault.FenFault.TheVariants.{Board, Side as SideFault, Castling, EnPassant, Half, Full, Kings}
+use Rattle.fen_text.specs.declared.fault.FenFault.TheVariants.{Board, Side as SideFault, Castling}
+use Rattle.fen_text.specs.declared.fault.FenFault.TheVariants.{EnPassant, Half, Full, Kings}
 use Rattle.fen_text.specs.Squares.{board_of}
 use Rattle.fen_text.specs.Fields.{side_of, rights_of, passant_of, count_or}
 
@@ -24,7 +25,8 @@ or_fault (Ok p) = Ok p
 or_fault (Err fault) = Err (fault_of fault)
 
 -- the position of what the fields spell, or the fault of the first that spells nothing
-abbrev pub position_from_fields : Option Men → Option Side → Option Rights → Option (Option ℕ) → Option ℕ → Option ℕ → Result Position FenFault
+abbrev pub position_from_fields : Option Men → Option Side → Option Rights → Option (Option ℕ)
+    → Option ℕ → Option ℕ → Result Position FenFault
 position_from_fields None side rights passant half full = Err Board
 position_from_fields (Some men) None rights passant half full = Err SideFault
 position_from_fields (Some men) (Some side) None passant half full = Err Castling
@@ -32,7 +34,14 @@ position_from_fields (Some men) (Some side) (Some rights) None half full = Err E
 position_from_fields (Some men) (Some side) (Some rights) (Some passant) None full = Err Half
 position_from_fields (Some men) (Some side) (Some rights) (Some passant) (Some half) None = Err Full
 position_from_fields (Some men) (Some side) (Some rights) (Some passant) (Some half) (Some full) =
-    or_fault (position_if_built (record { men = men; side = side; rights = rights; passant = passant; half = half; full = full }))
+    or_fault (position_if_built (record {
+      men = men;
+      side = side;
+      rights = rights;
+      passant = passant;
+      half = half;
+      full = full;
+    }))
 
 -- The first four fields are needed. A half-move count that is missing is 0, and a full one 1.
 abbrev pub position_of_fields : List (List ℕ) → Result Position FenFault

@@ -1,5 +1,6 @@
 -- The other fields of a position text.
-use Rattle.std.specs.Prelude.{ℕ, ◌-◌, Bool, true, false, ◌&&◌, ◌||◌, ◌==◌, nat_le, if◌then◌else◌, List, [], ◌∷◌, length, count_by, Option, Some, None}
+use Rattle.std.specs.Prelude.{ℕ, ◌-◌, Bool, true, false, ◌&&◌, ◌||◌, ◌==◌, nat_le, if◌then◌else◌}
+use Rattle.std.specs.Prelude.{List, [], ◌∷◌, length, count_by, Option, Some, None}
 use Rattle.std.specs.List.{list_all}
 use Rattle.chess_board.specs.declared.board.Side.{Side}
 use Rattle.chess_board.specs.declared.board.Side.TheVariants.{White, Black}
@@ -11,7 +12,8 @@ use Rattle.chess_board.specs.Text.{letter_a, letter_h, digit_one}
 
 -- w, b
 abbrev pub side_of : List ℕ → Option Side
-side_of (letter ∷ []) = if letter == 119 then Some White else (if letter == 98 then Some Black else None)
+side_of (letter ∷ []) =
+    if letter == 119 then Some White else (if letter == 98 then Some Black else None)
 side_of _ = None
 
 -- a letter of KQkq
@@ -25,7 +27,8 @@ at_most_once letter field =
     else (if count_by (λ b. b == letter) field == 1 then Some true else None)
 
 abbrev pub all_four : Option Bool → Option Bool → Option Bool → Option Bool → Option Rights
-all_four (Some wk) (Some wq) (Some bk) (Some bq) = Some (record { wk = wk; wq = wq; bk = bk; bq = bq })
+all_four (Some wk) (Some wq) (Some bk) (Some bq) =
+    Some (record { wk = wk; wq = wq; bk = bk; bq = bq })
 all_four _ _ _ _ = None
 
 abbrev pub no_rights : Rights
@@ -35,7 +38,8 @@ no_rights = record { wk = false; wq = false; bk = false; bq = false }
 abbrev pub letters_of : List ℕ → Option Rights
 letters_of field =
     if list_all is_right field
-    then all_four (at_most_once 75 field) (at_most_once 81 field) (at_most_once 107 field) (at_most_once 113 field)
+    then all_four (at_most_once 75 field) (at_most_once 81 field) (at_most_once 107 field)
+    (at_most_once 113 field)
     else None
 
 -- a dash, or such letters
@@ -52,13 +56,15 @@ digit_six = 54
 
 -- a file from a to h, and rank 3 or 6
 abbrev pub is_passed : ℕ → ℕ → Bool
-is_passed file rank = (nat_le letter_a file && nat_le file letter_h) && (rank == digit_three || rank == digit_six)
+is_passed file rank =
+    (nat_le letter_a file && nat_le file letter_h) && (rank == digit_three || rank == digit_six)
 
 -- a dash, or a square that a pawn may have passed
 abbrev pub passant_of : List ℕ → Option (Option ℕ)
 passant_of (byte ∷ []) = if byte == dash then Some None else None
 passant_of (file ∷ rank ∷ []) =
-    if is_passed file rank then Some (Some (square_at (file - letter_a) (rank - digit_one))) else None
+    if is_passed file rank then Some (Some (square_at (file - letter_a) (rank - digit_one)))
+    else None
 passant_of _ = None
 
 -- 1 to 5 digits

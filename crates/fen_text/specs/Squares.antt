@@ -1,11 +1,14 @@
--- The board of a position text: eight ranks from the eighth down to the first, with a slash between.
-use Rattle.std.specs.Prelude.{ℕ, ◌<◌, ◌-◌, Bool, ◌&&◌, ◌==◌, nat_le, nat_lt, if◌then◌else◌, List, [], ◌∷◌, ◌++◌, length, replicate, Option, Some, None}
+-- The board of a position text: eight ranks from the eighth down to the
+-- first, with a slash between.
+use Rattle.std.specs.Prelude.{ℕ, ◌<◌, ◌-◌, Bool, ◌&&◌, ◌==◌, nat_le, nat_lt, if◌then◌else◌}
+use Rattle.std.specs.Prelude.{List, [], ◌∷◌, ◌++◌, length, replicate, Option, Some, None}
 use Rattle.std.specs.Option.{option_map}
 use Rattle.std.specs.List.{slice_split}
 use Rattle.chess_board.specs.declared.board.Side.{Side}
 use Rattle.chess_board.specs.declared.board.Side.TheVariants.{White, Black}
 use Rattle.chess_board.specs.declared.board.Kind.{Kind}
-use Rattle.chess_board.specs.declared.board.Kind.TheVariants.{Pawn, Knight, Bishop, Rook, Queen, King}
+use Rattle.chess_board.specs.declared.board.Kind.TheVariants.{Pawn, Knight, Bishop}
+use Rattle.chess_board.specs.declared.board.Kind.TheVariants.{Rook, Queen, King}
 use Rattle.chess_board.specs.Board.{Men}
 use Rattle.chess_board.specs.Play.{fits_board}
 use Rattle.chess_board.specs.Text.{letter_a, digit_one, digit_eight}
@@ -34,7 +37,8 @@ man_of letter =
 -- what a byte of a rank stands for: a digit for one to eight empty squares, a letter for a man
 abbrev pub squares_of : ℕ → Option Men
 squares_of byte =
-    if nat_le digit_one byte && nat_le byte digit_eight then Some (replicate (byte - digit_zero) None)
+    if nat_le digit_one byte && nat_le byte digit_eight
+    then Some (replicate (byte - digit_zero) None)
     else option_map (λ man. Some man ∷ []) (man_of byte)
 
 -- one after the other, if both are there

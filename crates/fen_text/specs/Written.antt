@@ -1,10 +1,13 @@
 -- The text of a position: six fields with one blank between.
-use Rattle.std.specs.Prelude.{ℕ, ◌≡◌, ◌≤◌, zero, suc, ◌+◌, ◌*◌, Bool, ◌||◌, nat_lt, if◌then◌else◌, List, [], ◌∷◌, ◌++◌, length, take, drop, Option, Some, None, Ok, decimal}
+use Rattle.std.specs.Prelude.{ℕ, ◌≡◌, ◌≤◌, zero, suc, ◌+◌, ◌*◌, Bool, ◌||◌}
+use Rattle.std.specs.Prelude.{nat_lt, if◌then◌else◌, List, [], ◌∷◌, ◌++◌, length}
+use Rattle.std.specs.Prelude.{take, drop, Option, Some, None, Ok, decimal}
 use Rattle.std.specs.List.{join_with_byte}
 use Rattle.chess_board.specs.declared.board.Side.{Side}
 use Rattle.chess_board.specs.declared.board.Side.TheVariants.{White, Black}
 use Rattle.chess_board.specs.declared.board.Kind.{Kind}
-use Rattle.chess_board.specs.declared.board.Kind.TheVariants.{Pawn, Knight, Bishop, Rook, Queen, King}
+use Rattle.chess_board.specs.declared.board.Kind.TheVariants.{Pawn, Knight, Bishop}
+use Rattle.chess_board.specs.declared.board.Kind.TheVariants.{Rook, Queen, King}
 use Rattle.chess_board.specs.declared.board.Rights.{Rights}
 use Rattle.chess_board.specs.Board.{Men, file_of, rank_of}
 use Rattle.chess_board.specs.Position.{Position}
@@ -63,7 +66,8 @@ letter_if right letter = if right then letter ∷ [] else []
 abbrev pub rights_text : Rights → List ℕ
 rights_text rights =
     if (rights.wk || rights.wq) || (rights.bk || rights.bq)
-    then letter_if rights.wk 75 ++ (letter_if rights.wq 81 ++ (letter_if rights.bk 107 ++ letter_if rights.bq 113))
+    then letter_if rights.wk 75
+    ++ (letter_if rights.wq 81 ++ (letter_if rights.bk 107 ++ letter_if rights.bq 113))
     else dash ∷ []
 
 abbrev pub passant_text : Option ℕ → List ℕ
@@ -72,7 +76,8 @@ passant_text (Some at) = (letter_a + file_of at) ∷ (digit_one + rank_of at) �
 
 abbrev pub fields_text : Position → List (List ℕ)
 fields_text p =
-    board_text p.men ∷ side_text p.side ∷ rights_text p.rights ∷ passant_text p.passant ∷ decimal p.half ∷ decimal p.full ∷ []
+    board_text p.men ∷ side_text p.side ∷ rights_text p.rights ∷ passant_text p.passant
+    ∷ decimal p.half ∷ decimal p.full ∷ []
 
 -- the text of a position
 unfoldable pub position_fen : Position → List ℕ

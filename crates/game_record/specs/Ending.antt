@@ -1,7 +1,9 @@
 -- How often a position stood, and how a game has ended.
-use Rattle.std.specs.Prelude.{ℕ, ◌<◌, ◌≤◌, ◌↔◌, Bool, true, false, IsTrue, ◌&&◌, ◌||◌, ◌==◌, not, nat_le, if◌then◌else◌, List, [], ◌∷◌, count_by, Option, Some, None}
+use Rattle.std.specs.Prelude.{ℕ, ◌<◌, ◌≤◌, ◌↔◌, Bool, true, false, IsTrue, ◌&&◌, ◌||◌, ◌==◌, not}
+use Rattle.std.specs.Prelude.{nat_le, if◌then◌else◌, List, [], ◌∷◌, count_by, Option, Some, None}
 use Rattle.chess_board.specs.declared.board.Kind.{Kind}
-use Rattle.chess_board.specs.declared.board.Kind.TheVariants.{Pawn, Knight, Bishop, Rook, Queen, King}
+use Rattle.chess_board.specs.declared.board.Kind.TheVariants.{Pawn, Knight, Bishop}
+use Rattle.chess_board.specs.declared.board.Kind.TheVariants.{Rook, Queen, King}
 use Rattle.chess_board.specs.declared.board.Rights.{Rights}
 use Rattle.chess_board.specs.declared.board.State.{State}
 use Rattle.chess_board.specs.declared.board.State.TheVariants as states
@@ -12,7 +14,8 @@ use Rattle.chess_board.specs.Position.{Position}
 use Rattle.chess_board.specs.Place.{has_any_way}
 use Rattle.chess_board.specs.Play.{is_man, is_minor, StateFits}
 use Rattle.game_record.specs.declared.ending.GameEnd.{GameEnd}
-use Rattle.game_record.specs.declared.ending.GameEnd.TheVariants.{Mate, Stale, Dead, Repetition, Fifty}
+use Rattle.game_record.specs.declared.ending.GameEnd.TheVariants.{Mate, Stale, Dead}
+use Rattle.game_record.specs.declared.ending.GameEnd.TheVariants.{Repetition, Fifty}
 use Rattle.game_record.specs.Game.{Game, now_of, positions_of}
 
 -- each kind by a number of its own
@@ -41,7 +44,8 @@ same_right true b = b
 same_right false b = not b
 
 abbrev pub same_rights : Rights → Rights → Bool
-same_rights a b = (same_right a.wk b.wk && same_right a.wq b.wq) && (same_right a.bk b.bk && same_right a.bq b.bq)
+same_rights a b =
+    (same_right a.wk b.wk && same_right a.wq b.wq) && (same_right a.bk b.bk && same_right a.bq b.bq)
 
 abbrev pub same_square : Option ℕ → Option ℕ → Bool
 same_square None None = true
@@ -51,7 +55,9 @@ same_square (Some a) (Some b) = a == b
 
 -- whether two positions are the same for repetition: men, side on move, rights and passant square
 unfoldable pub is_same : Position → Position → Bool
-is_same p q = (same_men p.men q.men && same_side p.side q.side) && (same_rights p.rights q.rights && same_square p.passant q.passant)
+is_same p q =
+    (same_men p.men q.men && same_side p.side q.side)
+    && (same_rights p.rights q.rights && same_square p.passant q.passant)
 
 -- the test for it decides the relation of the Laws
 abbrev pub SameLaw : Type 0
@@ -71,7 +77,8 @@ has_legal p = has_any_way p
 
 -- beside the two kings no man, or one bishop or knight alone
 abbrev pub is_dead : Men → Bool
-is_dead men = (count_by is_man men == 2) || ((count_by is_man men == 3) && (count_by is_minor men == 1))
+is_dead men =
+    (count_by is_man men == 2) || ((count_by is_man men == 3) && (count_by is_minor men == 1))
 
 abbrev pub state_by : Bool → Bool → Bool → State
 state_by false true dead = states.Mate
@@ -86,12 +93,14 @@ state_of p = state_by (has_legal p) (is_checked p.men p.side) (is_dead p.men)
 abbrev pub StateLaw : Type 0
 StateLaw = (p : Position) → StateFits p (state_of p)
 
--- the first that holds of mate, stalemate, dead position, third occurrence and 100 moves without pawn move or capture
+-- the first that holds of mate, stalemate, dead position, third occurrence and 100 moves
+-- without pawn move or capture
 abbrev pub ended_by : State → ℕ → ℕ → Option GameEnd
 ended_by states.Mate repeats half = Some Mate
 ended_by states.Stale repeats half = Some Stale
 ended_by states.Dead repeats half = Some Dead
-ended_by states.Open repeats half = if nat_le 3 repeats then Some Repetition else (if nat_le 100 half then Some Fifty else None)
+ended_by states.Open repeats half =
+    if nat_le 3 repeats then Some Repetition else (if nat_le 100 half then Some Fifty else None)
 
 -- how a game has ended, if it has
 unfoldable pub ended_of : Game → Option GameEnd
@@ -103,7 +112,8 @@ Ends g (Some Mate) = StateFits (now_of g) states.Mate
 Ends g (Some Stale) = StateFits (now_of g) states.Stale
 Ends g (Some Dead) = StateFits (now_of g) states.Dead
 Ends g (Some Repetition) = StateFits (now_of g) states.Open × (3 ≤ repeats_of g)
-Ends g (Some Fifty) = StateFits (now_of g) states.Open × (repeats_of g < 3) × (100 ≤ (now_of g).half)
+Ends g (Some Fifty) =
+    StateFits (now_of g) states.Open × (repeats_of g < 3) × (100 ≤ (now_of g).half)
 Ends g None = StateFits (now_of g) states.Open × (repeats_of g < 3) × ((now_of g).half < 100)
 
 abbrev pub EndingLaw : Type 0

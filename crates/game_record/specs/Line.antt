@@ -1,5 +1,6 @@
 -- The line that gives an engine the position of a game (UCI, April 2006, `position`).
-use Rattle.std.specs.Prelude.{ℕ, ◌≡◌, ◌≤◌, ◌+◌, ◌*◌, Bool, ◌&&◌, ◌==◌, nat_lt, IsTrue, ◌↔◌, if◌then◌else◌, List, [], ◌∷◌, ◌++◌, length, Option, codes}
+use Rattle.std.specs.Prelude.{ℕ, ◌≡◌, ◌≤◌, ◌+◌, ◌*◌, Bool, ◌&&◌, ◌==◌, nat_lt, IsTrue, ◌↔◌}
+use Rattle.std.specs.Prelude.{if◌then◌else◌, List, [], ◌∷◌, ◌++◌, length, Option, codes}
 use Rattle.std.specs.Option.{option_to_list}
 use Rattle.chess_board.specs.Board.{file_of, rank_of}
 use Rattle.chess_board.specs.Position.{Position}
@@ -46,4 +47,6 @@ position_text g hint =
 
 -- at most 6 bytes for each move, and 120 for the rest
 abbrev pub IsShort : Type 0
-IsShort = (g : Game) (hint : Option Ply) → IsPosition g.start → length (position_text g hint) ≤ 120 + 6 * length (plies_and_hint g.moves hint)
+IsShort =
+    (g : Game) (hint : Option Ply) → IsPosition g.start
+    → length (position_text g hint) ≤ 120 + 6 * length (plies_and_hint g.moves hint)

@@ -23,8 +23,8 @@ abbrev pub whole_report : Listener → List Piece → Ending → List ℕ
 whole_report listener lines ending =
     (report listener lines).text ++ last_lines (report listener lines).talk ending
 
--- the report that is due for these lines, if they are a whole log: up to the line that is a fault, if one is, and else with
--- what is written last
+-- the report that is due for these lines, if they are a whole log: up to the line that is a fault,
+-- if one is, and else with what is written last
 abbrev pub due_by : Option Ending → Course → List ℕ
 due_by (Some fault) c = c.text
 due_by None c = c.text ++ last_lines c.talk endings.Done
@@ -32,8 +32,8 @@ due_by None c = c.text ++ last_lines c.talk endings.Done
 abbrev pub due_report : Listener → List Piece → List ℕ
 due_report listener lines = due_by (report listener lines).ending (report listener lines)
 
--- All of the input was read, no mark of it breaks a rule and none of its lines has no mark; and the report on it was
--- written, whose last line is `lawful talk`.
+-- All of the input was read, no mark of it breaks a rule and none of its lines has no mark; and the
+-- report on it was written, whose last line is `lawful talk`.
 pub record AllJudged (listener : Listener) (before after : Streams) : Type 0 where
   pub got : List ℕ
   pub reads : Got before after got
@@ -42,8 +42,8 @@ pub record AllJudged (listener : Listener) (before after : Streams) : Type 0 whe
   pub written : Appends before.output.taken after.output.taken
       (whole_report listener (items SCRIPT_LINE got) endings.Done)
 
--- A line has no mark, or has one that breaks a rule. The report on the lines up to it was written, and what it is was
--- reported if its status has a diagnostic.
+-- A line has no mark, or has one that breaks a rule. The report on the lines up to it was written,
+-- and what it is was reported if its status has a diagnostic.
 pub record FaultFound (listener : Listener) (before after : Streams) (code : ℕ) : Type 0 where
   pub fault : Ending
   pub code_is : code ≡ code_of fault
@@ -53,8 +53,10 @@ pub record FaultFound (listener : Listener) (before after : Streams) (code : ℕ
   pub written : Appends before.output.taken after.output.taken (report listener lines).text
   pub told : Appends before.diag.taken after.diag.taken (diagnostic fault)
 
--- All whole lines that were read are without a fault, and the report on them was written, except what comes last.
-pub record WholeJudged (listener : Listener) (ending : Ending) (least : ℕ) (before after : Streams) : Type 0 where
+-- All whole lines that were read are without a fault, and the report on them was
+-- written, except what comes last.
+pub record WholeJudged (listener : Listener) (ending : Ending) (least : ℕ)
+    (before after : Streams) : Type 0 where
   pub got : List ℕ
   pub reads : Got before after got
   pub least_is : least ≤ length got
@@ -63,8 +65,9 @@ pub record WholeJudged (listener : Listener) (ending : Ending) (least : ℕ) (be
   pub written : Appends before.output.taken after.output.taken
       (whole_report listener (whole SCRIPT_LINE got) ending)
 
--- The output took a front of the report that is due for all lines of the input, of which the first were read; and whatever the
--- input tells, of the report that would be due if the lines that were read were all.
+-- The output took a front of the report that is due for all lines of the input, of which the
+-- first were read; and whatever the input tells, of the report that would be due if the lines
+-- that were read were all.
 pub record FrontReported (listener : Listener) (before after : Streams) : Type 0 where
   pub lines : List Piece
   pub read : AreRead before after lines
@@ -77,10 +80,13 @@ pub record FrontReported (listener : Listener) (before after : Streams) : Type 0
 abbrev pub Completes : Listener → Streams → Streams → ℕ → Type 0
 Completes listener before after code =
     (x : List ℕ) → before.input.left ≡ Some x → length x < 2 ^ 32 → IsSteady before after
-    → ((code ≡ 0) × AllJudged listener before after) ⊎ FaultFound listener before after code ⊎ (code ≡ 3)
+    → ((code ≡ 0) × AllJudged listener before after) ⊎ FaultFound listener before after code
+    ⊎ (code ≡ 3)
 
--- The log that this one wrote is judged. `Untouched` says that the input and the output are just as they were.
-pub record Judged (listener : Listener) (Untouched : Type 0) (before after : Streams) (code : ℕ) : Type 0 where
+-- The log that this one wrote is judged. `Untouched` says that the input and the
+-- output are just as they were.
+pub record Judged (listener : Listener) (Untouched : Type 0) (before after : Streams)
+    (code : ℕ) : Type 0 where
   pub ended : Ran (λ e. EndsBy judges (opening listener) Untouched e before after) before after code
   -- what each status says
   pub lawful : code ≡ 0 → AllJudged listener before after × AreSame before after
@@ -92,5 +98,6 @@ pub record Judged (listener : Listener) (Untouched : Type 0) (before after : Str
   pub writing_failed : code ≡ 5
       → WritingBroke before after × (Untouched ⊎ FrontReported listener before after)
   pub too_long : code ≡ 6 → WholeJudged listener endings.TooLong (2 ^ 32) before after
-  -- an input of fewer than 2^32 bytes is judged to its end or to its first fault, or there was no memory
+  -- an input of fewer than 2^32 bytes is judged to its end or to its first
+  -- fault, or there was no memory
   pub complete : Completes listener before after code

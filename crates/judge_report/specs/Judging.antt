@@ -16,7 +16,11 @@ Reported listener lines ending text =
 -- what a judge who has heard nothing reports
 abbrev pub judges : Putting JudgedTalk
 judges = record {
-  put = λ t0 lines t text. (listener : Listener) → t0 ≡ opening listener → Stands listener lines t text;
-  says = λ t0 lines ending text. (listener : Listener) → t0 ≡ opening listener → Reported listener lines ending text;
+  put =
+      λ t0 lines t text. (listener : Listener) → t0 ≡ opening listener
+      → Stands listener lines t text;
+  says =
+      λ t0 lines ending text. (listener : Listener) → t0 ≡ opening listener
+      → Reported listener lines ending text;
   may = λ t. ⊤;
 }

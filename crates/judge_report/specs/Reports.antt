@@ -1,5 +1,6 @@
 -- The report on the lines of a log.
-use Rattle.std.specs.Prelude.{◌≡◌, ℕ, ◌+◌, ◌==◌, ◌&&◌, ◌||◌, List, [], ◌∷◌, ◌++◌, Bool, is_some, if◌then◌else◌, Option, Some, None}
+use Rattle.std.specs.Prelude.{◌≡◌, ℕ, ◌+◌, ◌==◌, ◌&&◌, ◌||◌, List, [], ◌∷◌, ◌++◌}
+use Rattle.std.specs.Prelude.{Bool, is_some, if◌then◌else◌, Option, Some, None}
 use Rattle.line_io.specs.Lines.{Piece, Whole, TooLong}
 use Rattle.script_lines.specs.Header.{header_of}
 use Rattle.script_lines.specs.Marks.{Mark, mark_of}
@@ -52,9 +53,17 @@ abbrev pub report_before_end : JudgedTalk → List ℕ
 report_before_end t = search_report t.search ++ crossings_line t.crossings
 
 abbrev pub of_deed : JudgedTalk → ℕ → Deed → Option Rule → LineOutcome
-of_deed t number deed None = record { talk = after t number deed; more = brought_out t.search deed; ending = None }
+of_deed t number deed None = record {
+  talk = after t number deed;
+  more = brought_out t.search deed;
+  ending = None;
+}
 of_deed t number deed (Some rule) =
-    record { talk = t; more = report_before_end t ++ unlawful_line number rule; ending = Some (endings.Unlawful number) }
+    record {
+      talk = t;
+      more = report_before_end t ++ unlawful_line number rule;
+      ending = Some (endings.Unlawful number);
+    }
 
 abbrev pub of_kind : JudgedTalk → ℕ → LogLineKind → LineOutcome
 of_kind t number (Marks mark) = of_deed t number (deed_of mark) (broken t (deed_of mark))

@@ -1,5 +1,6 @@
 -- The lines of a report.
-use Rattle.std.specs.Prelude.{ℕ, List, [], ◌∷◌, ◌++◌, codes, decimal, Bool, true, false, ◌==◌, if◌then◌else◌, Option, Some, None}
+use Rattle.std.specs.Prelude.{ℕ, List, [], ◌∷◌, ◌++◌, codes, decimal, Bool, true}
+use Rattle.std.specs.Prelude.{false, ◌==◌, if◌then◌else◌, Option, Some, None}
 use Rattle.chess_board.specs.declared.board.Move.{Move}
 use Rattle.chess_board.specs.Text.{text_of}
 use Rattle.peer_words.specs.declared.kinds.GoKind.{GoKind}
@@ -28,11 +29,15 @@ shown_text (Some m) = text_of m
 
 -- `search K: KIND, from line A`
 abbrev pub begun_text : Search → List ℕ
-begun_text s = codes "search " ++ decimal s.number ++ codes ": " ++ kind_text s.kind ++ codes ", from line " ++ decimal s.begun
+begun_text s =
+    codes "search " ++ decimal s.number ++ codes ": " ++ kind_text s.kind ++ codes ", from line "
+    ++ decimal s.begun
 
 -- `, END, STOP, M`
 abbrev pub ended_text : Search → List ℕ
-ended_text s = codes ", " ++ end_text s.ended ++ codes ", " ++ stop_text s.stopped ++ codes ", " ++ shown_text s.shown ++ line_feed ∷ []
+ended_text s =
+    codes ", " ++ end_text s.ended ++ codes ", " ++ stop_text s.stopped ++ codes ", "
+    ++ shown_text s.shown ++ line_feed ∷ []
 
 -- `search K: KIND, from line A, END, STOP, M`
 abbrev pub search_line : Search → List ℕ
@@ -66,4 +71,5 @@ abbrev pub lawful_line : List ℕ
 lawful_line = codes "lawful talk" ++ line_feed ∷ []
 
 abbrev pub unlawful_line : ℕ → Rule → List ℕ
-unlawful_line line rule = codes "unlawful at line " ++ decimal line ++ codes ": " ++ rule_text rule ++ line_feed ∷ []
+unlawful_line line rule =
+    codes "unlawful at line " ++ decimal line ++ codes ": " ++ rule_text rule ++ line_feed ∷ []

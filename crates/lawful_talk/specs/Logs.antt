@@ -28,7 +28,8 @@ engine_mark order = ToEngine (order_text order)
 
 -- what happened, then the lines to the interface, then the orders to the engine
 abbrev pub step_marks : Step → List Mark
-step_marks step = event_marks step.event ++ (map iface_mark step.replies ++ map engine_mark step.orders)
+step_marks step =
+    event_marks step.event ++ (map iface_mark step.replies ++ map engine_mark step.orders)
 
 -- the marks of a trace, the oldest first
 abbrev pub marks_of : List Step → List Mark
@@ -40,17 +41,19 @@ abbrev pub marks_in : List Entry → List Mark
 marks_in [] = []
 marks_in (entry ∷ log) = marks_in log ++ entry.mark ∷ []
 
--- In a log of a lawful trace no mark breaks a rule of the dialogue with the engine, whoever is said to have written it and
--- whatever the numbers of its lines.
+-- In a log of a lawful trace no mark breaks a rule of the dialogue with the engine, whoever is said
+-- to have written it and whatever the numbers of its lines.
 abbrev pub LogsAreClean : Settings → Type 0
 LogsAreClean o =
-    (listener : Listener) (trace : List Step) (log : List Entry) → Lawful o trace → marks_in log ≡ marks_of trace
+    (listener : Listener) (trace : List Step) (log : List Entry) → Lawful o trace
+    → marks_in log ≡ marks_of trace
     → IsClean listener log
 
 -- No order of it crosses a line of the engine.
 abbrev pub NoOrderCrosses : Settings → Type 0
 NoOrderCrosses o =
-    (trace : List Step) (log : List Entry) → Lawful o trace → marks_in log ≡ marks_of trace → crossings log ≡ 0
+    (trace : List Step) (log : List Entry) → Lawful o trace → marks_in log ≡ marks_of trace
+    → crossings log ≡ 0
 
 -- If a current search is open, it stands where the desk's game stands, with the hint if it ponders.
 abbrev pub SearchesAt : State → Position → Type 0
@@ -61,5 +64,6 @@ SearchesAt s p =
 -- So does the last `position` line of a log of a lawful trace, while the session is open.
 abbrev pub SearchesTheDesk : Settings → Type 0
 SearchesTheDesk o =
-    (listener : Listener) (trace : List Step) (log : List Entry) → Lawful o trace → marks_in log ≡ marks_of trace
+    (listener : Listener) (trace : List Step) (log : List Entry) → Lawful o trace
+    → marks_in log ≡ marks_of trace
     → (state o trace).ends.closed ≡ false → SearchesAt (state o trace) (talk listener log).placed

@@ -23,7 +23,8 @@ IsLogOf text log = marks_in log ≡ marks_told (parts text)
 -- No mark of the script of a lawful trace breaks a rule, in version 1 and in version 2.
 abbrev pub Scripts1AreClean : Settings → Type 0
 Scripts1AreClean o =
-    (listener : Listener) (trace : List Step) (log : List Entry) → Lawful o trace → IsLogOf (script1 trace) log
+    (listener : Listener) (trace : List Step) (log : List Entry) → Lawful o trace
+    → IsLogOf (script1 trace) log
     → IsClean listener log
 
 abbrev pub Scripts2AreClean : Settings → Type 0

@@ -21,10 +21,12 @@ Then means s0 o0 pieces (Some stop) s o = means.stopped s0 o0 pieces stop s o
 -- Whatever lines were taken, one more was, of the next number.
 abbrev pub Takes : {S O X : Type 0} → Meaning S O X → ℕ → Piece → Option X → S → O → S → O → Type 0
 Takes {S} {O} {X} means number piece result s o s' o' =
-    (s0 : S) (o0 : O) (pieces : List Piece) → means.took s0 o0 pieces s o → number ≡ length pieces + 1
+    (s0 : S) (o0 : O) (pieces : List Piece) → means.took s0 o0 pieces s o
+    → number ≡ length pieces + 1
     → Then means s0 o0 (pieces ++ piece ∷ []) result s' o'
 
 -- Whatever lines were taken, no more were.
 abbrev pub Keeps : {S O X : Type 0} → Meaning S O X → Option X → S → O → S → O → Type 0
 Keeps {S} {O} {X} means result s o s' o' =
-    (s0 : S) (o0 : O) (pieces : List Piece) → means.took s0 o0 pieces s o → Then means s0 o0 pieces result s' o'
+    (s0 : S) (o0 : O) (pieces : List Piece) → means.took s0 o0 pieces s o
+    → Then means s0 o0 pieces result s' o'

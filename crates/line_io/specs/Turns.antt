@@ -8,14 +8,16 @@ use Rattle.line_io.specs.Taken.{Place, IsOver, Taken}
 use Rattle.line_io.specs.declared.taker.LinesEnd.{LinesEnd}
 
 -- so many calls got these bytes and gave these lines
-pub record Course (limit : ℕ) (held : Held) (given : List ℕ) (pieces : List Piece) (old new : Supplied) (calls : ℕ) : Type 0 where
+pub record Course (limit : ℕ) (held : Held) (given : List ℕ) (pieces : List Piece)
+    (old new : Supplied) (calls : ℕ) : Type 0 where
   pub gave : Reads old new given
   pub runs : Runs limit held given pieces calls
   pub at_end : held.ended ≡ true → IsOver old new
   pub no_fault : new.faults ≡ old.faults
 
 -- and the taker took these lines, so many
-pub record Reached {S O X : Type 0} (means : Meaning S O X) (limit : ℕ) (first now : Place S O) (held : Held) (calls number : ℕ) : Type 0 where
+pub record Reached {S O X : Type 0} (means : Meaning S O X) (limit : ℕ) (first now : Place S O)
+    (held : Held) (calls number : ℕ) : Type 0 where
   pub given : List ℕ
   pub pieces : List Piece
   pub course : Course limit held given pieces first.input now.input calls
@@ -23,8 +25,10 @@ pub record Reached {S O X : Type 0} (means : Meaning S O X) (limit : ℕ) (first
   pub took : means.took first.taker first.output pieces now.taker now.output
 
 -- one call more, or an end
-abbrev pub After : {S O X : Type 0} → Meaning S O X → ℕ → Option (LinesEnd X) → Place S O → Place S O → Held → ℕ → ℕ → Type 0
-After means limit None first now held calls number = Reached means limit first now held (suc calls) number
+abbrev pub After : {S O X : Type 0} → Meaning S O X → ℕ → Option (LinesEnd X) → Place S O
+    → Place S O → Held → ℕ → ℕ → Type 0
+After means limit None first now held calls number =
+    Reached means limit first now held (suc calls) number
 After means limit (Some ending) first now held calls number = Taken means limit ending first now
 
 -- what the calls to come have to take away, if nothing more is read
@@ -32,6 +36,9 @@ abbrev pub work : Held → ℕ
 work held = weight held + flag (not held.ended)
 
 -- no line that is held is whole, or an end
-abbrev pub Drained : {S O X : Type 0} → Meaning S O X → ℕ → Option (LinesEnd X) → Place S O → Place S O → Held → ℕ → ℕ → Type 0
-Drained means limit None first now held calls number = IsWaiting held × ((later : ℕ) × (calls ≤ later) × Reached means limit first now held later number)
+abbrev pub Drained : {S O X : Type 0} → Meaning S O X → ℕ → Option (LinesEnd X) → Place S O
+    → Place S O → Held → ℕ → ℕ → Type 0
+Drained means limit None first now held calls number =
+    IsWaiting held
+    × ((later : ℕ) × (calls ≤ later) × Reached means limit first now held later number)
 Drained means limit (Some ending) first now held calls number = Taken means limit ending first now

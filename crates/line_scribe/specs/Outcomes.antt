@@ -13,7 +13,8 @@ use Rattle.line_scribe.specs.Putting.{Putting, IsOfLine}
 use Rattle.line_scribe.specs.Scribed.{EndsRightly, WroteAll, WroteFront, WroteTo, WroteWhole}
 
 -- A line was the reason to end, and that was reported.
-pub record LineReported {S : Type 0} (means : Putting S) (s0 : S) (before after : Streams) (code : ℕ) : Type 0 where
+pub record LineReported {S : Type 0} (means : Putting S) (s0 : S) (before after : Streams)
+    (code : ℕ) : Type 0 where
   pub ending : Ending
   pub of_line : IsOfLine ending
   pub code_is : code ≡ code_of ending
@@ -21,7 +22,8 @@ pub record LineReported {S : Type 0} (means : Putting S) (s0 : S) (before after 
   pub told : Appends before.diag.taken after.diag.taken (diagnostic ending)
 
 -- The text of the first lines was written, whatever ended them.
-pub record WroteLast {S : Type 0} (means : Putting S) (s0 : S) (before after : Streams) : Type 0 where
+pub record WroteLast {S : Type 0} (means : Putting S) (s0 : S)
+    (before after : Streams) : Type 0 where
   pub ending : Ending
   pub lines : List Piece
   pub read : AreRead before after lines
@@ -31,14 +33,22 @@ pub record WroteLast {S : Type 0} (means : Putting S) (s0 : S) (before after : S
   pub written : Appends before.output.taken after.output.taken text
 
 -- what each status says of the run of a scribe
-pub record Outcome {S : Type 0} (means : Putting S) (s0 : S) (Untouched : Type 0) (before after : Streams) (code : ℕ) : Type 0 where
+pub record Outcome {S : Type 0} (means : Putting S) (s0 : S) (Untouched : Type 0)
+    (before after : Streams) (code : ℕ) : Type 0 where
   pub done : code ≡ 0 → WroteAll means s0 before after × AreSame before after
   pub found : code ≡ 1 → LineReported means s0 before after 1
   pub fault : code ≡ 2 → LineReported means s0 before after 2
   pub memory : code ≡ 3 → Untouched
-  pub reading : code ≡ 4 → Rose before.input.faults after.input.faults × WroteWhole means s0 endings.ReadingFailed 0 before after
-  pub writing : code ≡ 5 → WritingBroke before after × (Untouched ⊎ WroteFront means s0 before after ⊎ WroteLast means s0 before after)
+  pub reading : code ≡ 4
+      → Rose before.input.faults after.input.faults
+      × WroteWhole means s0 endings.ReadingFailed 0 before after
+  pub writing : code ≡ 5
+      → WritingBroke before after
+      × (Untouched ⊎ WroteFront means s0 before after ⊎ WroteLast means s0 before after)
   pub too_long : code ≡ 6 → WroteWhole means s0 endings.TooLong (2 ^ 32) before after
-  -- an input of fewer than 2^32 bytes is taken up to its end or to a line that is the reason to end, or there was no memory
-  pub complete : (x : List ℕ) → before.input.left ≡ Some x → length x < 2 ^ 32 → IsSteady before after
-      → ((code ≡ 0) × WroteAll means s0 before after) ⊎ LineReported means s0 before after code ⊎ (code ≡ 3)
+  -- an input of fewer than 2^32 bytes is taken up to its end or to a line that is the reason to
+  -- end, or there was no memory
+  pub complete : (x : List ℕ) → before.input.left ≡ Some x → length x < 2 ^ 32
+      → IsSteady before after
+      → ((code ≡ 0) × WroteAll means s0 before after) ⊎ LineReported means s0 before after code
+      ⊎ (code ≡ 3)

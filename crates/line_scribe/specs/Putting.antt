@@ -36,15 +36,16 @@ Then means s0 lines None s text = means.put s0 lines s text
 Then means s0 lines (Some ending) s text = means.says s0 lines ending text
 
 -- Whatever lines were taken, one more was, of the next number, and this was put for it.
-pub record Puts {S : Type 0} (means : Putting S) (number : ℕ) (piece : Piece) (result : Option Ending)
-    (s : S) (held : Text) (s' : S) (held' : Text) : Type 0 where
+pub record Puts {S : Type 0} (means : Putting S) (number : ℕ) (piece : Piece)
+    (result : Option Ending) (s : S) (held : Text) (s' : S) (held' : Text) : Type 0 where
   pub more : List ℕ
   pub put : held' ≡ with held more
   pub goes : (s0 : S) (lines : List Piece) (text : List ℕ) → means.put s0 lines s text
       → number ≡ length lines + 1 → Then means s0 (lines ++ piece ∷ []) result s' (text ++ more)
 
 -- Whatever lines were taken, no more are, and this was put last.
-pub record Closes {S : Type 0} (means : Putting S) (ending : Ending) (s : S) (held held' : Text) : Type 0 where
+pub record Closes {S : Type 0} (means : Putting S) (ending : Ending) (s : S)
+    (held held' : Text) : Type 0 where
   pub more : List ℕ
   pub put : held' ≡ with held more
   pub says : (s0 : S) (lines : List Piece) (text : List ℕ) → means.put s0 lines s text

@@ -21,7 +21,8 @@ pub record WroteAll {S : Type 0} (means : Putting S) (s0 : S) (start now : Strea
   pub written : Appends start.output.taken now.output.taken text
 
 -- The text of all whole lines that were got was written.
-pub record WroteWhole {S : Type 0} (means : Putting S) (s0 : S) (ending : Ending) (least : ℕ) (start now : Streams) : Type 0 where
+pub record WroteWhole {S : Type 0} (means : Putting S) (s0 : S) (ending : Ending) (least : ℕ)
+    (start now : Streams) : Type 0 where
   pub got : List ℕ
   pub reads : Got start now got
   pub least_is : least ≤ length got
@@ -31,7 +32,8 @@ pub record WroteWhole {S : Type 0} (means : Putting S) (s0 : S) (ending : Ending
   pub written : Appends start.output.taken now.output.taken text
 
 -- The text of the first lines was written, up to the one that is the reason to end.
-pub record WroteTo {S : Type 0} (means : Putting S) (s0 : S) (ending : Ending) (start now : Streams) : Type 0 where
+pub record WroteTo {S : Type 0} (means : Putting S) (s0 : S) (ending : Ending)
+    (start now : Streams) : Type 0 where
   pub lines : List Piece
   pub read : AreRead start now lines
   pub text : List ℕ
@@ -40,7 +42,8 @@ pub record WroteTo {S : Type 0} (means : Putting S) (s0 : S) (ending : Ending) (
 
 -- the text of these lines, whether or not more are taken
 abbrev pub IsText : {S : Type 0} → Putting S → S → List Piece → List ℕ → Type 0
-IsText {S} means s0 lines text = ((s : S) × means.put s0 lines s text) ⊎ ((ending : Ending) × means.says s0 lines ending text)
+IsText {S} means s0 lines text =
+    ((s : S) × means.put s0 lines s text) ⊎ ((ending : Ending) × means.says s0 lines ending text)
 
 -- the lines are all that the input had left, if it tells
 abbrev pub AreAll : Option (List ℕ) → List Piece → Type 0
@@ -52,7 +55,8 @@ EndsRightly left lines endings.Done = AreAll left lines
 EndsRightly left lines ending = ⊤
 
 -- if no more lines are taken, that is for such a reason
-abbrev pub HasReason : {P : Type 0} → {Q : Ending → Type 0} → (Ending → Type 0) → P ⊎ ((ending : Ending) × Q ending) → Type 0
+abbrev pub HasReason : {P : Type 0} → {Q : Ending → Type 0} → (Ending → Type 0)
+    → P ⊎ ((ending : Ending) × Q ending) → Type 0
 HasReason Why (inl p) = ⊤
 HasReason Why (inr p) = Why p.0
 
@@ -74,8 +78,10 @@ Scribed means s0 (endings.Differs n) start now = WroteTo means s0 (endings.Diffe
 Scribed means s0 (endings.Unlawful n) start now = WroteTo means s0 (endings.Unlawful n) start now
 Scribed means s0 (endings.NoMark n) start now = WroteTo means s0 (endings.NoMark n) start now
 Scribed means s0 (endings.OutOfStep n) start now = WroteTo means s0 (endings.OutOfStep n) start now
-Scribed means s0 (endings.MayNotCome n) start now = WroteTo means s0 (endings.MayNotCome n) start now
-Scribed means s0 endings.ReadingFailed start now = WroteWhole means s0 endings.ReadingFailed 0 start now
+Scribed means s0 (endings.MayNotCome n) start now =
+    WroteTo means s0 (endings.MayNotCome n) start now
+Scribed means s0 endings.ReadingFailed start now =
+    WroteWhole means s0 endings.ReadingFailed 0 start now
 Scribed means s0 endings.TooLong start now = WroteWhole means s0 endings.TooLong (2 ^ 32) start now
 Scribed means s0 endings.WritingFailed start now = WroteFront means s0 start now
 Scribed means s0 ending start now = ⊥

@@ -1,5 +1,6 @@
 -- Lines that a scribe takes, and its text on the way to the output.
-use Rattle.std.specs.Prelude.{◌≡◌, ◌⊎◌, ℕ, ◌<◌, List, [], ◌++◌, length, take, Bool, true, false, Option, Some, None}
+use Rattle.std.specs.Prelude.{◌≡◌, ◌⊎◌, ℕ, ◌<◌, List, [], ◌++◌, length}
+use Rattle.std.specs.Prelude.{take, Bool, true, false, Option, Some, None}
 use Rattle.std.specs.Io.KnownBytes.{Appends}
 use Rattle.line_io.specs.Causes.{Rose}
 use Rattle.line_io.specs.Lines.{Piece}
@@ -31,7 +32,8 @@ abbrev pub MayTake : {S : Type 0} → Putting S → S → Text → Type 0
 MayTake means s held = means.may s × (held.room ≡ TEXT_ROOM)
 
 -- The scribe took these lines, and their text was written except what is held.
-pub record Stood {S : Type 0} (means : Putting S) (s0 : S) (lines : List Piece) (s : S) (held : Text) (before after : Received) : Type 0 where
+pub record Stood {S : Type 0} (means : Putting S) (s0 : S) (lines : List Piece) (s : S)
+    (held : Text) (before after : Received) : Type 0 where
   pub text : List ℕ
   pub put : means.put s0 lines s text
   pub may : MayTake means s held
@@ -41,7 +43,8 @@ pub record Stood {S : Type 0} (means : Putting S) (s0 : S) (lines : List Piece) 
   pub no_failure : after.faults ≡ before.faults
 
 -- It takes no line after these, and their text was written except what is held.
-pub record Said {S : Type 0} (means : Putting S) (s0 : S) (lines : List Piece) (ending : Ending) (held : List ℕ) (before after : Received) : Type 0 where
+pub record Said {S : Type 0} (means : Putting S) (s0 : S) (lines : List Piece) (ending : Ending)
+    (held : List ℕ) (before after : Received) : Type 0 where
   pub text : List ℕ
   pub says : means.says s0 lines ending text
   pub written : List ℕ
@@ -49,9 +52,10 @@ pub record Said {S : Type 0} (means : Putting S) (s0 : S) (lines : List Piece) (
   pub all : written ++ held ≡ text
   pub no_failure : after.faults ≡ before.faults
 
--- A write failed, and the output got a front of the text of the first of these lines, or of all of them with what is put
--- last for such a reason.
-pub record Broke {S : Type 0} (means : Putting S) (s0 : S) (Why : Ending → Type 0) (pieces : List Piece) (before after : Received) : Type 0 where
+-- A write failed, and the output got a front of the text of the first of these lines, or of all of
+-- them with what is put last for such a reason.
+pub record Broke {S : Type 0} (means : Putting S) (s0 : S) (Why : Ending → Type 0)
+    (pieces : List Piece) (before after : Received) : Type 0 where
   pub lines : List Piece
   pub more : List Piece
   pub first : pieces ≡ lines ++ more
@@ -64,27 +68,32 @@ pub record Broke {S : Type 0} (means : Putting S) (s0 : S) (Why : Ending → Typ
   pub failure : Rose before.faults after.faults
 
 -- a line, or a write that failed, ended it
-abbrev pub Halted : {S : Type 0} → Putting S → S → Ending → List Piece → List ℕ → Received → Received → Type 0
+abbrev pub Halted : {S : Type 0} → Putting S → S → Ending → List Piece → List ℕ → Received
+    → Received → Type 0
 Halted means s0 ending lines held before after =
     ((ending ≡ endings.WritingFailed) × Broke means s0 IsOfLine lines before after)
     ⊎ (IsOfLine ending × Said means s0 lines ending held before after)
 
 -- all was written and this is the ending, or a write failed
-abbrev pub Finished : {S : Type 0} → Putting S → S → List Piece → Ending → Ending → Received → Received → Type 0
+abbrev pub Finished : {S : Type 0} → Putting S → S → List Piece → Ending → Ending → Received
+    → Received → Type 0
 Finished means s0 lines ending answer before after =
     ((answer ≡ ending) × Said means s0 lines ending [] before after)
     ⊎ ((answer ≡ endings.WritingFailed) × Broke means s0 (λ e. e ≡ ending) lines before after)
 
 -- if a line ended it
-abbrev pub Left : {S : Type 0} → Putting S → S → List Piece → Ending → Ending → Received → Received → Type 0
+abbrev pub Left : {S : Type 0} → Putting S → S → List Piece → Ending → Ending → Received → Received
+    → Type 0
 Left means s0 lines ending answer before after =
     ((answer ≡ ending) × IsOfLine ending × Said means s0 lines ending [] before after)
     ⊎ ((answer ≡ endings.WritingFailed) × Broke means s0 IsOfLine lines before after)
 
 -- after these lines, or if the last of them ended it
-abbrev pub Came : {S : Type 0} → Putting S → S → List Piece → Option Ending → S → Text → Received → Received → Type 0
+abbrev pub Came : {S : Type 0} → Putting S → S → List Piece → Option Ending → S → Text → Received
+    → Received → Type 0
 Came means s0 lines None s held before after = Stood means s0 lines s held before after
-Came means s0 lines (Some ending) s held before after = Halted means s0 ending lines held.text before after
+Came means s0 lines (Some ending) s held before after =
+    Halted means s0 ending lines held.text before after
 
 -- a write failed
 abbrev pub is_cut : Ending → Bool
@@ -92,10 +101,15 @@ is_cut endings.WritingFailed = true
 is_cut ending = false
 
 -- what a scribe and its text mean, in a taker of lines that has both
-abbrev pub writes : {W S O : Type 0} → (W → S) → (W → Text) → Putting S → (O → Received) → Meaning W O Ending
+abbrev pub writes : {W S O : Type 0} → (W → S) → (W → Text) → Putting S → (O → Received)
+    → Meaning W O Ending
 writes scribe text means see = record {
-  took = λ w0 output0 lines w output. Stood means (scribe w0) lines (scribe w) (text w) (see output0) (see output);
-  stopped = λ w0 output0 lines ending w output. Halted means (scribe w0) ending lines (text w).text (see output0) (see output);
+  took =
+      λ w0 output0 lines w output. Stood means (scribe w0) lines (scribe w) (text w) (see output0)
+      (see output);
+  stopped =
+      λ w0 output0 lines ending w output. Halted means (scribe w0) ending lines (text w).text
+      (see output0) (see output);
   may = λ w. MayTake means (scribe w) (text w);
   is_written = λ w. (text w).text ≡ [];
 }

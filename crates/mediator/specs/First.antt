@@ -21,10 +21,12 @@ AreOpening first = has_last_event (first_events first) ≡ false
 abbrev pub AreWholeLines : List ℕ → Type 0
 AreWholeLines bytes = (bytes ≡ []) ⊎ ((front : List ℕ) × (bytes ≡ front ++ line_feed ∷ []))
 
--- What arrives of whole first lines and of more bytes is the first lines, and then what arrives of those bytes.
+-- What arrives of whole first lines and of more bytes is the first lines, and then
+-- what arrives of those bytes.
 abbrev pub FirstLinesJoin : Type 0
 FirstLinesJoin = (first got : List ℕ) → AreWholeLines first → AreOpening first
-    → arrivals peers.Iface (items line_limit (first ++ got)) ≡ first_events first ++ arrivals peers.Iface (items line_limit got)
+    → arrivals peers.Iface (items line_limit (first ++ got))
+    ≡ first_events first ++ arrivals peers.Iface (items line_limit got)
 
 -- these events, and then what arrived
 abbrev pub ArrivedBehind : List Event → Peer → Supplied → Supplied → List Event → ReadEnd → Type 0

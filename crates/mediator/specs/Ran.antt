@@ -29,8 +29,10 @@ pub record KeepsChannel {M : Type 0} (old new : MediatorParts M) : Type 0 where
   pub taker : KeepsTaker old.turns.taker new.turns.taker
 
 -- The loop is over. What it received is the first lines, and then of each side what arrived there.
-pub record Ran {M : Type 0} (means : Meaning M) (m0 m : M) (first : List ℕ) (before after : Streams) (end : RunEnd) : Type 0 where
+pub record Ran {M : Type 0} (means : Meaning M) (m0 m : M) (first : List ℕ) (before after : Streams)
+    (end : RunEnd) : Type 0 where
   pub later : List Event
   pub looped : Looped means m0 m (first_events first ++ later) before.into after.into end.done
   pub iface : Arrived peers.Iface before.input after.input (sent_by peers.Iface later) end.iface
-  pub engine : Arrived peers.Engine before.source after.source (sent_by peers.Engine later) end.engine
+  pub engine :
+      Arrived peers.Engine before.source after.source (sent_by peers.Engine later) end.engine

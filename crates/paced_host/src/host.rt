@@ -128,7 +128,8 @@ impl<'a> Host for PacedHost<'a> {
             (shown_by_source run.entry.source.source) (shown_by_sink run.entry.sink) }
         ensures asked { asked_of self.new.host ≡ asked_of self.old.host }
         ensures cause { ClosesBy self.old.host.faults self.new.host.faults
-            (shown_by_source run.entry.source.source).faults (shown_by_sink run.entry.sink).faults result }
+            (shown_by_source run.entry.source.source).faults (shown_by_sink run.entry.sink).faults
+            result }
     {
         let Started {
             source,

@@ -1,5 +1,7 @@
 -- Numbers as texts. Leading zeros are accepted.
-use Rattle.std.specs.Prelude.{◌/◌, ◌%◌, ◌++◌, decimal, [], ◌∷◌, ℕ, ◌+◌, ◌-◌, ◌*◌, ◌^◌, List, length, take, drop, position, Bool, ◌&&◌, if◌then◌else◌, ◌==◌, nat_le, nat_lt, Option, Some, None, ℤ, pos, neg_ℤ}
+use Rattle.std.specs.Prelude.{◌/◌, ◌%◌, ◌++◌, decimal, [], ◌∷◌, ℕ, ◌+◌, ◌-◌, ◌*◌, ◌^◌, List}
+use Rattle.std.specs.Prelude.{length, take, drop, position, Bool, ◌&&◌, if◌then◌else◌, ◌==◌}
+use Rattle.std.specs.Prelude.{nat_le, nat_lt, Option, Some, None, ℤ, pos, neg_ℤ}
 use Rattle.std.specs.List.{list_all}
 use Rattle.std.specs.Option.{option_map}
 use Rattle.std.specs.Char.{is_ascii_digit}
@@ -9,7 +11,8 @@ use Rattle.peer_words.specs.declared.numbers.TheConstants.{SECOND}
 
 -- one decimal digit or more, and no more than so many
 abbrev pub is_digits : ℕ → List ℕ → Bool
-is_digits most text = nat_lt 0 (length text) && nat_le (length text) most && list_all is_ascii_digit text
+is_digits most text =
+    nat_lt 0 (length text) && nat_le (length text) most && list_all is_ascii_digit text
 
 -- the number that so many decimal digits at most write
 abbrev pub digits : ℕ → List ℕ → Option ℕ
@@ -32,11 +35,13 @@ negative n = option_map (λ k. neg_ℤ (pos k)) n
 
 -- perhaps a minus, then a count
 abbrev pub signed_number : List ℕ → Option ℤ
-signed_number text = if starts_with_minus text then negative (count (drop 1 text)) else positive (count text)
+signed_number text =
+    if starts_with_minus text then negative (count (drop 1 text)) else positive (count text)
 
 -- perhaps a minus, then a number
 abbrev pub centis : List ℕ → Option ℤ
-centis text = if starts_with_minus text then negative (number (drop 1 text)) else positive (number text)
+centis text =
+    if starts_with_minus text then negative (number (drop 1 text)) else positive (number text)
 
 abbrev pub is_point : ℕ → Bool
 is_point b = b == point
@@ -54,7 +59,8 @@ milliseconds None part = None
 -- the same with the place of the point, if there is one
 abbrev pub seconds_at : Option ℕ → List ℕ → Option ℕ
 seconds_at None text = milliseconds (digits 6 text) (Some 0)
-seconds_at (Some at) text = milliseconds (digits 6 (take at text)) (thousandths (drop (at + 1) text))
+seconds_at (Some at) text =
+    milliseconds (digits 6 (take at text)) (thousandths (drop (at + 1) text))
 
 -- 1 to 6 digits, and perhaps a point and 1 to 3 digits more: seconds, as a number of milliseconds
 abbrev pub seconds : List ℕ → Option ℕ

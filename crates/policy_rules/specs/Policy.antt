@@ -1,7 +1,8 @@
 -- The settings.
 use Rattle.std.specs.Prelude.{◌≤◌, true, false}
 use Rattle.policy_rules.specs.declared.settings.Settings.{Settings}
-use Rattle.policy_rules.specs.declared.settings.TheConstants.{MOST_MOVES, MOST_SCORE, USUAL_MOVES, USUAL_SCORE}
+use Rattle.policy_rules.specs.declared.settings.TheConstants.{MOST_MOVES, MOST_SCORE}
+use Rattle.policy_rules.specs.declared.settings.TheConstants.{USUAL_MOVES, USUAL_SCORE}
 
 abbrev pub usual : Settings
 usual = record {

@@ -1,5 +1,7 @@
 -- What the policy says of the scores of the moves that the engine showed.
-use Rattle.std.specs.Prelude.{◌≡◌, ◌↔◌, IsTrue, ◌+◌, ℕ, zero, suc, ℤ, ◌≤ℤ◌, int_le, pos, neg_ℤ, List, [], ◌∷◌, Bool, true, false, ◌&&◌, if◌then◌else◌, nat_lt, nat_le, Option, Some, None}
+use Rattle.std.specs.Prelude.{◌≡◌, ◌↔◌, IsTrue, ◌+◌, ℕ, zero, suc, ℤ, ◌≤ℤ◌, int_le}
+use Rattle.std.specs.Prelude.{pos, neg_ℤ, List, [], ◌∷◌, Bool, true, false, ◌&&◌}
+use Rattle.std.specs.Prelude.{if◌then◌else◌, nat_lt, nat_le, Option, Some, None}
 use Rattle.policy_rules.specs.declared.settings.Settings.{Settings}
 use Rattle.policy_rules.specs.declared.settings.TheConstants.{MOST_MOVES}
 use Rattle.policy_rules.specs.declared.scores.Scores.{Scores}
@@ -26,7 +28,8 @@ lost_bound settings = neg_ℤ (pos settings.resign_score)
 
 -- resigning is on, and the last scores are all lost
 abbrev pub Resigns : Settings → List Score → Type 0
-Resigns settings scores = (settings.resign ≡ true) × LastAtMost settings.resign_moves (lost_bound settings) scores
+Resigns settings scores =
+    (settings.resign ≡ true) × LastAtMost settings.resign_moves (lost_bound settings) scores
 
 -- none of the last scores is better than even
 abbrev pub AcceptsDraw : Settings → List Score → Type 0
@@ -67,7 +70,8 @@ last_at_most (suc n) bound (score ∷ scores) = is_at_most bound score && last_a
 
 -- whether the game is resigned after these scores
 abbrev pub does_resign : Settings → List Score → Bool
-does_resign settings scores = settings.resign && last_at_most settings.resign_moves (lost_bound settings) scores
+does_resign settings scores =
+    settings.resign && last_at_most settings.resign_moves (lost_bound settings) scores
 
 -- whether a draw is accepted after them
 abbrev pub does_accept : Settings → List Score → Bool
@@ -85,10 +89,12 @@ accepts_by counts = nat_le counts.settings.resign_moves counts.level
 abbrev pub CountsTell : Type 0
 CountsTell =
     (settings : Settings) (scores : List Score) → IsProper settings
-    → (resigns_by (score_counts settings scores) ≡ does_resign settings scores) × (accepts_by (score_counts settings scores) ≡ does_accept settings scores)
+    → (resigns_by (score_counts settings scores) ≡ does_resign settings scores)
+    × (accepts_by (score_counts settings scores) ≡ does_accept settings scores)
 
 -- The tests on scores hold if and only if the policy says so.
 abbrev pub TestsTell : Type 0
 TestsTell =
     (settings : Settings) (scores : List Score)
-    → (IsTrue (does_resign settings scores) ↔ Resigns settings scores) × (IsTrue (does_accept settings scores) ↔ AcceptsDraw settings scores)
+    → (IsTrue (does_resign settings scores) ↔ Resigns settings scores)
+    × (IsTrue (does_accept settings scores) ↔ AcceptsDraw settings scores)

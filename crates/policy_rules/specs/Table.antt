@@ -1,11 +1,15 @@
 -- The table of settings: their names, the values that they may have, and those that they have.
-use Rattle.std.specs.Prelude.{◌≤◌, ℕ, List, [], ◌∷◌, take, drop, codes, decimal, Bool, true, false, not, ◌==◌, if◌then◌else◌}
+use Rattle.std.specs.Prelude.{◌≤◌, ℕ, List, [], ◌∷◌, take, drop, codes, decimal}
+use Rattle.std.specs.Prelude.{Bool, true, false, not, ◌==◌, if◌then◌else◌}
 use Rattle.std.specs.List.{list_all}
 use Rattle.policy_rules.specs.Policy.{usual}
 use Rattle.policy_rules.specs.declared.settings.Settings.{Settings}
 use Rattle.policy_rules.specs.declared.settings.TheConstants.{MOST_MOVES, MOST_SCORE}
 use Rattle.policy_rules.specs.declared.table.Setting.{Setting}
-use Rattle.policy_rules.specs.declared.table.Setting.TheVariants.{Resign, ResignMoves, ResignScore, ShowPonder, EarlySettings, ResignWhenGone, HandleDraws, ShowSan, StrengthOptions}
+use Rattle.policy_rules.specs.declared.table.Setting.TheVariants.{Resign, ResignMoves, ResignScore}
+use Rattle.policy_rules.specs.declared.table.Setting.TheVariants.{ShowPonder, EarlySettings}
+use Rattle.policy_rules.specs.declared.table.Setting.TheVariants.{ResignWhenGone, HandleDraws}
+use Rattle.policy_rules.specs.declared.table.Setting.TheVariants.{ShowSan, StrengthOptions}
 use Rattle.policy_rules.specs.declared.table.Range.{Range}
 use Rattle.policy_rules.specs.declared.table.Range.TheVariants as ranges
 use Rattle.policy_rules.specs.declared.table.Value.{Value}

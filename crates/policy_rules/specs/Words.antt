@@ -1,5 +1,6 @@
 -- What words NAME=VALUE choose.
-use Rattle.std.specs.Prelude.{ℕ, ◌+◌, List, [], ◌∷◌, map, take, drop, position, Bool, true, false, ◌&&◌, ◌==◌, if◌then◌else◌, nat_le, codes, Option, Some, None}
+use Rattle.std.specs.Prelude.{ℕ, ◌+◌, List, [], ◌∷◌, map, take, drop, position, Bool, true, false}
+use Rattle.std.specs.Prelude.{◌&&◌, ◌==◌, if◌then◌else◌, nat_le, codes, Option, Some, None}
 use Rattle.std.specs.List.{before_first}
 use Rattle.std.specs.Option.{option_map, option_and_then}
 use Rattle.std.specs.Map.{lookup}
@@ -36,7 +37,8 @@ number_in places least most text = within least most (digits places text)
 -- the value of a range that a text spells
 abbrev pub value_in : Range → List ℕ → Option Value
 value_in ranges.Truth text = option_map (λ b. Truth b) (truth_in text)
-value_in (ranges.Number least most) text = option_map (λ n. Number n) (number_in NUMBER_PLACES least most text)
+value_in (ranges.Number least most) text =
+    option_map (λ n. Number n) (number_in NUMBER_PLACES least most text)
 
 abbrev pub is_equals : ℕ → Bool
 is_equals b = b == equals
@@ -47,12 +49,14 @@ name_in word = before_first is_equals word
 
 abbrev pub choice_for : Setting → List ℕ → Option Choice
 choice_for setting text =
-    option_map (λ value. record { setting = setting; value = value }) (value_in (range_of setting) text)
+    option_map (λ value. record { setting = setting; value = value })
+    (value_in (range_of setting) text)
 
 abbrev pub choice_at : Option ℕ → List ℕ → Option Choice
 choice_at None word = None
 choice_at (Some at) word =
-    option_and_then (λ setting. choice_for setting (drop (at + 1) word)) (setting_named (take at word))
+    option_and_then (λ setting. choice_for setting (drop (at + 1) word))
+    (setting_named (take at word))
 
 -- what a word NAME=VALUE chooses
 abbrev pub choice_of : List ℕ → Option Choice

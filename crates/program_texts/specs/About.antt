@@ -1,5 +1,6 @@
 -- The texts that the words of a program may ask for in place of its work.
-use Rattle.std.specs.Prelude.{◌≡◌, ◌⊎◌, ℕ, List, [], ◌∷◌, ◌++◌, codes, if◌then◌else◌, Option, Some, None}
+use Rattle.std.specs.Prelude.{◌≡◌, ◌⊎◌, ℕ, List, [], ◌∷◌, ◌++◌, codes}
+use Rattle.std.specs.Prelude.{if◌then◌else◌, Option, Some, None}
 use Rattle.std.specs.Str.{bytes_eq}
 use Rattle.std.specs.Io.KnownBytes.{Appends}
 use Rattle.line_io.specs.Causes.{Rose}
@@ -44,11 +45,13 @@ pub record Lacked (before after : Received) (code : ℕ) : Type 0 where
   pub nothing : after ≡ before
 
 abbrev pub Shows : List ℕ → Received → Received → ℕ → Type 0
-Shows text before after code = Wrote text before after code ⊎ (Failed text before after code ⊎ Lacked before after code)
+Shows text before after code =
+    Wrote text before after code ⊎ (Failed text before after code ⊎ Lacked before after code)
 
 -- the text that was asked for is shown; if none was, nothing is done
 abbrev pub IsShownAs : About → Option OwnText → Received → Received → Option Status → Type 0
-IsShownAs about (Some text) before after (Some status) = Shows (text_of about text) before after status.code
+IsShownAs about (Some text) before after (Some status) =
+    Shows (text_of about text) before after status.code
 IsShownAs about None before after None = after ≡ before
 IsShownAs about (Some text) before after None = ⊥
 IsShownAs about None before after (Some status) = ⊥

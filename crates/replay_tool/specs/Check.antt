@@ -1,5 +1,6 @@
 -- What `check` finds.
-use Rattle.std.specs.Prelude.{◌≡◌, ◌≢◌, ℕ, ◌+◌, ◌^◌, ◌≤◌, List, [], ◌∷◌, ◌++◌, length, map, Bool, true, false, ◌⊎◌, Option, None}
+use Rattle.std.specs.Prelude.{◌≡◌, ◌≢◌, ℕ, ◌+◌, ◌^◌, ◌≤◌, List, [], ◌∷◌, ◌++◌}
+use Rattle.std.specs.Prelude.{length, map, Bool, true, false, ◌⊎◌, Option, None}
 use Rattle.std.specs.Io.KnownBytes.{Appends}
 use Rattle.line_io.specs.Causes.{Rose}
 use Rattle.line_io.specs.Event.{Event}
@@ -15,7 +16,8 @@ use Rattle.command_endings.specs.declared.ending.Ending.{Ending}
 use Rattle.command_endings.specs.declared.ending.Ending.TheVariants as endings
 use Rattle.replay_tool.specs.Verdict.{verdict}
 use Rattle.command_endings.specs.Streams.{Streams}
-use Rattle.script_player.specs.Versions.{LineKind, Tells, Writes, HasNone, kind_of, Version, First, Second, version_in, settings_by, script_by}
+use Rattle.script_player.specs.Versions.{LineKind, Tells, Writes, HasNone, kind_of, Version}
+use Rattle.script_player.specs.Versions.{First, Second, version_in, settings_by, script_by}
 use Rattle.command_endings.specs.Reads.{Got, IsAll, AreRead, AreFirst}
 use Rattle.line_io.specs.declared.limits.TheConstants.{SCRIPT_LINE}
 
@@ -37,15 +39,16 @@ pub record BeginBy (o : Settings) (version : Version) (lines : List Piece) : Typ
   pub later : List Piece
   pub goes_on : lines_by version trace ≡ lines ++ later
 
--- the lines after which the event of the next step stands: in version 2 those with its number, but no number comes once both
--- sides have ended
+-- the lines after which the event of the next step stands: in version 2 those with its number, but
+-- no number comes once both sides have ended
 abbrev pub lines_before : Version → Bool → List Step → List Piece
 lines_before First over trace = lines_by First trace
 lines_before (Second settings) true trace = lines_by (Second settings) trace
 lines_before (Second settings) false trace =
     lines_by (Second settings) trace ++ Whole (step_line (step_number (length trace))) ∷ []
 
--- After the lines of the script of a lawful trace the event of the next step stands, or would stand.
+-- After the lines of the script of a lawful trace the event of the next
+-- step stands, or would stand.
 pub record AwaitBy (o : Settings) (version : Version) (lines : List Piece) : Type 0 where
   pub trace : List Step
   pub lawful : Lawful (settings_by version o) trace
@@ -77,7 +80,8 @@ kind_under (Second settings) kind = kind
 abbrev pub kind_in : Version → Piece → LineKind
 kind_in version line = kind_under version (kind_of line)
 
--- The line with this number was read, and is the first up to which the lines do not begin the script of a lawful trace.
+-- The line with this number was read, and is the first up to which the lines do not begin the
+-- script of a lawful trace.
 pub record Parts (o : Settings) (number : ℕ) (start now : Streams) : Type 0 where
   pub before : List Piece
   pub line : Piece
@@ -97,7 +101,8 @@ pub record PartsByEvent (o : Settings) (number : ℕ) (start now : Streams) : Ty
   pub event : Event
   pub is_event : kind_of parts.line ≡ Tells event
   pub awaited : AwaitEvent o parts.before
-  pub may_not : may (state (settings_by (version_in parts.before) o) awaited.trace).ends event ≡ false
+  pub may_not :
+      may (state (settings_by (version_in parts.before) o) awaited.trace).ends event ≡ false
 
 -- it is another line than the written line or step line that is due, or such a line if none is due
 pub record PartsByLine (o : Settings) (number : ℕ) (start now : Streams) : Type 0 where
@@ -166,4 +171,6 @@ pub record WritesPart (o : Settings) (start now : Streams) : Type 0 where
 abbrev pub ChecksAs : Settings → Type 0 → Type 0 → Ending → Streams → Streams → Type 0
 ChecksAs o unread kept endings.NoMemory start now = unread × kept
 ChecksAs o unread kept endings.WritingFailed start now = WritesPart o start now
-ChecksAs o unread kept e start now = Finds o e start now × Appends start.output.taken now.output.taken (verdict e) × (verdict e ≡ [] → kept)
+ChecksAs o unread kept e start now =
+    Finds o e start now × Appends start.output.taken now.output.taken (verdict e)
+    × (verdict e ≡ [] → kept)

@@ -6,7 +6,8 @@ use Rattle.line_io.specs.Lines.{items}
 use Rattle.policy_rules.specs.declared.settings.Settings.{Settings}
 use Rattle.command_endings.specs.declared.ending.Ending.{Ending}
 use Rattle.command_endings.specs.declared.ending.Ending.TheVariants as endings
-use Rattle.replay_tool.specs.Check.{AreScript, BeginsWhole, BeginsMuch, ChecksAs, Differs, Finds, IsLawfulScript, WritesPart}
+use Rattle.replay_tool.specs.Check.{AreScript, BeginsWhole, BeginsMuch, ChecksAs}
+use Rattle.replay_tool.specs.Check.{Differs, Finds, IsLawfulScript, WritesPart}
 use Rattle.command_endings.specs.Diagnostics.{code_of, diagnostic}
 use Rattle.replay_tool.specs.Verdict.{verdict}
 use Rattle.replay_tool.specs.Laws.{HaveLaws}
@@ -29,8 +30,8 @@ pub record FoundDifference (o : Settings) (before after : Streams) : Type 0 wher
   pub written : Appends before.output.taken after.output.taken (verdict (endings.Differs number))
   pub no_failure : AreSame before after
 
--- A line that has no mark, or whose event may not come, was found and reported. Nothing was written to
--- the output.
+-- A line that has no mark, or whose event may not come, was found and reported. Nothing
+-- was written to the output.
 pub record FoundBadLine (o : Settings) (Kept : Type 0) (before after : Streams) : Type 0 where
   pub fault : Ending
   pub is_fault : code_of fault ≡ 2
@@ -38,8 +39,8 @@ pub record FoundBadLine (o : Settings) (Kept : Type 0) (before after : Streams) 
   pub told : Appends before.diag.taken after.diag.taken (diagnostic fault)
   pub unwritten : Kept
 
--- A check of an input answers 0 if and only if its lines are the script of a lawful trace, except for
--- lack of memory and failures.
+-- A check of an input answers 0 if and only if its lines are the script of a lawful trace, except
+-- for lack of memory and failures.
 abbrev pub IsExactCheck : Settings → Streams → ℕ → Type 0
 IsExactCheck o before code =
     (x : List ℕ) → before.input.left ≡ Some x → code ≢ 3 → code ≢ 4 → code ≢ 5 → code ≢ 6

@@ -1,5 +1,6 @@
 -- What the words of the program command.
-use Rattle.std.specs.Prelude.{ℕ, ◌≤◌, List, [], ◌∷◌, length, ◌&&◌, if◌then◌else◌, ◌-◌, nat_lt, codes, Option, Some, None, Vec, vec_items, map}
+use Rattle.std.specs.Prelude.{ℕ, ◌≤◌, List, [], ◌∷◌, length, ◌&&◌, if◌then◌else◌, ◌-◌}
+use Rattle.std.specs.Prelude.{nat_lt, codes, Option, Some, None, Vec, vec_items, map}
 use Rattle.std.specs.Option.{option_map}
 use Rattle.std.specs.Str.{bytes_eq}
 use Rattle.replay_tool.specs.declared.command.ReplayCommand.{ReplayCommand}
@@ -16,8 +17,9 @@ use Rattle.replay_tool.specs.Words.{settings_of}
 use Rattle.drill.specs.declared.generator.TheConstants.{MODULUS}
 use Rattle.drill.specs.declared.run.TheConstants.{MOST_ROUNDS}
 
--- what is asked for: a replay, a check, a migration, the games or the positions with settings, a judgement of the log that this
--- one wrote, a script played to an engine of so many lives or to a driver, a drill, or the moves of what a text spells
+-- what is asked for: a replay, a check, a migration, the games or the positions with settings, a
+-- judgement of the log that this one wrote, a script played to an engine of so many lives or to a
+-- driver, a drill, or the moves of what a text spells
 pub data ReplayRequest : Type 0 where
   Replay : (settings : Settings) → ReplayRequest
   Check : (settings : Settings) → ReplayRequest
@@ -79,8 +81,8 @@ command_by (Some names.Drill) words = drill_of words
 command_by (Some names.Moves) words = moves_of words
 
 -- the command of this name with these words: settings stand after `replay`, `check`,
--- `migrate`, `games` and `positions`, nothing or `tap` after `judge`, nothing after `drive`, one digit after `revive`, one
--- or more words after `moves`, and two numbers after `drill`
+-- `migrate`, `games` and `positions`, nothing or `tap` after `judge`, nothing after `drive`, one
+-- digit after `revive`, one or more words after `moves`, and two numbers after `drill`
 abbrev pub command_named : List ℕ → List (List ℕ) → Option ReplayRequest
 command_named name words =
     if bytes_eq name (codes "replay") then option_map (λ s. Replay s) (settings_of words)
@@ -90,7 +92,8 @@ command_named name words =
     else (if bytes_eq name (codes "revive") then revive_of words
     else (if bytes_eq name (codes "drive") then alone Drive words
     else (if bytes_eq name (codes "games") then option_map (λ s. Games s) (settings_of words)
-    else (if bytes_eq name (codes "positions") then option_map (λ s. Positions s) (settings_of words)
+    else (if bytes_eq name (codes "positions")
+    then option_map (λ s. Positions s) (settings_of words)
     else (if bytes_eq name (codes "drill") then drill_of words
     else (if bytes_eq name (codes "moves") && nat_lt 0 (length words) then Some (Moves
     (fen_of words)) else None)))))))))

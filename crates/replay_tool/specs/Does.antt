@@ -23,13 +23,18 @@ Does (Some (asked.Replay o)) unread kept silent before after code =
     HaveLaws o × Ran (λ e. EndsAs o (unread × kept) e before after) before after code
 Does (Some (asked.Check o)) unread kept silent before after code =
     HaveLaws o × Ran (λ e. ChecksAs o unread kept e before after) before after code
-Does (Some (asked.Migrate o)) unread kept silent before after code = Migrated o unread kept before after code
+Does (Some (asked.Migrate o)) unread kept silent before after code =
+    Migrated o unread kept before after code
 Does (Some (asked.Judge listener)) unread kept silent before after code =
     Judged listener (unread × kept) before after code
-Does (Some (asked.Revive lives)) unread kept silent before after code = Revived lives (unread × kept) before after code
-Does (Some asked.Drive) unread kept silent before after code = Driven (unread × kept) before after code
-Does (Some (asked.Games o)) unread kept silent before after code = GamesWritten o unread kept before after code
-Does (Some (asked.Positions o)) unread kept silent before after code = PositionsWritten o unread kept before after code
+Does (Some (asked.Revive lives)) unread kept silent before after code =
+    Revived lives (unread × kept) before after code
+Does (Some asked.Drive) unread kept silent before after code =
+    Driven (unread × kept) before after code
+Does (Some (asked.Games o)) unread kept silent before after code =
+    GamesWritten o unread kept before after code
+Does (Some (asked.Positions o)) unread kept silent before after code =
+    PositionsWritten o unread kept before after code
 Does (Some (asked.Moves text)) unread kept silent before after code =
     unread × Lists (position_of text) kept silent code before.output after.output before.diag
     after.diag

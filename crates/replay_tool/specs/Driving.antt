@@ -12,9 +12,9 @@ use Rattle.command_endings.specs.Streams.{Streams}
 use Rattle.driver_script.specs.Scripts.{IsDriven, events_of}
 use Rattle.driver_wire.specs.Runs.{AllHeard}
 
--- All of the input was read and the script of a driver that takes its events was written. A bridge that took
--- these events before, and then takes the lines that the driver writes to its engine as an interface's, has
--- the ordered game at each `go` and `analyze`.
+-- All of the input was read and the script of a driver that takes its events was written. A bridge
+-- that took these events before, and then takes the lines that the driver writes to its engine as
+-- an interface's, has the ordered game at each `go` and `analyze`.
 pub record DroveTheOrdered (o : Settings) (taken : List Event) (start now : Streams) : Type 0 where
   pub got : List ℕ
   pub reads : Got start now got
@@ -24,7 +24,9 @@ pub record DroveTheOrdered (o : Settings) (taken : List Event) (start now : Stre
   pub written : Appends start.output.taken now.output.taken text
   pub heard : AllHeard o opening taken (events_of (items SCRIPT_LINE got)) driven.script.after
 
--- So it is at status 0, whatever the bridge's settings are and whatever it took before, unless that closed its session.
+-- So it is at status 0, whatever the bridge's settings are and whatever it took before, unless
+-- that closed its session.
 abbrev pub DrivesTheOrdered : Streams → Streams → ℕ → Type 0
 DrivesTheOrdered start now code =
-    code ≡ 0 → (o : Settings) (taken : List Event) → (alone o taken).ends.closed ≡ false → DroveTheOrdered o taken start now
+    code ≡ 0 → (o : Settings) (taken : List Event) → (alone o taken).ends.closed ≡ false
+    → DroveTheOrdered o taken start now

@@ -22,13 +22,15 @@ searches listener script =
     (report listener (items SCRIPT_LINE script)).text
     ++ search_report (report listener (items SCRIPT_LINE script)).talk.search
 
--- The output took the lines of the script's searches, and after them `lawful talk`: no order crosses.
+-- The output took the lines of the script's searches, and after them `lawful
+-- talk`: no order crosses.
 abbrev pub FoundLawful : Listener → List ℕ → Streams → Streams → Type 0
 FoundLawful listener script before after =
     Appends before.output.taken after.output.taken (searches listener script ++ lawful_line)
 
 -- What each status says of a script.
-pub record NoFaultFound (listener : Listener) (script : List ℕ) (before after : Streams) (code : ℕ) : Type 0 where
+pub record NoFaultFound (listener : Listener) (script : List ℕ) (before after : Streams)
+    (code : ℕ) : Type 0 where
   pub lawful : code ≡ 0 → FoundLawful listener script before after
   pub not_unlawful : code ≡ 1 → ⊥
   pub no_line_without_mark : code ≡ 2 → ⊥
@@ -45,8 +47,8 @@ JudgesOwnTalk listener before after code =
 
 -- MIGRATING
 
--- If the input is the script of version 1 of a lawful trace that has its Open step, the command `migrate` wrote the trace's
--- script of version 2.
+-- If the input is the script of version 1 of a lawful trace that has its Open step, the command
+-- `migrate` wrote the trace's script of version 2.
 abbrev pub MigratesOwnScripts : Settings → Streams → Streams → ℕ → Type 0
 MigratesOwnScripts settings before after code =
     (o : Settings) (trace : List Step) → Lawful o trace → IsOpened o trace

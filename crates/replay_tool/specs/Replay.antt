@@ -9,7 +9,8 @@ use Rattle.session_script.specs.Script.{events}
 use Rattle.command_endings.specs.Reads.{Got, IsAll, AreFirst, AreRead}
 use Rattle.command_endings.specs.Streams.{Streams}
 use Rattle.script_player.specs.Playing.{Scripted}
-use Rattle.script_player.specs.Versions.{script_by, script_events, script_fault, settings_by, version_in}
+use Rattle.script_player.specs.Versions.{script_by, script_events}
+use Rattle.script_player.specs.Versions.{script_fault, settings_by, version_in}
 use Rattle.command_endings.specs.declared.ending.Ending.{Ending}
 use Rattle.command_endings.specs.declared.ending.Ending.TheVariants as endings
 use Rattle.line_io.specs.declared.limits.TheConstants.{SCRIPT_LINE}
@@ -46,7 +47,8 @@ pub record ReplaysWhole (o : Settings) (least : ℕ) (start now : Streams) : Typ
 pub record ReplaysMuch (o : Settings) (start now : Streams) : Type 0 where
   pub replays : ReplaysWhole o (2 ^ 32) start now
 
--- The output got a front of the script of a lawful trace. Its events are those of the first lines of the input.
+-- The output got a front of the script of a lawful trace. Its events are those of the
+-- first lines of the input.
 pub record CutShort (o : Settings) (start now : Streams) : Type 0 where
   pub lines : List Piece
   pub read : AreRead start now lines
@@ -54,7 +56,8 @@ pub record CutShort (o : Settings) (start now : Streams) : Type 0 where
   pub lawful : Lawful (settings_by (version_in lines) o) trace
   pub events_are : events trace ≡ script_events lines
   pub front : ℕ
-  pub appended : Appends start.output.taken now.output.taken (take front (script_by (version_in lines) trace))
+  pub appended :
+      Appends start.output.taken now.output.taken (take front (script_by (version_in lines) trace))
 
 -- how a run stopped
 abbrev pub Stopped : Settings → Ending → Streams → Streams → Type 0

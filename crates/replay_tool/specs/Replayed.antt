@@ -1,5 +1,6 @@
 -- What the command `replay` promises.
-use Rattle.std.specs.Prelude.{◌≡◌, ◌≢◌, ◌⊎◌, ⊤, ℕ, ◌^◌, ◌≤◌, ◌<◌, List, length, take, true, Some, None}
+use Rattle.std.specs.Prelude.{◌≡◌, ◌≢◌, ◌⊎◌, ⊤, ℕ, ◌^◌, ◌≤◌, ◌<◌}
+use Rattle.std.specs.Prelude.{List, length, take, true, Some, None}
 use Rattle.std.specs.Io.KnownBytes.{Appends}
 use Rattle.line_io.specs.Causes.{Rose}
 use Rattle.line_io.specs.Event.{Event}
@@ -16,7 +17,8 @@ use Rattle.command_endings.specs.Ran.{Ran, WritingBroke}
 use Rattle.command_endings.specs.Reads.{AreFirst, AreRead, Got, IsAll}
 use Rattle.replay_tool.specs.Replay.{EndsAs}
 use Rattle.command_endings.specs.Streams.{Streams, AreSame, IsSteady}
-use Rattle.script_player.specs.Versions.{Version, First, Second, script_by, script_events, script_fault, settings_by, version_in}
+use Rattle.script_player.specs.Versions.{Version, First, Second, script_by, script_events}
+use Rattle.script_player.specs.Versions.{script_fault, settings_by, version_in}
 use Rattle.line_io.specs.declared.limits.TheConstants.{SCRIPT_LINE}
 
 -- The trace is the lawful one with these settings and these events: there is no other.
@@ -25,9 +27,11 @@ pub record IsTheSession (o : Settings) (happened : List Event) (trace : List Ste
   pub events_are : events trace ≡ happened
   pub only : (other : List Step) → Lawful o other → events other ≡ happened → other ≡ trace
 
--- the session of these lines: its settings are the header's if there is one, its events those of the lines
+-- the session of these lines: its settings are the header's if there is one, its
+-- events those of the lines
 abbrev pub IsSessionOf : Settings → List Piece → List Step → Type 0
-IsSessionOf o lines trace = IsTheSession (settings_by (version_in lines) o) (script_events lines) trace
+IsSessionOf o lines trace =
+    IsTheSession (settings_by (version_in lines) o) (script_events lines) trace
 
 -- the output took the script of the session of these lines, in their version
 pub record WritesScript (o : Settings) (before after : Streams) (lines : List Piece) : Type 0 where
@@ -36,7 +40,8 @@ pub record WritesScript (o : Settings) (before after : Streams) (lines : List Pi
   pub short : AreShort trace
   pub written : Appends before.output.taken after.output.taken (script_by (version_in lines) trace)
 
--- All of the input was read, none of its lines is a fault, its script was written, and no stream failed.
+-- All of the input was read, none of its lines is a fault, its script was
+-- written, and no stream failed.
 pub record AllReplayed (o : Settings) (before after : Streams) : Type 0 where
   pub got : List ℕ
   pub reads : Got before after got
@@ -74,7 +79,8 @@ pub record FrontWritten (o : Settings) (before after : Streams) : Type 0 where
   pub trace : List Step
   pub session : IsSessionOf o lines trace
   pub front : ℕ
-  pub written : Appends before.output.taken after.output.taken (take front (script_by (version_in lines) trace))
+  pub written : Appends before.output.taken after.output.taken
+      (take front (script_by (version_in lines) trace))
 
 -- An input without a fault of fewer than 2^32 bytes is replayed, or there was no memory.
 abbrev pub CompletesReplay : Streams → Streams → ℕ → Type 0
@@ -94,8 +100,8 @@ abbrev pub IsProperIn : Version → Type 0
 IsProperIn First = ⊤
 IsProperIn (Second settings) = IsProper settings
 
--- If the input is the script, of either version, of a lawful trace that has its Open step, that script was written, except
--- for lack of memory and failures.
+-- If the input is the script, of either version, of a lawful trace that has its Open step, that
+-- script was written, except for lack of memory and failures.
 abbrev pub WritesItAgain : Settings → Streams → Streams → ℕ → Type 0
 WritesItAgain o before after code =
     (version : Version) (trace : List Step) → IsProperIn version

@@ -1,5 +1,6 @@
 -- Where a check has come to.
-use Rattle.std.specs.Prelude.{◌≡◌, ◌≢◌, ⊤, ℕ, suc, ◌+◌, ◌<◌, ◌^◌, List, [], ◌∷◌, ◌++◌, length, map, true, false, if◌then◌else◌, ◌==◌, Option, Some, None}
+use Rattle.std.specs.Prelude.{◌≡◌, ◌≢◌, ⊤, ℕ, suc, ◌+◌, ◌<◌, ◌^◌, List, [], ◌∷◌, ◌++◌, length}
+use Rattle.std.specs.Prelude.{map, true, false, if◌then◌else◌, ◌==◌, Option, Some, None}
 use Rattle.std.specs.List.{before_first, after_first}
 use Rattle.std.specs.Str.{bytes_eq}
 use Rattle.line_io.specs.Event.{Event, Open}
@@ -24,9 +25,13 @@ use Rattle.replay_tool.specs.Replayed.{IsProperIn}
 use Rattle.script_player.specs.Playing.{Adds}
 use Rattle.command_endings.specs.Streams.{Streams}
 use Rattle.command_endings.specs.Reads.{AreRead}
-use Rattle.script_player.specs.Versions.{LineKind, Tells, LineSaid, Comes, Passes, Starts, HasNoMark, IsOutOfStep, Cannot, Version, First, Second, kind_of, kind_says, settings_by, stage_started, stage_told, version_in}
+use Rattle.script_player.specs.Versions.{LineKind, Tells, LineSaid, Comes, Passes}
+use Rattle.script_player.specs.Versions.{Starts, HasNoMark, IsOutOfStep, Cannot, Version}
+use Rattle.script_player.specs.Versions.{First, Second, kind_of, kind_says, settings_by}
+use Rattle.script_player.specs.Versions.{stage_started, stage_told, version_in}
 
--- what a line is: the event that may come if nothing is due, the number of the next step, the line that is due, or another
+-- what a line is: the event that may come if nothing is due, the number of the next step, the
+-- line that is due, or another
 pub data Fit : Type 0 where
   TakesEvent : (event : Event) → Fit
   TakesNumber : (number : ℕ) → Fit
@@ -37,7 +42,8 @@ pub data Fit : Type 0 where
 abbrev pub number_undue : Ends → ℕ → ℕ → Fit
 number_undue ends n number = if is_over ends then Fails (endings.Differs n) else TakesNumber number
 
--- a line out of step: an event may not come once both sides have ended, and any other such line differs
+-- a line out of step: an event may not come once both sides have ended, and
+-- any other such line differs
 abbrev pub astray : Ends → ℕ → LineKind → Ending
 astray ends n (Tells e) = if is_over ends then endings.MayNotCome n else endings.Differs n
 astray ends n kind = endings.Differs n
@@ -71,7 +77,8 @@ other_than stage ends n line = said_other n (kind_says stage ends (kind_of (Whol
 abbrev pub fit : ScriptStage → Ends → List ℕ → ℕ → List ℕ → Fit
 fit stage ends due n line =
     if length due == 0 then undue stage ends n line
-    else (if bytes_eq line (before_first is_feed due) then TakesDue else Fails (other_than stage ends n line))
+    else (if bytes_eq line (before_first is_feed due) then TakesDue
+    else Fails (other_than stage ends n line))
 
 abbrev pub fault_in : Fit → Option Ending
 fault_in (TakesEvent e) = None
@@ -86,13 +93,18 @@ pub record Fills (old new : CoreParts) (e : Event) (due : List ℕ) : Type 0 whe
   pub due_is : due ≡ written_text step
 
 -- what was done with a line
-abbrev pub Followed : CoreParts → ScriptStage → List ℕ → Fit → CoreParts → ScriptStage → List ℕ → Type 0
-Followed old stage due (TakesEvent e) new stage' due' = Fills old new e due' × (stage' ≡ stage_told stage)
-Followed old stage due (TakesNumber n) new stage' due' = (new ≡ old) × (stage' ≡ stage_started stage n) × (due' ≡ due)
-Followed old stage due TakesDue new stage' due' = (new ≡ old) × (stage' ≡ stage) × (due' ≡ after_first is_feed due)
+abbrev pub Followed : CoreParts → ScriptStage → List ℕ → Fit → CoreParts → ScriptStage → List ℕ
+    → Type 0
+Followed old stage due (TakesEvent e) new stage' due' =
+    Fills old new e due' × (stage' ≡ stage_told stage)
+Followed old stage due (TakesNumber n) new stage' due' =
+    (new ≡ old) × (stage' ≡ stage_started stage n) × (due' ≡ due)
+Followed old stage due TakesDue new stage' due' =
+    (new ≡ old) × (stage' ≡ stage) × (due' ≡ after_first is_feed due)
 Followed old stage due (Fails e) new stage' due' = ⊤
 
--- The header was taken: the session has its settings, its first step was taken, and the number of that and its written lines are due.
+-- The header was taken: the session has its settings, its first step was taken, and the number of
+-- that and its written lines are due.
 pub record Heads (settings : Settings) (new : CoreParts) (due : List ℕ) : Type 0 where
   pub set : CoreParts
   pub stands : Stands settings set []
@@ -101,28 +113,37 @@ pub record Heads (settings : Settings) (new : CoreParts) (due : List ℕ) : Type
   pub due_is : due ≡ step_line 0 ++ line_feed ∷ written_text step
 
 -- The session was opened without a header, and then the line was taken.
-pub record OpensWith (old : CoreParts) (number : ℕ) (line : List ℕ) (answer : Option Ending) (new : CoreParts) (stage : ScriptStage) (due : List ℕ) : Type 0 where
+pub record OpensWith (old : CoreParts) (number : ℕ) (line : List ℕ) (answer : Option Ending)
+    (new : CoreParts) (stage : ScriptStage) (due : List ℕ) : Type 0 where
   pub core : CoreParts
   pub lines : List ℕ
   pub opens : Fills old core Open lines
   pub ending : answer ≡ fault_in (fit stages.Plain core.ends lines number line)
-  pub follows : Followed core stages.Plain lines (fit stages.Plain core.ends lines number line) new stage due
+  pub follows :
+      Followed core stages.Plain lines (fit stages.Plain core.ends lines number line) new stage due
 
 -- what was done with the first line, which is this header or none
-abbrev pub TakesFirst : Option Settings → CoreParts → ℕ → List ℕ → Option Ending → CoreParts → ScriptStage → List ℕ → Type 0
+abbrev pub TakesFirst : Option Settings → CoreParts → ℕ → List ℕ → Option Ending → CoreParts
+    → ScriptStage → List ℕ → Type 0
 TakesFirst (Some settings) old number line answer new stage due =
     Heads settings new due × (stage ≡ stages.Told 0) × (answer ≡ None)
-TakesFirst None old number line answer new stage due = OpensWith old number line answer new stage due
+TakesFirst None old number line answer new stage due =
+    OpensWith old number line answer new stage due
 
 -- a line of a session that was opened
-pub record TakesLater (old : CoreParts) (stage : ScriptStage) (due : List ℕ) (number : ℕ) (line : List ℕ) (answer : Option Ending) (new : CoreParts) (stage' : ScriptStage) (due' : List ℕ) : Type 0 where
+pub record TakesLater (old : CoreParts) (stage : ScriptStage) (due : List ℕ) (number : ℕ)
+    (line : List ℕ) (answer : Option Ending) (new : CoreParts) (stage' : ScriptStage)
+    (due' : List ℕ) : Type 0 where
   pub ending : answer ≡ fault_in (fit stage old.ends due number line)
   pub follows : Followed old stage due (fit stage old.ends due number line) new stage' due'
 
 -- what was done with a line
-abbrev pub TakesAny : CoreParts → ScriptStage → List ℕ → ℕ → List ℕ → Option Ending → CoreParts → ScriptStage → List ℕ → Type 0
-TakesAny old stages.Start due number line answer new stage' due' = TakesFirst (header_of line) old number line answer new stage' due'
-TakesAny old stage due number line answer new stage' due' = TakesLater old stage due number line answer new stage' due'
+abbrev pub TakesAny : CoreParts → ScriptStage → List ℕ → ℕ → List ℕ → Option Ending → CoreParts
+    → ScriptStage → List ℕ → Type 0
+TakesAny old stages.Start due number line answer new stage' due' =
+    TakesFirst (header_of line) old number line answer new stage' due'
+TakesAny old stage due number line answer new stage' due' =
+    TakesLater old stage due number line answer new stage' due'
 
 -- what the end of the input shows if these lines are due
 abbrev pub at_end : List ℕ → ℕ → Ending
@@ -165,8 +186,10 @@ pub record IsUnread (o : Settings) (checker : Checker) : Type 0 where
   pub stage : checker.stage ≡ stages.Start
   pub number : checker.number ≡ 0
 
--- the lines and those that are due are a script, and only written lines and the first step line are due
-pub record Shows (version : Version) (trace : List Step) (due : List ℕ) (lines : List Piece) : Type 0 where
+-- the lines and those that are due are a script, and only written lines and
+-- the first step line are due
+pub record Shows (version : Version) (trace : List Step) (due : List ℕ)
+    (lines : List Piece) : Type 0 where
   pub same : lines_by version trace ≡ lines ++ map Whole (parts due)
   pub quiet : events_in (parts due) ≡ []
 
@@ -177,7 +200,8 @@ pub record WasLast (number : ℕ) (trace : List Step) : Type 0 where
   pub number_is : number ≡ step_number count
 
 -- the lines are a script and the number of the next step, and a side has not ended
-pub record IsNext (version : Version) (ends : Ends) (trace : List Step) (number : ℕ) (due : List ℕ) (lines : List Piece) : Type 0 where
+pub record IsNext (version : Version) (ends : Ends) (trace : List Step) (number : ℕ) (due : List ℕ)
+    (lines : List Piece) : Type 0 where
   pub same : lines_by version trace ++ Whole (step_line number) ∷ [] ≡ lines
   pub number_is : number ≡ step_number (length trace)
   pub none_due : due ≡ []
@@ -186,12 +210,15 @@ pub record IsNext (version : Version) (ends : Ends) (trace : List Step) (number 
 -- the lines are those of the trace at this stage
 abbrev pub AreAt : Version → Ends → ScriptStage → List Step → List ℕ → List Piece → Type 0
 AreAt First ends stages.Plain trace due lines = Shows First trace due lines
-AreAt (Second settings) ends (stages.Told number) trace due lines = Shows (Second settings) trace due lines × WasLast number trace
-AreAt (Second settings) ends (stages.Numbered number) trace due lines = IsNext (Second settings) ends trace number due lines
+AreAt (Second settings) ends (stages.Told number) trace due lines =
+    Shows (Second settings) trace due lines × WasLast number trace
+AreAt (Second settings) ends (stages.Numbered number) trace due lines =
+    IsNext (Second settings) ends trace number due lines
 AreAt version ends stage trace due lines = ⊥
 
 -- The lines were taken, and they and those that are due are a lawful script.
-pub record Standing (o : Settings) (version : Version) (core : CoreParts) (stage : ScriptStage) (due : List ℕ) (lines : List Piece) : Type 0 where
+pub record Standing (o : Settings) (version : Version) (core : CoreParts) (stage : ScriptStage)
+    (due : List ℕ) (lines : List Piece) : Type 0 where
   pub proper : IsProperIn version
   pub trace : List Step
   pub lawful : Lawful (settings_by version o) trace
@@ -202,7 +229,8 @@ pub record Standing (o : Settings) (version : Version) (core : CoreParts) (stage
 -- no line was taken yet, or these
 abbrev pub Placed : Settings → CoreParts → ScriptStage → List ℕ → List Piece → Type 0
 Placed o core stage due [] = Stands o core [] × (stage ≡ stages.Start)
-Placed o core stage due (line ∷ lines) = Standing o (version_in (line ∷ lines)) core stage due (line ∷ lines)
+Placed o core stage due (line ∷ lines) =
+    Standing o (version_in (line ∷ lines)) core stage due (line ∷ lines)
 
 -- These lines were taken, and they and those that are due are a lawful script.
 pub record Walked (o : Settings) (checker : Checker) (lines : List Piece) : Type 0 where
@@ -218,8 +246,12 @@ pub record Shown (o : Settings) (ending : Ending) (lines : List Piece) : Type 0 
 -- what a check of lines means
 abbrev pub checks : {O : Type 0} → Meaning Checker O Ending
 checks {O} = record {
-  took = λ checker0 output0 lines checker output. (o : Settings) → IsUnread o checker0 → Walked o checker lines;
-  stopped = λ checker0 output0 lines ending checker output. (o : Settings) → IsUnread o checker0 → Shown o ending lines;
+  took =
+      λ checker0 output0 lines checker output. (o : Settings) → IsUnread o checker0
+      → Walked o checker lines;
+  stopped =
+      λ checker0 output0 lines ending checker output. (o : Settings) → IsUnread o checker0
+      → Shown o ending lines;
   may = λ checker. MayTake checker.core checker.stage;
   is_written = λ checker. ⊤;
 }

@@ -1,5 +1,6 @@
 -- The lines of a script of version 1 that is played to an engine that is started again.
-use Rattle.std.specs.Prelude.{◌≡◌, ℕ, ◌+◌, List, [], ◌∷◌, ◌++◌, length, true, false, Option, Some, None, is_some}
+use Rattle.std.specs.Prelude.{◌≡◌, ℕ, ◌+◌, List, [], ◌∷◌, ◌++◌, length}
+use Rattle.std.specs.Prelude.{true, false, Option, Some, None, is_some}
 use Rattle.std.specs.List.{AllByRecursion, flat_map}
 use Rattle.line_io.specs.Event.{Event}
 use Rattle.line_io.specs.Lines.{Piece, Whole, TooLong}
@@ -37,7 +38,8 @@ pub record ArePlayed (lives : ℕ) (lines : List Piece) : Type 0 where
 abbrev pub revival_of_lines : ℕ → List Piece → List ℕ
 revival_of_lines lives lines = revival_script lives (events_in lines)
 
--- Why a line with this number is not played in this state: it has no mark, or its event may not come.
+-- Why a line with this number is not played in this state: it has no mark,
+-- or its event may not come.
 abbrev pub IsReason : RevivalState → ℕ → Piece → Ending → Type 0
 IsReason s number line (endings.NoMark n) = (n ≡ number) × (mark_in line ≡ None)
 IsReason s number line (endings.MayNotCome n) =

@@ -26,10 +26,12 @@ pub record AllRevived (lives : ℕ) (before after : Streams) : Type 0 where
   pub reads : Got before after got
   pub all_read : IsAll before.input.left got
   pub played : ArePlayed lives (items SCRIPT_LINE got)
-  pub written : Appends before.output.taken after.output.taken (revival_of_lines lives (items SCRIPT_LINE got))
+  pub written : Appends before.output.taken after.output.taken
+      (revival_of_lines lives (items SCRIPT_LINE got))
   pub no_failure : AreSame before after
 
--- The first line that is not played was reported, and what is written for the lines before it was written.
+-- The first line that is not played was reported, and what is written for the
+-- lines before it was written.
 pub record FaultReported (lives : ℕ) (before after : Streams) : Type 0 where
   pub fault : Ending
   pub lines : List Piece
@@ -45,7 +47,8 @@ pub record WholeRevived (lives : ℕ) (before after : Streams) : Type 0 where
   pub reads : Got before after got
   pub first : AreFirst before.input.left (whole SCRIPT_LINE got)
   pub played : ArePlayed lives (whole SCRIPT_LINE got)
-  pub written : Appends before.output.taken after.output.taken (revival_of_lines lives (whole SCRIPT_LINE got))
+  pub written : Appends before.output.taken after.output.taken
+      (revival_of_lines lives (whole SCRIPT_LINE got))
 
 -- so it is if the input gave at least 2^32 bytes
 pub record MuchRevived (lives : ℕ) (before after : Streams) : Type 0 where
@@ -61,8 +64,8 @@ pub record FrontRevived (lives : ℕ) (before after : Streams) : Type 0 where
   pub written : Appends before.output.taken after.output.taken
       (take front (revival_of_lines lives lines))
 
--- An input of fewer than 2^32 bytes is played to its end or to the first line that is not played, or
--- there was no memory.
+-- An input of fewer than 2^32 bytes is played to its end or to the first line that is not
+-- played, or there was no memory.
 abbrev pub CompletesRevival : ℕ → Streams → Streams → ℕ → Type 0
 CompletesRevival lives before after code =
     (x : List ℕ) → before.input.left ≡ Some x → length x < 2 ^ 32 → IsSteady before after
@@ -75,7 +78,8 @@ PlaysAll lives before after code =
     (x : List ℕ) → before.input.left ≡ Some x → length x < 2 ^ 32
     → ArePlayed lives (items SCRIPT_LINE x) → IsSteady before after → (code ≡ 0) ⊎ (code ≡ 3)
 
--- The script that is written for events is written for it again: its lines that were written are ignored.
+-- The script that is written for events is written for it again: its lines that
+-- were written are ignored.
 abbrev pub RevivesAgain : ℕ → Streams → Streams → ℕ → Type 0
 RevivesAgain lives before after code =
     (events : List Event) → AreSpelled (map Happens events) → AllMayHappen (opening lives) events

@@ -15,7 +15,8 @@ use Rattle.revival_script.specs.Played.{ArePlayed, IsFault, revival_of_lines, st
 -- ONE LINE
 
 -- an event was played, and its text was put
-pub record IsPlayed (event : Event) (s : RevivalState) (held : Text) (s' : RevivalState) (held' : Text) : Type 0 where
+pub record IsPlayed (event : Event) (s : RevivalState) (held : Text) (s' : RevivalState)
+    (held' : Text) : Type 0 where
   pub may_come : may_happen s event ≡ true
   pub state_is : s' ≡ state_after s event
   pub put : held' ≡ with held (event_text s event)
@@ -26,12 +27,14 @@ pub record IsSame (s : RevivalState) (held : Text) (s' : RevivalState) (held' : 
   pub put : held' ≡ held
 
 -- it is a fault, and nothing was done
-pub record IsRefused (fault ending : Ending) (s : RevivalState) (held : Text) (s' : RevivalState) (held' : Text) : Type 0 where
+pub record IsRefused (fault ending : Ending) (s : RevivalState) (held : Text) (s' : RevivalState)
+    (held' : Text) : Type 0 where
   pub ending_is : ending ≡ fault
   pub same : IsSame s held s' held'
 
 -- An event was played if it may come, and else it is a fault.
-abbrev pub IsPlayedAs : ℕ → Event → Option Ending → RevivalState → Text → RevivalState → Text → Type 0
+abbrev pub IsPlayedAs : ℕ → Event → Option Ending → RevivalState → Text → RevivalState → Text
+    → Type 0
 IsPlayedAs number event None s held s' held' = IsPlayed event s held s' held'
 IsPlayedAs number event (Some ending) s held s' held' =
     (may_happen s event ≡ false) × IsRefused (endings.MayNotCome number) ending s held s' held'
@@ -42,23 +45,28 @@ Passes (Some ending) s held s' held' = ⊥
 
 abbrev pub HasNoMark : ℕ → Option Ending → RevivalState → Text → RevivalState → Text → Type 0
 HasNoMark number None s held s' held' = ⊥
-HasNoMark number (Some ending) s held s' held' = IsRefused (endings.NoMark number) ending s held s' held'
+HasNoMark number (Some ending) s held s' held' =
+    IsRefused (endings.NoMark number) ending s held s' held'
 
 -- what was done for a line with this mark
-abbrev pub Takes : ℕ → Option Mark → Option Ending → RevivalState → Text → RevivalState → Text → Type 0
-Takes number (Some (Happens event)) result s held s' held' = IsPlayedAs number event result s held s' held'
+abbrev pub Takes : ℕ → Option Mark → Option Ending → RevivalState → Text → RevivalState → Text
+    → Type 0
+Takes number (Some (Happens event)) result s held s' held' =
+    IsPlayedAs number event result s held s' held'
 Takes number (Some mark) result s held s' held' = Passes result s held s' held'
 Takes number None result s held s' held' = HasNoMark number result s held s' held'
 
 -- THE LINES IN ORDER
 
 -- these lines were played, and this is what is written for them
-pub record HasPlayed (lives : ℕ) (lines : List Piece) (s : RevivalState) (text : List ℕ) : Type 0 where
+pub record HasPlayed (lives : ℕ) (lines : List Piece) (s : RevivalState)
+    (text : List ℕ) : Type 0 where
   pub played : ArePlayed lives lines
   pub state_is : s ≡ state_over lives lines
   pub text_is : text ≡ revival_of_lines lives lines
 
--- the last of these lines is the first that is not played, and this is what is written for those before it
+-- the last of these lines is the first that is not played, and this is what is
+-- written for those before it
 pub record Stops (lives : ℕ) (lines : List Piece) (fault : Ending) (text : List ℕ) : Type 0 where
   pub is_fault : IsFault lives lines fault
   pub text_is : text ≡ revival_of_lines lives is_fault.before

@@ -12,6 +12,7 @@ use Rattle.host_run.specs.Early.{AreEarly, only_memory, only_start}
 use Rattle.host_run.specs.Logs.{is_failed, fresh_log}
 use Rattle.sink_offers.specs.Took.{LogTook}
 use Rattle.host_run.specs.Outside.{Outside, outside, AreTold}
+use Rattle.host_run.proofs.Asked.{no_log_for_memory}
 use Rattle.host_run.proofs.Counts.{told_by as counts_told_by, log_told}
 use Rattle.child_engine.specs.declared.host.HostFault.TheVariants as faults
 use Rattle.host_run.specs.Logs.{is_no_memory}
@@ -154,13 +155,6 @@ why_refused None refused engine_start memory e h s m = let z : true ≡ false = 
 why_refused (Some faults.Failed) refused engine_start memory e h s m = inl s
 why_refused (Some faults.NoMemory) refused engine_start memory e h s m = inr (m refl)
 
--- a log for which there was no memory
-unlogged : (fault : Option HostFault) (log : Bool) (n : ℕ) → (is_no_memory fault ≡ true → n ≡ 0) → logs_asked_by fault ≡ (if log then 1 else n) → is_no_memory fault ≡ true → (n ≡ 0) × (log ≡ false)
-unlogged None log n none asked m = cc
-unlogged (Some faults.Failed) log n none asked m = cc
-unlogged (Some faults.NoMemory) true n none asked m = absurd (omega (arith, asked))
-unlogged (Some faults.NoMemory) false n none asked m = (none refl, refl)
-
 -- a life for which there was no memory
 unbegun : (start : Option HostFault) (refused engine_start : Bool) → refused ≡ is_some start → engine_start ≡ is_failed start → is_no_memory start ≡ true → (refused ≡ true) × (engine_start ≡ false)
 unbegun None refused engine_start r s m = cc
@@ -171,7 +165,7 @@ unbegun (Some faults.NoMemory) refused engine_start r s m = (r, s)
 pub unopened : (fault start : Option HostFault) (one other log refused engine_start : Bool) (n : ℕ) → one ≡ is_no_memory fault → other ≡ is_no_memory start → (is_no_memory fault ≡ true → n ≡ 0)
     → logs_asked_by fault ≡ (if log then 1 else n) → refused ≡ is_some start → engine_start ≡ is_failed start → (one ≡ true) ⊎ (other ≡ true)
     → ((n ≡ 0) × (log ≡ false)) ⊎ ((refused ≡ true) × (engine_start ≡ false))
-unopened fault start one other log refused engine_start n e f none asked r s (inl m) = inl (unlogged fault log n none asked (sym e ∙ m))
+unopened fault start one other log refused engine_start n e f none asked r s (inl m) = inl (no_log_for_memory fault log n none asked (sym e ∙ m))
 unopened fault start one other log refused engine_start n e f none asked r s (inr m) = inr (unbegun start refused engine_start r s (sym f ∙ m))
 
 pub or_left : (x a b : Bool) → x ≡ (a || b) → a ≡ true → x ≡ true

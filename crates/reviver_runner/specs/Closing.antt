@@ -16,7 +16,8 @@ write_faults sink [] = 0
 write_faults sink (run ∷ runs) = (sink run.sink).faults + write_faults sink runs
 
 -- what the host is shown of the runs
-abbrev pub told_of_runs : {S K : Type 0} → (S → Supplied) → (K → Received) → List (LifeRun S K) → List Told
+abbrev pub told_of_runs : {S K : Type 0} → (S → Supplied) → (K → Received) → List (LifeRun S K)
+    → List Told
 told_of_runs source sink runs = map (λ run. told_by (source run.source) (sink run.sink)) runs
 
 -- runs were closed whose sources and sinks had failed so often
@@ -36,7 +37,8 @@ pub record HasClosed (before now : Books) (told : List Told) : Type 0 where
   pub logs : now.logs ≡ before.logs
 
 -- the runs were closed, and then the log, if there is one
-pub record ClosesEverything (before now : Books) (counts counts' : Faults) (told : List Told) (source sink log : ℕ) (logs : List (Option (List ℕ))) (failed : Bool) : Type 0 where
+pub record ClosesEverything (before now : Books) (counts counts' : Faults) (told : List Told)
+    (source sink log : ℕ) (logs : List (Option (List ℕ))) (failed : Bool) : Type 0 where
   pub between : Books
   pub between_counts : Faults
   pub closed : HasClosed before between told

@@ -6,7 +6,8 @@ use Rattle.reviver_runner.specs.Recorded.{IsWhole}
 
 -- an empty log
 abbrev pub HasNoEmptyLog : Type 0
-HasNoEmptyLog = (number : ℕ) (bytes : List ℕ) (before after : Outside) → IsWhole number bytes before after
+HasNoEmptyLog =
+    (number : ℕ) (bytes : List ℕ) (before after : Outside) → IsWhole number bytes before after
     → after.books.logs ≡ Some [] ∷ [] → ⊥
 
 -- a log with a byte after its script

@@ -1,5 +1,6 @@
 -- How far the lives have come.
-use Rattle.std.specs.Prelude.{◌≡◌, ℕ, suc, ◌+◌, ◌≤◌, List, [], ◌∷◌, ◌++◌, map, length, Bool, true, false, ◌||◌, Option, Some}
+use Rattle.std.specs.Prelude.{◌≡◌, ℕ, suc, ◌+◌, ◌≤◌, List, [], ◌∷◌, ◌++◌, map}
+use Rattle.std.specs.Prelude.{length, Bool, true, false, ◌||◌, Option, Some}
 use Rattle.std.specs.List.{AllByRecursion, flat_map, list_any}
 use Rattle.line_io.specs.Event.{Event, EngineLong, EngineEnd}
 use Rattle.line_io.specs.Source.{Supplied, Received}
@@ -25,7 +26,8 @@ use Rattle.reviver_runner.specs.declared.turns.NextLife.{NextLife}
 use Rattle.reviver_runner.specs.declared.turns.NextLife.TheVariants as nexts
 use Rattle.reviver_runner.specs.Closing.{read_faults, write_faults, told_of_runs}
 use Rattle.life_runner.specs.Looped.{Shown, PlayedUp}
-use Rattle.life_runner.specs.Played.{event_child, lines_to_child, is_close, has_close, has_refusal, as_long, told_of, ends_in}
+use Rattle.life_runner.specs.Played.{event_child, lines_to_child, is_close, has_close}
+use Rattle.life_runner.specs.Played.{has_refusal, as_long, told_of, ends_in}
 use Rattle.life_runner.specs.Reading.{LinesOf}
 
 -- A life goes on after so many have ended: it is one more, and one of those that may be begun.
@@ -34,21 +36,23 @@ pub record Goes (s : RevivalState) (ended : ℕ) : Type 0 where
   pub begun : s.begun ≡ suc ended
   pub few : suc ended ≤ s.lives
 
--- The run of a life that goes on, of a host that tells this much: nothing was read, and its sink, which had taken
--- nothing, was offered this text.
-pub record IsBegun (says : Option (List ℕ)) (tells : Bool) (source : Supplied) (sink : Received) (failed : Bool) (text : List ℕ) : Type 0 where
+-- The run of a life that goes on, of a host that tells this much: nothing was read, and its sink,
+-- which had taken nothing, was offered this text.
+pub record IsBegun (says : Option (List ℕ)) (tells : Bool) (source : Supplied) (sink : Received)
+    (failed : Bool) (text : List ℕ) : Type 0 where
   pub unread : source ≡ fresh_source says
   pub offered : Offered false failed (fresh_sink tells) sink text
 
 -- whether reading or writing failed in a life that has ended is what the runs' counts say
-pub record AreTallied {S K : Type 0} (source : S → Supplied) (sink : K → Received) (runs : List (LifeRun S K)) (tally : LivesTally) : Type 0 where
+pub record AreTallied {S K : Type 0} (source : S → Supplied) (sink : K → Received)
+    (runs : List (LifeRun S K)) (tally : LivesTally) : Type 0 where
   pub reads : Tells 0 (read_faults source runs) tally.engine_read
   pub writes : Tells 0 (write_faults sink runs) tally.engine_write
 
 -- A LIFE THAT HAS ENDED
 
--- What a life shows: its streams after it, the lines that were sent of it, the text that it was offered, how its reader
--- ended, and whether a write to it failed.
+-- What a life shows: its streams after it, the lines that were sent of it, the text that it was
+-- offered, how its reader ended, and whether a write to it failed.
 pub record Life : Type 0 where
   pub read : Supplied
   pub written : Received
@@ -57,8 +61,8 @@ pub record Life : Type 0 where
   pub end : ReadEnd
   pub broken : Bool
 
--- A life of a host that tells this much, of which nothing was read or taken before. Its lines are those that its source
--- gave, and its sink took its text, or a front of it, if a write failed.
+-- A life of a host that tells this much, of which nothing was read or taken before. Its lines are
+-- those that its source gave, and its sink took its text, or a front of it, if a write failed.
 pub record IsLife (says : Option (List ℕ)) (tells : Bool) (l : Life) : Type 0 where
   pub lines : LinesOf (fresh_source says) l.read l.lines l.end
   pub text : LogTook l.text l.broken (fresh_sink tells) l.written
@@ -100,17 +104,19 @@ to_next false to text = record { ended = to.ended; present = to.present ++ text 
 
 abbrev pub to_lives : ToLives → RevivalState → List Event → ToLives
 to_lives to s [] = to
-to_lives to s (event ∷ events) = to_lives (to_next (is_close event) to (event_child s event)) (state_after s event) events
+to_lives to s (event ∷ events) =
+    to_lives (to_next (is_close event) to (event_child s event)) (state_after s event) events
 
 -- SO FAR
 
--- So many lives have ended since, and the next one, if there is one, was offered this text. Of the engine these events were
--- sent.
+-- So many lives have ended since, and the next one, if there is one, was offered this text. Of the
+-- engine these events were sent.
 pub record Lived (says : Option (List ℕ)) (tells : Bool) (before after : Shown) (sent : List Event)
     (lives : List Life) (text : List ℕ) (refused : Bool) : Type 0 where
   pub events : List Event
   pub played : PlayedUp before after events
-  pub given : to_lives to_none before.state events ≡ record { ended = map (λ l. l.text) lives; present = text }
+  pub given : to_lives to_none before.state events
+      ≡ record { ended = map (λ l. l.text) lives; present = text }
   pub refusal : has_refusal events ≡ refused
   pub taken_are : map as_long events ≡ told_of after.events
   pub ends : ends_in after.events ≡ length lives
@@ -121,9 +127,9 @@ abbrev pub none_failed : LoopEnd
 none_failed = record { output = false; engine = false; log = false }
 
 -- the same of the runs of the lives that have ended
-pub record HasLived {S K : Type 0} (source : S → Supplied) (sink : K → Received) (says : Option (List ℕ)) (tells : Bool)
-    (before after : Shown) (sent : List Event) (runs : List (LifeRun S K)) (tally : LivesTally) (text : List ℕ)
-    (refused : Bool) : Type 0 where
+pub record HasLived {S K : Type 0} (source : S → Supplied) (sink : K → Received)
+    (says : Option (List ℕ)) (tells : Bool) (before after : Shown) (sent : List Event)
+    (runs : List (LifeRun S K)) (tally : LivesTally) (text : List ℕ) (refused : Bool) : Type 0 where
   pub lives : List Life
   pub told : told_of_runs source sink runs ≡ told_of_lives lives
   pub tallies : Tallies lives tally
@@ -131,9 +137,9 @@ pub record HasLived {S K : Type 0} (source : S → Supplied) (sink : K → Recei
   pub so_far : Lived says tells before after sent lives text refused
 
 -- the same, if another life goes on
-pub record GoesOn {S K : Type 0} (source : S → Supplied) (sink : K → Received) (says : Option (List ℕ)) (tells : Bool)
-    (before after : Shown) (sent : List Event) (runs : List (LifeRun S K)) (tally : LivesTally)
-    (run : LifeRun S K) : Type 0 where
+pub record GoesOn {S K : Type 0} (source : S → Supplied) (sink : K → Received)
+    (says : Option (List ℕ)) (tells : Bool) (before after : Shown) (sent : List Event)
+    (runs : List (LifeRun S K)) (tally : LivesTally) (run : LifeRun S K) : Type 0 where
   pub text : List ℕ
   pub lived : HasLived source sink says tells before after sent runs tally text false
   pub begun : IsBegun says tells (source run.source) (sink run.sink) after.failed.engine text
@@ -142,7 +148,9 @@ pub record GoesOn {S K : Type 0} (source : S → Supplied) (sink : K → Receive
 
 -- Another life begins only if one may, and else orders may still come.
 abbrev pub Follows : {S K : Type 0} → RevivalState → RevivalState → NextLife S K → Type 0
-Follows s s' (nexts.Life run) = (may_begin s ≡ true) × (s'.begun ≡ s.begun + 1) × (s'.lives ≡ s.lives) × (is_alive s'.life ≡ true)
+Follows s s' (nexts.Life run) =
+    (may_begin s ≡ true) × (s'.begun ≡ s.begun + 1) × (s'.lives ≡ s.lives)
+    × (is_alive s'.life ≡ true)
 Follows s s' next = (s'.lives ≡ s.lives) × (s'.begun ≡ s.begun) × (s'.life ≡ life.Over)
 
 -- the mark that is logged for a life's end
@@ -165,22 +173,27 @@ lives_in (nexts.Life run) = 1
 lives_in next = 0
 
 -- the next life was offered this text, or there is none and no text
-abbrev pub IsNext : {S K : Type 0} → (S → Supplied) → (K → Received) → Option (List ℕ) → Bool → List ℕ → NextLife S K → Bool → Type 0
-IsNext source sink says tells text (nexts.Life run) failed = IsBegun says tells (source run.source) (sink run.sink) failed text
+abbrev pub IsNext : {S K : Type 0} → (S → Supplied) → (K → Received) → Option (List ℕ) → Bool
+    → List ℕ → NextLife S K → Bool → Type 0
+IsNext source sink says tells text (nexts.Life run) failed =
+    IsBegun says tells (source run.source) (sink run.sink) failed text
 IsNext source sink says tells text next failed = text ≡ []
 
 -- What follows of a life's end, at which nothing is taken from the channel.
-pub record Ended {S K : Type 0} (source : S → Supplied) (sink : K → Received) (says : Option (List ℕ)) (tells : Bool)
-    (before after : Shown) (next : NextLife S K) : Type 0 where
+pub record Ended {S K : Type 0} (source : S → Supplied) (sink : K → Received)
+    (says : Option (List ℕ)) (tells : Bool) (before after : Shown)
+    (next : NextLife S K) : Type 0 where
   pub same : after.events ≡ before.events
   pub played : PlayedUp before after (mark_of next ∷ [])
-  pub next_is : IsNext source sink says tells (event_child before.state (mark_of next)) next after.failed.engine
+  pub next_is : IsNext source sink says tells (event_child before.state (mark_of next)) next
+      after.failed.engine
   pub follows : Follows before.state after.state next
 
 -- One life that went on, on a run that was offered a text: it ended, and this follows.
-pub record LivesOn {S K : Type 0} (source : S → Supplied) (sink : K → Received) (says : Option (List ℕ)) (tells : Bool)
-    (before after : Shown) (sent sent' : List Event) (runs runs' : List (LifeRun S K)) (tally tally' : LivesTally)
-    (run : LifeRun S K) (next : NextLife S K) : Type 0 where
+pub record LivesOn {S K : Type 0} (source : S → Supplied) (sink : K → Received)
+    (says : Option (List ℕ)) (tells : Bool) (before after : Shown) (sent sent' : List Event)
+    (runs runs' : List (LifeRun S K)) (tally tally' : LivesTally) (run : LifeRun S K)
+    (next : NextLife S K) : Type 0 where
   -- what the revival heard of it
   pub events : List Event
   pub unended : has_close events ≡ false
@@ -197,13 +210,15 @@ pub record LivesOn {S K : Type 0} (source : S → Supplied) (sink : K → Receiv
   pub sent_is : sent' ≡ sent ++ (lines ++ EngineLong ∷ [])
   pub read : LinesOf (source run.source) (source last.source) lines end
   pub broken : Bool
-  pub offered : Offered before.failed.engine broken (sink run.sink) (sink last.sink) (lines_to_child before.state events)
+  pub offered : Offered before.failed.engine broken (sink run.sink) (sink last.sink)
+      (lines_to_child before.state events)
   pub reads : tally'.engine_read ≡ (tally.engine_read || failed_of end)
   pub writes : tally'.engine_write ≡ (tally.engine_write || broken)
   pub memory : tally'.memory ≡ (tally.memory || lacked_memory end)
   -- the next one
   pub lives : after.state.lives ≡ before.state.lives
-  pub next_is : IsNext source sink says tells (event_child (state_behind before.state events) (mark_of next)) next after.failed.engine
+  pub next_is : IsNext source sink says tells
+      (event_child (state_behind before.state events) (mark_of next)) next after.failed.engine
 
 -- one more life has ended
 abbrev pub Continues : {S K : Type 0} → RevivalState → ℕ → NextLife S K → Type 0
@@ -222,13 +237,16 @@ host_shown books counts asked host =
 
 -- the host handed out a run for another life, or refused it, or was not asked
 abbrev pub Hands : {S K : Type 0} → HostShown → HostShown → NextLife S K → Type 0
-Hands host host' (nexts.Life run) = (host'.books ≡ with_run host.books) × (host'.counts ≡ host.counts)
+Hands host host' (nexts.Life run) =
+    (host'.books ≡ with_run host.books) × (host'.counts ≡ host.counts)
 Hands host host' nexts.Over = (host'.books ≡ host.books) × (host'.counts ≡ host.counts)
 Hands host host' (nexts.Refused fault) =
-    (host'.books ≡ host.books) × Tells host.counts.starts host'.counts.starts (is_failed (Some fault))
+    (host'.books ≡ host.books)
+    × Tells host.counts.starts host'.counts.starts (is_failed (Some fault))
     × (host'.counts ≡ record host.counts { starts = host'.counts.starts })
 
--- So many lives have ended, and another goes on: its run and theirs were handed out, and the host refused nothing.
+-- So many lives have ended, and another goes on: its run and theirs were handed out, and
+-- the host refused nothing.
 pub record HostGoes (words : List (List ℕ)) (first now : HostShown) (ended : ℕ) : Type 0 where
   pub out : now.books.runs_out ≡ ended + 1
   pub books : now.books ≡ record first.books { runs_out = now.books.runs_out }

@@ -4,13 +4,15 @@ use Rattle.std.specs.VecDeque.{deque_capacity}
 use Rattle.engine_revival.specs.declared.script.TheConstants.{EVENT_ROOM}
 use Rattle.engine_revival.specs.Steps.{opening}
 use Rattle.event_pipe.specs.declared.message.Peer.TheVariants as peers
-use Rattle.event_pipe.specs.Ends.{IsSender, IsFreshSender, IsFreshTaker, KeepsSender, AreOne, events_sent}
+use Rattle.event_pipe.specs.Ends.{IsSender, IsFreshSender, IsFreshTaker}
+use Rattle.event_pipe.specs.Ends.{KeepsSender, AreOne, events_sent}
 use Rattle.event_pipe.specs.Rule.{has_last_event}
 use Rattle.life_runner.specs.Looped.{IsReadyLoop, KeepsLoop}
 use Rattle.reviver_runner.specs.declared.parts.MadeParts.{MadeParts}
 use Rattle.reviver_runner.specs.declared.parts.ReviverParts.{ReviverParts}
 
--- The first of so many lives goes on, there is room for the marks of an event, and nothing was sent or taken yet.
+-- The first of so many lives goes on, there is room for the marks of an event, and
+-- nothing was sent or taken yet.
 pub record IsMade (lives : ℕ) (made : MadeParts) : Type 0 where
   pub begins : made.revival.state ≡ opening lives
   pub room : EVENT_ROOM ≤ made.text.room
@@ -26,7 +28,8 @@ pub record AreReady {L P : Type 0} (parts : ReviverParts L P) : Type 0 where
   pub engine : parts.to.peer ≡ peers.Engine
   pub going : has_last_event (events_sent parts.to) ≡ false
 
--- the ends of the channel, the log and its room are those of before, and there is as much room for processes
+-- the ends of the channel, the log and its room are those of before, and there is
+-- as much room for processes
 pub record KeepsEnds {L P : Type 0} (old new : ReviverParts L P) : Type 0 where
   pub ready : AreReady new
   pub sender : KeepsSender old.to new.to

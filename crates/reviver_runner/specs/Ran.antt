@@ -1,5 +1,6 @@
 -- What a run of all lives leaves.
-use Rattle.std.specs.Prelude.{◌≡◌, ◌⊎◌, ℕ, ◌<◌, ◌≤◌, List, [], map, length, Option, Some, None, IfSome, is_some, Bool, true, false}
+use Rattle.std.specs.Prelude.{◌≡◌, ◌⊎◌, ℕ, ◌<◌, ◌≤◌, List, [], map, length, Option}
+use Rattle.std.specs.Prelude.{Some, None, IfSome, is_some, Bool, true, false}
 use Rattle.std.specs.List.{list_any}
 use Rattle.std.specs.VecDeque.{deque_len, deque_capacity}
 use Rattle.line_io.specs.Event.{Event}
@@ -30,13 +31,17 @@ use Rattle.reviver_runner.specs.declared.lives.AllRuns.{AllRuns}
 use Rattle.reviver_runner.specs.declared.lives.LivesTally.{LivesTally}
 use Rattle.reviver_runner.specs.declared.parts.ReviverParts.{ReviverParts}
 use Rattle.reviver_runner.specs.declared.outcome.LivesEnd.{LivesEnd}
-use Rattle.reviver_runner.specs.Lives.{IsBegun, HasLived, HostShown, Life, AreLives, Tallies, AreTallied, life_events, told_of_lives, to_none, to_lives, empty_tally, none_failed}
+use Rattle.reviver_runner.specs.Lives.{IsBegun, HasLived, HostShown, Life, AreLives}
+use Rattle.reviver_runner.specs.Lives.{Tallies, AreTallied, life_events, told_of_lives}
+use Rattle.reviver_runner.specs.Lives.{to_none, to_lives, empty_tally, none_failed}
 use Rattle.reviver_runner.specs.Closing.{told_of_runs}
 use Rattle.reviver_runner.specs.Parts.{AreReady}
 use Rattle.reviver_runner.specs.Recorded.{Recorded, IsWhole}
 
--- Runs were handed out, one for each of these lives that have ended, and the last start may have been refused.
-pub record HandsOut (lives ended : ℕ) (books books' : Books) (counts counts' : Faults) (refused : Option HostFault) : Type 0 where
+-- Runs were handed out, one for each of these lives that have ended, and the last
+-- start may have been refused.
+pub record HandsOut (lives ended : ℕ) (books books' : Books) (counts counts' : Faults)
+    (refused : Option HostFault) : Type 0 where
   pub out : books'.runs_out ≡ ended
   pub some : 1 ≤ ended
   pub few : ended ≤ lives
@@ -45,8 +50,10 @@ pub record HandsOut (lives ended : ℕ) (books books' : Books) (counts counts' :
   pub other_counts : counts' ≡ record counts { starts = counts'.starts }
 
 -- the run of the first life is there, and was not touched yet
-abbrev pub HasFirst : {S K : Type 0} → (S → Supplied) → (K → Received) → Option (List ℕ) → Bool → Option (LifeRun S K) → Type 0
-HasFirst source sink says tells (Some run) = IsBegun says tells (source run.source) (sink run.sink) false []
+abbrev pub HasFirst : {S K : Type 0} → (S → Supplied) → (K → Received) → Option (List ℕ) → Bool
+    → Option (LifeRun S K) → Type 0
+HasFirst source sink says tells (Some run) =
+    IsBegun says tells (source run.source) (sink run.sink) false []
 HasFirst source sink says tells None = ⊥
 
 -- no life has ended, and there is room for nine
@@ -58,12 +65,13 @@ pub record MayGoOn {S K : Type 0} (books : Books) (runs : AllRuns S K) : Type 0 
   pub out : books.runs_out ≡ 1
 
 -- the same, and the run of the first life is there
-pub record MayRun {S K : Type 0} (source : S → Supplied) (sink : K → Received) (books : Books) (runs : AllRuns S K) : Type 0 where
+pub record MayRun {S K : Type 0} (source : S → Supplied) (sink : K → Received) (books : Books)
+    (runs : AllRuns S K) : Type 0 where
   pub may : MayGoOn books runs
   pub first : HasFirst source sink books.says books.tells runs.first
 
--- The first of so many lives, nine at most, goes on, nothing was sent or taken yet, no sink has failed, and there is room
--- for what all of them are waited for by.
+-- The first of so many lives, nine at most, goes on, nothing was sent or taken yet, no sink has
+-- failed, and there is room for what all of them are waited for by.
 pub record MayGo {L P : Type 0} (lives : ℕ) (parts : ReviverParts L P) : Type 0 where
   pub some : 1 ≤ lives
   pub few : lives ≤ 9
@@ -75,13 +83,16 @@ pub record MayGo {L P : Type 0} (lives : ℕ) (parts : ReviverParts L P) : Type 
   pub process : deque_len parts.processes ≡ 1
   pub room : 10 ≤ deque_capacity parts.processes
 
--- What the lives leave, once none follows: why no other was started, if one might have begun, and what the host was asked.
-pub record RanLives {S K : Type 0} (source : S → Supplied) (sink : K → Received) (words : List (List ℕ))
-    (host host' : HostShown) (before after : Shown) (sent : List Event) (ended : List (LifeRun S K))
-    (tally : LivesTally) (refused : Option HostFault) : Type 0 where
+-- What the lives leave, once none follows: why no other was started, if one might have begun, and
+-- what the host was asked.
+pub record RanLives {S K : Type 0} (source : S → Supplied) (sink : K → Received)
+    (words : List (List ℕ)) (host host' : HostShown) (before after : Shown) (sent : List Event)
+    (ended : List (LifeRun S K)) (tally : LivesTally) (refused : Option HostFault) : Type 0 where
   pub begun : after.state.begun ≡ length ended
-  pub lived : HasLived source sink host.books.says host.books.tells before after sent ended tally [] (is_some refused)
-  pub handed : HandsOut before.state.lives (length ended) host.books host'.books host.counts host'.counts refused
+  pub lived : HasLived source sink host.books.says host.books.tells before after sent ended tally []
+      (is_some refused)
+  pub handed : HandsOut before.state.lives (length ended) host.books host'.books host.counts
+      host'.counts refused
   pub asked : StartsEngines words host.asked host'.asked host.books host'.books (is_failed refused)
 
 -- what the readers and the writes to each life came to is reported
@@ -92,8 +103,8 @@ pub record TellsRun (upper : ReadEnd) (lives : List Life) (failures : Failures) 
   pub iface_memory : failures.memory ≡ false → lacked_memory upper ≡ false
   pub life_memory : failures.memory ≡ false → list_any (λ l. lacked_memory l.end) lives ≡ false
 
--- why a run that was made reports no memory: the interface's reader or one of a life had none for a line, or there was none
--- to open the log, or none to start a life again
+-- why a run that was made reports no memory: the interface's reader or one of a life had none for a
+-- line, or there was none to open the log, or none to start a life again
 abbrev pub LackedMemory : Books → ReadEnd → List Life → List Event → Failures → Type 0
 LackedMemory books upper lives events failures =
     (lacked_memory upper ≡ true)
@@ -101,9 +112,11 @@ LackedMemory books upper lives events failures =
     ⊎ (((books.logs_out ≡ 0) × (failures.log ≡ false))
     ⊎ ((has_refusal events ≡ true) × (failures.engine_start ≡ false))))
 
--- The revival of so many lives heard these events, in the order in which they came. Its orders are what arrived of the interface,
--- without long lines; and of each life there are its lines, and a mark of its end.
-pub record Heard (lives : ℕ) (input input' : Supplied) (upper : ReadEnd) (runs : List Life) (events : List Event) : Type 0 where
+-- The revival of so many lives heard these events, in the order in which they came. Its
+-- orders are what arrived of the interface, without long lines; and of each life there are
+-- its lines, and a mark of its end.
+pub record Heard (lives : ℕ) (input input' : Supplied) (upper : ReadEnd) (runs : List Life)
+    (events : List Event) : Type 0 where
   pub may : AllMayHappen (opening lives) events
   -- and the talk that they bring about is lawful up to each of them
   pub lawful : IsAlwaysLawful lives events
@@ -112,14 +125,15 @@ pub record Heard (lives : ℕ) (input input' : Supplied) (upper : ReadEnd) (runs
   pub orders : sent_by peers.Iface events ≡ told_of arrived
   pub marks : map as_long (sent_by peers.Engine events) ≡ life_events runs
   -- what is written to each life, and after the last one nothing is
-  pub texts : to_lives to_none (opening lives) events ≡ record { ended = map (λ l. l.text) runs; present = [] }
+  pub texts : to_lives to_none (opening lives) events
+      ≡ record { ended = map (λ l. l.text) runs; present = [] }
   pub begun : (state_behind (opening lives) events).begun ≡ length runs
 
--- A run of so many lives whose runs and log are not closed yet: what the revival heard of both sides, what each life shows,
--- and what was offered to the interface and to the log.
-pub record HasRun {S K : Type 0} (source : S → Supplied) (sink : K → Received) (lives : ℕ) (words : List (List ℕ))
-    (input input' : Supplied) (output output' log log' : Received) (host host' : HostShown)
-    (ended : List (LifeRun S K)) (end : LivesEnd) : Type 0 where
+-- A run of so many lives whose runs and log are not closed yet: what the revival heard of both
+-- sides, what each life shows, and what was offered to the interface and to the log.
+pub record HasRun {S K : Type 0} (source : S → Supplied) (sink : K → Received) (lives : ℕ)
+    (words : List (List ℕ)) (input input' : Supplied) (output output' log log' : Received)
+    (host host' : HostShown) (ended : List (LifeRun S K)) (end : LivesEnd) : Type 0 where
   pub runs : List Life
   pub events : List Event
   pub heard : Heard lives input input' end.upper runs events
@@ -130,11 +144,13 @@ pub record HasRun {S K : Type 0} (source : S → Supplied) (sink : K → Receive
   pub told : told_of_runs source sink ended ≡ told_of_lives runs
   pub tallies : Tallies runs end.tally
   pub tallied : AreTallied source sink ended end.tally
-  pub handed : HandsOut lives (length ended) host.books host'.books host.counts host'.counts end.start
-  pub asked : StartsEngines words host.asked host'.asked host.books host'.books (is_failed end.start)
+  pub handed :
+      HandsOut lives (length ended) host.books host'.books host.counts host'.counts end.start
+  pub asked :
+      StartsEngines words host.asked host'.asked host.books host'.books (is_failed end.start)
 
--- One run of the lives: the log is the script of the events, up went what is given for them, and to each life what is written to it.
--- A sink that failed took a front of that.
+-- One run of the lives: the log is the script of the events, up went what is given for them, and to
+-- each life what is written to it. A sink that failed took a front of that.
 pub record Revived (lives : ℕ) (before after : Outside) (failures : Failures) : Type 0 where
   pub upper : ReadEnd
   pub runs : List Life
@@ -143,7 +159,8 @@ pub record Revived (lives : ℕ) (before after : Outside) (failures : Failures) 
   pub told : TellsRun upper runs failures
   pub memory : failures.memory ≡ true → LackedMemory after.books upper runs events failures
   pub each : AreLives before.books.says before.books.tells runs
-  pub refused : has_refusal events ≡ true → (failures.engine_start ≡ true) ⊎ (failures.memory ≡ true)
+  pub refused : has_refusal events ≡ true
+      → (failures.engine_start ≡ true) ⊎ (failures.memory ≡ true)
   pub up : LogTook (lines_up (opening lives) events) failures.iface_write before.output after.output
   -- the log, which was fresh, and is in the books as it is at the end
   pub log : Received
@@ -158,8 +175,9 @@ pub record Revived (lives : ℕ) (before after : Outside) (failures : Failures) 
   -- what the books say of these lives and events
   pub recorded : Recorded lives runs events before.books after.books failures
 
--- What a run leaves, whether an engine was started or not: each count of faults rose if its failure is reported, and is as
--- before else; each run that was handed out is closed, of so many lives at most, and the log if one was.
+-- What a run leaves, whether an engine was started or not: each count of faults rose if its failure
+-- is reported, and is as before else; each run that was handed out is closed, of so many lives at
+-- most, and the log if one was.
 pub record Leaves (lives : ℕ) (before after : Outside) (failures : Failures) : Type 0 where
   pub told : AreTold before after failures
   pub runs : length after.books.runs ≡ after.books.runs_out
@@ -167,7 +185,8 @@ pub record Leaves (lives : ℕ) (before after : Outside) (failures : Failures) :
   pub few_runs : after.books.runs_out ≤ lives
   pub few_logs : after.books.logs_out ≤ 1
   pub some_run : failures.memory ≡ false → failures.engine_start ≡ false → 0 < after.books.runs_out
-  pub some_log : failures.memory ≡ false → failures.log ≡ false → 0 < after.books.runs_out → after.books.logs_out ≡ 1
+  pub some_log : failures.memory ≡ false → failures.log ≡ false → 0 < after.books.runs_out
+      → after.books.logs_out ≡ 1
   -- if no engine was started, nothing was read or written
   pub nothing : after.books.runs_out ≡ 0
       → (after.input ≡ before.input) × (after.output ≡ before.output)

@@ -58,8 +58,8 @@ pub record Recorded (number : ℕ) (lives : List Life) (events : List Event) (be
   pub all : (bytes : List ℕ) → before.says ≡ Some bytes → failures.engine_read ≡ false
       → failures.memory ≡ false → AllByRecursion (GaveAll bytes) lives
 
--- A run in which nothing failed, over a host that tells its bytes, each of whose engines says these: one list of events,
--- which might come, was heard of so many lives at most.
+-- A run in which nothing failed, over a host that tells its bytes, each of whose engines says
+-- these: one list of events, which might come, was heard of so many lives at most.
 pub record IsWhole (number : ℕ) (bytes : List ℕ) (before after : Outside) : Type 0 where
   pub events : List Event
   pub may : AllMayHappen (opening number) events

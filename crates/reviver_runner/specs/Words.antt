@@ -1,5 +1,6 @@
 -- What the words of the reviver ask for.
-use Rattle.std.specs.Prelude.{◌≡◌, ℕ, ◌+◌, Bool, true, false, ◌&&◌, nat_le, drop, string_bytes, List, [], ◌∷◌, map}
+use Rattle.std.specs.Prelude.{◌≡◌, ℕ, ◌+◌, Bool, true, false, ◌&&◌, nat_le}
+use Rattle.std.specs.Prelude.{drop, string_bytes, List, [], ◌∷◌, map}
 use Rattle.program_words.specs.Words as engine_words
 use Rattle.reviver_runner.specs.declared.words.ReviverRequest.{ReviverRequest}
 
@@ -17,11 +18,15 @@ abbrev pub begins_with_digit : List (List ℕ) → Bool
 begins_with_digit [] = false
 begins_with_digit (word ∷ words) = is_digit word
 
--- The first word gives a number of lives, and the others name a log, an engine and its arguments, whatever these are.
+-- The first word gives a number of lives, and the others name a log, an engine and its
+-- arguments, whatever these are.
 pub record AreTaken (words : List (List ℕ)) : Type 0 where
   pub lives : begins_with_digit words ≡ true
   pub rest : engine_words.AreTaken (drop 1 words)
 
--- the first word is the number of lives, the second the log's name, and the others are the engine's program and its arguments
+-- the first word is the number of lives, the second the log's name, and the others are the engine's
+-- program and its arguments
 pub record IsAsked (words : List (List ℕ)) (request : ReviverRequest) : Type 0 where
-  pub words_are : words ≡ digit_of request.lives ∷ string_bytes request.log_name ∷ map string_bytes request.engine.items
+  pub words_are : words
+      ≡ digit_of request.lives ∷ string_bytes request.log_name
+      ∷ map string_bytes request.engine.items

@@ -20,7 +20,8 @@ where
     H::EngineSink: Drop,
     H::EngineProcess: Drop,
     requires processes { length processes.items ≡ length runs.items }
-    requires out { length (H.books host.old).runs + length runs.items ≡ (H.books host.old).runs_out }
+    requires out { length (H.books host.old).runs + length runs.items
+        ≡ (H.books host.old).runs_out }
     ensures books { HasClosed (H.books host.old) (H.books host.new)
         (told_of_runs H.EngineSource.state H.EngineSink.state runs.items) }
     ensures counts { ClosesAll (H.faults host.old) (H.faults host.new)
@@ -59,7 +60,8 @@ where
     H::EngineSink: Drop,
     H::EngineProcess: Drop,
     requires processes { length processes.items ≡ length runs.items }
-    requires out { length (H.books host.old).runs + length runs.items ≡ (H.books host.old).runs_out }
+    requires out { length (H.books host.old).runs + length runs.items
+        ≡ (H.books host.old).runs_out }
     requires logs { length (H.books host.old).logs + log_count log ≡ (H.books host.old).logs_out }
     ensures closes { ClosesEverything (H.books host.old) (H.books host.new)
         (H.faults host.old) (H.faults host.new)

@@ -89,7 +89,8 @@ where
     H::EngineSink: LetGo + Drop,
     H::EngineProcess: Drop + Send,
     requires { IsUnused (H.books host.old) }
-    ensures answers { Answers program (AreTaken (bytes_of words.now)) (LeavesFor (bytes_of words.now)
+    ensures answers { Answers program (AreTaken (bytes_of words.now))
+        (LeavesFor (bytes_of words.now)
         (outside_of I.state O.state H.faults H.books interface.old host.old)
         (outside_of I.state O.state H.faults H.books interface.new host.new))
         (outside_of I.state O.state H.faults H.books interface.old host.old)

@@ -66,7 +66,8 @@ where
     ensures over { parts.new.looping.revival.state.life ≡ life.Over }
     ensures ran { RanLives H.EngineSource.state H.EngineSink.state
         (map string_bytes runs.old.words.items)
-        (host_shown H.books H.faults H.asked host.old) (host_shown H.books H.faults H.asked host.new)
+        (host_shown H.books H.faults H.asked host.old)
+        (host_shown H.books H.faults H.asked host.new)
         (loop_reports O.state H.Log.state parts.old.looping output.old)
         (loop_reports O.state H.Log.state parts.new.looping output.new)
         (events_sent parts.new.to) runs.new.ended.items runs.new.tally result }
@@ -103,7 +104,8 @@ where
     ensures quit { parts.new.looping.revival.state.quit ≡ true }
     ensures ran { RanLives H.EngineSource.state H.EngineSink.state
         (map string_bytes runs.old.words.items)
-        (host_shown H.books H.faults H.asked host.old) (host_shown H.books H.faults H.asked host.new)
+        (host_shown H.books H.faults H.asked host.old)
+        (host_shown H.books H.faults H.asked host.new)
         (loop_reports O.state H.Log.state parts.old.looping output.old)
         (loop_reports O.state H.Log.state parts.new.looping output.new)
         (events_sent parts.new.to) runs.new.ended.items runs.new.tally result }
@@ -134,7 +136,8 @@ where
     requires parts { MayGo parts.old.looping.revival.state.lives parts.old }
     ensures iface { KeepsSender reader.old.iface reader.new.iface }
     ensures arrived { Arrived peers.Iface
-        (I.state interface.old.input) (I.state interface.new.input) (events_sent reader.new.iface) result.0 }
+        (I.state interface.old.input) (I.state interface.new.input)
+        (events_sent reader.new.iface) result.0 }
     ensures sender { KeepsSender parts.old.to parts.new.to }
     ensures taker { KeepsTaker parts.old.looping.from parts.new.looping.from }
     ensures kept { is_some parts.new.looping.marks.log ≡ is_some parts.old.looping.marks.log }
@@ -142,7 +145,8 @@ where
     ensures quit { parts.new.looping.revival.state.quit ≡ true }
     ensures ran { RanLives H.EngineSource.state H.EngineSink.state
         (map string_bytes runs.old.words.items)
-        (host_shown H.books H.faults H.asked host.old) (host_shown H.books H.faults H.asked host.new)
+        (host_shown H.books H.faults H.asked host.old)
+        (host_shown H.books H.faults H.asked host.new)
         (loop_reports O.state H.Log.state parts.old.looping interface.old.output)
         (loop_reports O.state H.Log.state parts.new.looping interface.new.output)
         (events_sent parts.new.to) runs.new.ended.items runs.new.tally result.1 }
@@ -192,7 +196,8 @@ where
         (I.state interface.old.input) (I.state interface.new.input)
         (O.state interface.old.output) (O.state interface.new.output)
         (log_state H.Log.state log) (log_state H.Log.state result.log)
-        (host_shown H.books H.faults H.asked host.old) (host_shown H.books H.faults H.asked host.new)
+        (host_shown H.books H.faults H.asked host.old)
+        (host_shown H.books H.faults H.asked host.new)
         result.ended.items result.end }
 {
     let ReadyLives {

@@ -8,7 +8,7 @@ use std::alloc::Global;
 use std::process::Abort;
 
 /// What comes, the lines up, and the lines to the engine. An order comes after `x`, a line of the
-/// engine behind `u`; at `u!` the life ends and another one begins, and at `u.` it ends and none
+/// engine after `u`; at `u!` the life ends and another one begins, and at `u.` it ends and none
 /// follows.
 type Row = (&'static str, &'static str, &'static str);
 

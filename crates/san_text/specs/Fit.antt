@@ -1,5 +1,6 @@
 -- Which legal moves fit a text.
-use Rattle.std.specs.Prelude.{◌≡◌, ◌≢◌, ℕ, List, Bool, true, not, ◌&&◌, ◌||◌, ◌==◌, Option, Some, None, IsTrue, Result, Ok, Err}
+use Rattle.std.specs.Prelude.{◌≡◌, ◌≢◌, ℕ, List, Bool, true, not, ◌&&◌, ◌||◌}
+use Rattle.std.specs.Prelude.{◌==◌, Option, Some, None, IsTrue, Result, Ok, Err}
 use Rattle.std.specs.Option.{option_eq}
 use Rattle.chess_board.specs.declared.board.Kind.{Kind}
 use Rattle.chess_board.specs.declared.board.Move.{Move}
@@ -19,8 +20,8 @@ allows (Some k) n = k == n
 abbrev pub castles : Position → Move → Bool
 castles p m = castles_short p m || castles_long p m
 
--- Whether a move agrees with a spelling: castling with its spellings alone, another move in its man's kind, in the file
--- and rank that are given, in the square reached and in the promotion.
+-- Whether a move agrees with a spelling: castling with its spellings alone, another move in its
+-- man's kind, in the file and rank that are given, in the square reached and in the promotion.
 abbrev pub agrees : Position → SanSpelling → Move → Bool
 agrees p Short m = castles_short p m
 agrees p Long m = castles_long p m
@@ -46,20 +47,24 @@ IsSpelled (Some s) = Unit {0}
 abbrev pub FitsAlone : Position → List ℕ → Move → Type 0
 FitsAlone p text m = Fits p text m × ((n : Move) → Fits p text n → n ≡ m)
 
--- What a text is read as: a move that is the one that fits, or BadSan if the text has no spelling, NoFit if it has
--- one and no legal move fits, Ambiguous if two or more fit.
+-- What a text is read as: a move that is the one that fits, or BadSan if the text has no spelling,
+-- NoFit if it has one and no legal move fits, Ambiguous if two or more fit.
 abbrev pub IsRead : Position → List ℕ → Result Move SanFault → Type 0
 IsRead p text (Ok m) = FitsAlone p text m
 IsRead p text (Err BadSan) = spelling_of_san text ≡ None
 IsRead p text (Err NoFit) = IsSpelled (spelling_of_san text) × ((n : Move) → Fits p text n → ⊥)
-IsRead p text (Err Ambiguous) = (a : Move) × ((b : Move) × (Fits p text a × Fits p text b × (a ≢ b)))
+IsRead p text (Err Ambiguous) =
+    (a : Move) × ((b : Move) × (Fits p text a × Fits p text b × (a ≢ b)))
 
 -- what is written of a legal move fits it alone, so reading it gives the move back
 abbrev pub IsReadBack : Type 0
-IsReadBack = (p : Position) (m : Move) (text : List ℕ) → IsLegal p m.from.index m.to.index m.promotion → IsSan p m text → FitsAlone p text m
+IsReadBack =
+    (p : Position) (m : Move) (text : List ℕ) → IsLegal p m.from.index m.to.index m.promotion
+    → IsSan p m text → FitsAlone p text m
 
 -- different legal moves of a position have different texts
 abbrev pub TextsDiffer : Type 0
 TextsDiffer =
-    (p : Position) (a b : Move) (text : List ℕ) → IsLegal p a.from.index a.to.index a.promotion → IsLegal p b.from.index b.to.index b.promotion
+    (p : Position) (a b : Move) (text : List ℕ) → IsLegal p a.from.index a.to.index a.promotion
+    → IsLegal p b.from.index b.to.index b.promotion
     → IsSan p a text → IsSan p b text → a ≡ b

@@ -1,9 +1,11 @@
 -- How a text in standard algebraic notation is read, whatever is on the board.
-use Rattle.std.specs.Prelude.{ℕ, ◌+◌, ◌*◌, ◌-◌, List, [], ◌∷◌, Bool, true, false, ◌&&◌, ◌||◌, if◌then◌else◌, ◌==◌, nat_le, Option, Some, None, codes}
+use Rattle.std.specs.Prelude.{ℕ, ◌+◌, ◌*◌, ◌-◌, List, [], ◌∷◌, Bool, true, false, ◌&&◌}
+use Rattle.std.specs.Prelude.{◌||◌, if◌then◌else◌, ◌==◌, nat_le, Option, Some, None, codes}
 use Rattle.std.specs.List.{list_all}
 use Rattle.std.specs.Str.{bytes_eq}
 use Rattle.chess_board.specs.declared.board.Kind.{Kind}
-use Rattle.chess_board.specs.declared.board.Kind.TheVariants.{Pawn, Knight, Bishop, Rook, Queen, King}
+use Rattle.chess_board.specs.declared.board.Kind.TheVariants.{Pawn, Knight, Bishop}
+use Rattle.chess_board.specs.declared.board.Kind.TheVariants.{Rook, Queen, King}
 use Rattle.chess_board.specs.Board.{square_at}
 use Rattle.chess_board.specs.Text.{letter_a, letter_h, digit_one, digit_eight}
 use Rattle.san_text.specs.declared.spelling.SanSpelling as code
@@ -15,7 +17,8 @@ pub record Target : Type 0 where
   pub to : ℕ
   pub promotion : Option Kind
 
--- what a text says: castling, or a man's kind, its file and rank if they are given, and the square reached
+-- what a text says: castling, or a man's kind, its file and rank if they are
+-- given, and the square reached
 pub data SanSpelling : Type 0 where
   Short : SanSpelling
   Long : SanSpelling
@@ -66,7 +69,8 @@ promotion_read (sign ∷ b ∷ []) = if sign == promotion_sign then promoted (ki
 promotion_read _ = None
 
 abbrev pub target_of : Option ℕ → Option ℕ → Option (Option Kind) → Option Target
-target_of (Some file) (Some rank) (Some promotion) = Some (record { to = square_at file rank; promotion = promotion })
+target_of (Some file) (Some rank) (Some promotion) =
+    Some (record { to = square_at file rank; promotion = promotion })
 target_of None rank promotion = None
 target_of (Some file) None promotion = None
 target_of (Some file) (Some rank) None = None
@@ -104,11 +108,14 @@ file_read man [] = None
 file_read man (f ∷ rest) = given (file_named f) where
   given : Option ℕ → Option SanSpelling
   given None = None
-  given (Some file) = first_of (goes man (Some file) None (target_read rest)) (rank_read man (Some file) rest)
+  given (Some file) =
+      first_of (goes man (Some file) None (target_read rest)) (rank_read man (Some file) rest)
 
 -- the target alone, or after a file, a rank, or both
 abbrev pub places_read : Kind → List ℕ → Option SanSpelling
-places_read man text = first_of (goes man None None (target_read text)) (first_of (file_read man text) (rank_read man None text))
+places_read man text =
+    first_of (goes man None None (target_read text))
+    (first_of (file_read man text) (rank_read man None text))
 
 -- an officer after its letter, or a pawn
 abbrev pub man_read : List ℕ → Option SanSpelling
@@ -125,7 +132,8 @@ abbrev pub is_long : List ℕ → Bool
 is_long text = bytes_eq text (codes "O-O-O") || bytes_eq text (codes "0-0-0")
 
 abbrev pub read_unmarked : List ℕ → Option SanSpelling
-read_unmarked text = if is_short text then Some Short else (if is_long text then Some Long else man_read text)
+read_unmarked text =
+    if is_short text then Some Short else (if is_long text then Some Long else man_read text)
 
 -- what the text spells
 abbrev pub spelling_of_san : List ℕ → Option SanSpelling

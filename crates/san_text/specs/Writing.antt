@@ -1,13 +1,17 @@
--- Moves in standard algebraic notation, as they are written (FIDE Laws, appendix C; PGN standard, 8.2.3).
-use Rattle.std.specs.Prelude.{◌≡◌, ◌⊎◌, ℕ, ◌+◌, ◌≤◌, List, [], ◌∷◌, ◌++◌, length, Bool, true, ◌&&◌, ◌||◌, ◌↔◌, not, if◌then◌else◌, ◌==◌, Option, Some, None, codes}
+-- Moves in standard algebraic notation, as they are written (FIDE Laws, appendix
+-- C; PGN standard, 8.2.3).
+use Rattle.std.specs.Prelude.{◌≡◌, ◌⊎◌, ℕ, ◌+◌, ◌≤◌, List, [], ◌∷◌, ◌++◌, length, Bool, true, ◌&&◌}
+use Rattle.std.specs.Prelude.{◌||◌, ◌↔◌, not, if◌then◌else◌, ◌==◌, Option, Some, None, codes}
 use Rattle.chess_board.specs.declared.board.Kind.{Kind}
-use Rattle.chess_board.specs.declared.board.Kind.TheVariants.{Pawn, Knight, Bishop, Rook, Queen, King}
+use Rattle.chess_board.specs.declared.board.Kind.TheVariants.{Pawn, Knight, Bishop}
+use Rattle.chess_board.specs.declared.board.Kind.TheVariants.{Rook, Queen, King}
 use Rattle.chess_board.specs.declared.board.Move.{Move}
 use Rattle.chess_board.specs.contracts.board.KindPartialEq.TheImpl as kinds
 use Rattle.san_text.specs.declared.men.RivalSquares.{RivalSquares}
 use Rattle.san_text.specs.declared.men.RivalSquares.TheVariants.{Board, File, Rank}
 use Rattle.chess_board.specs.Attack.{is_checked}
-use Rattle.chess_board.specs.Board.{man_at, file_of, rank_of, is_empty, is_king_kind, is_pawn_kind, some_square}
+use Rattle.chess_board.specs.Board.{man_at, file_of, rank_of, is_empty}
+use Rattle.chess_board.specs.Board.{is_king_kind, is_pawn_kind, some_square}
 use Rattle.chess_board.specs.Place.{has_any_way}
 use Rattle.chess_board.specs.Position.{Position}
 use Rattle.chess_board.specs.Rules.{king_home, is_legal}
@@ -24,18 +28,26 @@ kind_at p s = kind_on (man_at p.men s)
 
 -- the king goes two squares towards a rook: castling
 abbrev pub castles_short : Position → Move → Bool
-castles_short p m = is_king_kind (kind_at p m.from.index) && ((m.from.index == king_home p.side) && (m.to.index == king_home p.side + 2))
+castles_short p m =
+    is_king_kind (kind_at p m.from.index)
+    && ((m.from.index == king_home p.side) && (m.to.index == king_home p.side + 2))
 
 abbrev pub castles_long : Position → Move → Bool
-castles_long p m = is_king_kind (kind_at p m.from.index) && ((m.from.index == king_home p.side) && (m.to.index + 2 == king_home p.side))
+castles_long p m =
+    is_king_kind (kind_at p m.from.index)
+    && ((m.from.index == king_home p.side) && (m.to.index + 2 == king_home p.side))
 
 -- a man stands on the square reached, or a pawn leaves its file: also en passant
 abbrev pub is_capture : Position → Move → Bool
-is_capture p m = not (is_empty (man_at p.men m.to.index)) || (is_pawn_kind (kind_at p m.from.index) && not (file_of m.from.index == file_of m.to.index))
+is_capture p m =
+    not (is_empty (man_at p.men m.to.index))
+    || (is_pawn_kind (kind_at p m.from.index) && not (file_of m.from.index == file_of m.to.index))
 
 -- another man of the kind and side may legally go there, from this square
 abbrev pub is_rival : Position → Move → ℕ → Bool
-is_rival p m s = (not (s == m.from.index) && same_kind (kind_at p s) (kind_at p m.from.index)) && is_legal p s m.to.index m.promotion
+is_rival p m s =
+    (not (s == m.from.index) && same_kind (kind_at p s) (kind_at p m.from.index))
+    && is_legal p s m.to.index m.promotion
 
 -- on the same file, on the same rank, or anywhere
 abbrev pub is_within : RivalSquares → ℕ → ℕ → Bool
@@ -43,7 +55,8 @@ is_within Board a b = true
 is_within File a b = file_of a == file_of b
 is_within Rank a b = rank_of a == rank_of b
 
--- a man of the kind and side that may legally go there stands on another square, on the board, or on the man's file or rank
+-- a man of the kind and side that may legally go there stands on another square, on the board, or
+-- on the man's file or rank
 abbrev pub has_rival : Position → Move → RivalSquares → Bool
 has_rival p m within = some_square (λ s. is_within within s m.from.index && is_rival p m s)
 
@@ -53,7 +66,8 @@ file_letter s = letter_a + file_of s
 abbrev pub rank_digit : ℕ → ℕ
 rank_digit s = digit_one + rank_of s
 
--- nothing, else the file, else the rank, else both: the first that distinguishes the man from the others
+-- nothing, else the file, else the rank, else both: the first that
+-- distinguishes the man from the others
 abbrev pub distinction : Position → Move → List ℕ
 distinction p m =
     if not (has_rival p m Board) then []
@@ -73,7 +87,8 @@ letter King = codes "K"
 -- where the man comes from: a pawn's file if it captures, another man's distinction
 abbrev pub origin : Position → Move → List ℕ
 origin p m =
-    if is_pawn_kind (kind_at p m.from.index) then (if is_capture p m then file_letter m.from.index ∷ [] else [])
+    if is_pawn_kind (kind_at p m.from.index)
+    then (if is_capture p m then file_letter m.from.index ∷ [] else [])
     else distinction p m
 
 abbrev pub promotion_letters : Option Kind → List ℕ
@@ -109,7 +124,8 @@ pub record IsSan (p : Position) (m : Move) (text : List ℕ) : Type 0 where
   pub fits : IsMark (after p m) mark
   pub whole : text ≡ body p m ++ mark
 
--- the mark as a function: after a move that checks, `+` if the side on move has a legal move, else `#`
+-- the mark as a function: after a move that checks, `+` if the side on move
+-- has a legal move, else `#`
 abbrev pub sign : Position → List ℕ
 sign p =
     if is_checked p.men p.side then (if has_any_way p then codes "+" else codes "#")
@@ -125,4 +141,5 @@ IsTheText = (p : Position) (m : Move) (text : List ℕ) → IsSan p m text ↔ (
 
 -- No text of a legal move has more than seven bytes.
 abbrev pub AreShort : Type 0
-AreShort = (p : Position) (m : Move) → IsLegal p m.from.index m.to.index m.promotion → length (san p m) ≤ 7
+AreShort =
+    (p : Position) (m : Move) → IsLegal p m.from.index m.to.index m.promotion → length (san p m) ≤ 7

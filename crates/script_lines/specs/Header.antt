@@ -8,7 +8,8 @@ use Rattle.peer_words.specs.Tokens.{rest, tokens}
 use Rattle.policy_rules.specs.declared.settings.Settings.{Settings}
 use Rattle.policy_rules.specs.declared.table.Setting.{Setting}
 use Rattle.policy_rules.specs.Policy.{IsProper, usual}
-use Rattle.policy_rules.specs.Table.{first_settings, has_usual_rest, name_of, settings, value_of, value_text}
+use Rattle.policy_rules.specs.Table.{first_settings, has_usual_rest, name_of}
+use Rattle.policy_rules.specs.Table.{settings, value_of, value_text}
 use Rattle.policy_rules.specs.Words.{choices_of, with_choices}
 
 -- the word NAME=VALUE of a setting

@@ -1,6 +1,8 @@
 -- Marks: the lines of a script.
-use Rattle.std.specs.Prelude.{◌≡◌, ℕ, List, [], ◌∷◌, ◌++◌, length, Bool, not, ◌&&◌, if◌then◌else◌, ◌==◌, ◌-◌, nat_le, Option, Some, None, Result, Ok, Err, codes, IsTrue}
-use Rattle.line_io.specs.Event.{Event, Open, Iface, IfaceLong, IfaceEnd, IfaceLost, Engine, EngineLong, EngineEnd, EngineLost, event_of, is_line, has_feed}
+use Rattle.std.specs.Prelude.{◌≡◌, ℕ, List, [], ◌∷◌, ◌++◌, length, Bool, not, ◌&&◌, if◌then◌else◌}
+use Rattle.std.specs.Prelude.{◌==◌, ◌-◌, nat_le, Option, Some, None, Result, Ok, Err, codes, IsTrue}
+use Rattle.line_io.specs.Event.{Event, Open, Iface, IfaceLong, IfaceEnd, IfaceLost, Engine}
+use Rattle.line_io.specs.Event.{EngineLong, EngineEnd, EngineLost, event_of, is_line, has_feed}
 use Rattle.line_io.specs.declared.events.Event as event
 use Rattle.script_lines.specs.declared.marks.BadMark.{BadMark}
 use Rattle.script_lines.specs.declared.marks.Mark as code
@@ -106,8 +108,11 @@ abbrev pub mark_of : List ℕ → Option Mark
 mark_of (letter ∷ sign ∷ rest) =
     if letter == iface_event_letter then happens (iface_event sign rest)
     else (if letter == engine_event_letter then happens (engine_event sign rest)
-    else (if letter == iface_line_letter && (sign == blank && is_written rest) then Some (ToIface rest)
-    else (if letter == engine_line_letter && (sign == blank && is_written rest) then Some (ToEngine rest) else None)))
+    else (if letter == iface_line_letter && (sign == blank && is_written rest)
+    then Some (ToIface rest)
+    else (if letter == engine_line_letter && (sign == blank && is_written rest)
+    then Some (ToEngine rest)
+    else None)))
 mark_of line = None
 
 -- what follows a mark's text in a script

@@ -1,5 +1,6 @@
 -- Step lines: the lines that number the steps of a script with a header.
-use Rattle.std.specs.Prelude.{◌≡◌, ℕ, ◌%◌, ◌^◌, ◌<◌, List, ◌∷◌, ◌++◌, ◌==◌, ◌&&◌, codes, decimal, if◌then◌else◌, Option, Some, None}
+use Rattle.std.specs.Prelude.{◌≡◌, ℕ, ◌%◌, ◌^◌, ◌<◌, List, ◌∷◌, ◌++◌, ◌==◌, ◌&&◌}
+use Rattle.std.specs.Prelude.{codes, decimal, if◌then◌else◌, Option, Some, None}
 use Rattle.std.specs.Str.{bytes_eq}
 use Rattle.peer_words.specs.Bytes.{blank}
 use Rattle.peer_words.specs.Numbers.{digits}

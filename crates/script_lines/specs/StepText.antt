@@ -3,7 +3,8 @@ use Rattle.std.specs.Prelude.{ℕ, List, ◌∷◌, ◌++◌}
 use Rattle.std.specs.List.{flat_map}
 use Rattle.line_io.specs.Event.{Event}
 use Rattle.line_io.specs.Lines.{parts, line_feed}
-use Rattle.script_lines.specs.Marks.{event_marked, line_marked, iface_line_letter, engine_line_letter}
+use Rattle.script_lines.specs.Marks.{event_marked, line_marked}
+use Rattle.script_lines.specs.Marks.{iface_line_letter, engine_line_letter}
 use Rattle.script_lines.specs.StepLine.{step_line}
 
 -- the lines of a text, each after the letter of its mark
@@ -12,7 +13,8 @@ lines_marked letter text = flat_map (line_marked letter) (parts text)
 
 -- the marks of the lines that were written in two texts, to the interface and to the engine
 abbrev pub written_marks : List ℕ → List ℕ → List ℕ
-written_marks iface engine = lines_marked iface_line_letter iface ++ lines_marked engine_line_letter engine
+written_marks iface engine =
+    lines_marked iface_line_letter iface ++ lines_marked engine_line_letter engine
 
 -- the marks of an event and of what was written
 abbrev pub step_marks : Event → List ℕ → List ℕ → List ℕ
@@ -20,4 +22,5 @@ step_marks event iface engine = event_marked event ++ written_marks iface engine
 
 -- the same after the line that numbers the step
 abbrev pub numbered_marks : ℕ → Event → List ℕ → List ℕ → List ℕ
-numbered_marks number event iface engine = step_line number ++ line_feed ∷ step_marks event iface engine
+numbered_marks number event iface engine =
+    step_line number ++ line_feed ∷ step_marks event iface engine

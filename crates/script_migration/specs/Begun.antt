@@ -9,7 +9,8 @@ use Rattle.command_endings.specs.declared.ending.Ending.{Ending}
 use Rattle.command_endings.specs.declared.ending.Ending.TheVariants as endings
 use Rattle.line_scribe.specs.Putting.{Putting}
 use Rattle.script_migration.specs.declared.migration.Migration.{Migration}
-use Rattle.script_migration.specs.Migration.{AreMarked, IsUnmarked, beginning, script_with_header, steps_over}
+use Rattle.script_migration.specs.Migration.{AreMarked, IsUnmarked, beginning}
+use Rattle.script_migration.specs.Migration.{script_with_header, steps_over}
 
 -- what stands before the first mark, if it was not put
 abbrev pub beginning_by : Option ℕ → Settings → List ℕ
@@ -21,7 +22,8 @@ number_by None = 0
 number_by (Some number) = number
 
 -- the beginning stands, and this is the number of the last step
-pub record Begins (old : Migration) (text : Text) (number : ℕ) (new : Migration) (text' : Text) : Type 0 where
+pub record Begins (old : Migration) (text : Text) (number : ℕ) (new : Migration)
+    (text' : Text) : Type 0 where
   pub number_is : number ≡ number_by old.last
   pub last : new.last ≡ Some number
   pub settings : new.settings ≡ old.settings
@@ -43,10 +45,12 @@ pub record IsSound (migration : Migration) : Type 0 where
 abbrev pub PutFor : Settings → List Piece → Option ℕ → List ℕ → Type 0
 PutFor settings [] last text = (last ≡ None) × (text ≡ [])
 PutFor settings (line ∷ lines) last text =
-    ((count : ℕ) × (steps_over 1 (line ∷ lines) ≡ suc count) × (last ≡ Some (step_number count))) × (text ≡ script_with_header settings (line ∷ lines))
+    ((count : ℕ) × (steps_over 1 (line ∷ lines) ≡ suc count) × (last ≡ Some (step_number count)))
+    × (text ≡ script_with_header settings (line ∷ lines))
 
 -- the lines were migrated
-pub record Migrates (old : Migration) (lines : List Piece) (new : Migration) (text : List ℕ) : Type 0 where
+pub record Migrates (old : Migration) (lines : List Piece) (new : Migration)
+    (text : List ℕ) : Type 0 where
   pub settings : new.settings ≡ old.settings
   pub marked : AreMarked lines
   pub put : PutFor old.settings lines new.last text

@@ -18,13 +18,15 @@ use Rattle.script_migration.specs.Migration.{AreMarked, IsUnmarked, script_with_
 use Rattle.script_migration.specs.Traces.{IsMarked}
 use Rattle.line_io.specs.declared.limits.TheConstants.{SCRIPT_LINE}
 
--- All of the input was read, each line has a mark, the script of version 2 or 3 was written, and no stream failed.
+-- All of the input was read, each line has a mark, the script of version 2 or 3 was
+-- written, and no stream failed.
 pub record AllMigrated (settings : Settings) (before after : Streams) : Type 0 where
   pub got : List ℕ
   pub reads : Got before after got
   pub all_read : IsAll before.input.left got
   pub marked : AreMarked (items SCRIPT_LINE got)
-  pub written : Appends before.output.taken after.output.taken (script_with_header settings (items SCRIPT_LINE got))
+  pub written : Appends before.output.taken after.output.taken
+      (script_with_header settings (items SCRIPT_LINE got))
   pub no_failure : AreSame before after
 
 -- The first line without a mark was reported, and what is due for the lines before it was written.
@@ -42,7 +44,8 @@ pub record WholeMigrated (settings : Settings) (before after : Streams) : Type 0
   pub reads : Got before after got
   pub first : AreFirst before.input.left (whole SCRIPT_LINE got)
   pub marked : AreMarked (whole SCRIPT_LINE got)
-  pub written : Appends before.output.taken after.output.taken (script_with_header settings (whole SCRIPT_LINE got))
+  pub written : Appends before.output.taken after.output.taken
+      (script_with_header settings (whole SCRIPT_LINE got))
 
 -- so it is if the input gave at least 2^32 bytes
 pub record MuchMigrated (settings : Settings) (before after : Streams) : Type 0 where
@@ -54,7 +57,8 @@ pub record FrontMigrated (settings : Settings) (before after : Streams) : Type 0
   pub lines : List Piece
   pub read : AreRead before after lines
   pub front : ℕ
-  pub written : Appends before.output.taken after.output.taken (take front (script_with_header settings lines))
+  pub written : Appends before.output.taken after.output.taken
+      (take front (script_with_header settings lines))
 
 -- An input of fewer than 2^32 bytes whose lines all have marks is migrated, or there was no memory.
 abbrev pub CompletesMigration : Streams → Streams → ℕ → Type 0
@@ -62,14 +66,18 @@ CompletesMigration before after code =
     (x : List ℕ) → before.input.left ≡ Some x → length x < 2 ^ 32
     → AreMarked (items SCRIPT_LINE x) → IsSteady before after → (code ≡ 0) ⊎ (code ≡ 3)
 
--- The first line without a mark of an input of fewer than 2^32 bytes is reported, or there was no memory.
+-- The first line without a mark of an input of fewer than 2^32 bytes is
+-- reported, or there was no memory.
 abbrev pub ReportsUnmarked : Streams → Streams → ℕ → Type 0
 ReportsUnmarked before after code =
-    (x : List ℕ) (number : ℕ) (lines more : List Piece) → before.input.left ≡ Some x → length x < 2 ^ 32
+    (x : List ℕ) (number : ℕ) (lines more : List Piece) → before.input.left ≡ Some x
+    → length x < 2 ^ 32
     → items SCRIPT_LINE x ≡ lines ++ more → IsUnmarked number lines → IsSteady before after
-    → ((code ≡ 2) × Appends before.diag.taken after.diag.taken (diagnostic (endings.NoMark number))) ⊎ (code ≡ 3)
+    → ((code ≡ 2) × Appends before.diag.taken after.diag.taken (diagnostic (endings.NoMark number)))
+    ⊎ (code ≡ 3)
 
--- If the input is the script of version 1 of a trace, its script of version 2 or 3 was written. The trace need not be lawful.
+-- If the input is the script of version 1 of a trace, its script of version 2 or 3 was written. The
+-- trace need not be lawful.
 abbrev pub MigratesScripts : Settings → Streams → Streams → ℕ → Type 0
 MigratesScripts settings before after code =
     (trace : List Step) → IsMarked trace → before.input.left ≡ Some (script1 trace) → code ≡ 0

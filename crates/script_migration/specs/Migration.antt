@@ -1,5 +1,6 @@
 -- A script of version 1 as one with a header.
-use Rattle.std.specs.Prelude.{◌≡◌, ℕ, suc, ◌+◌, List, [], ◌∷◌, ◌++◌, length, true, Option, Some, None, is_some}
+use Rattle.std.specs.Prelude.{◌≡◌, ℕ, suc, ◌+◌, List, [], ◌∷◌, ◌++◌}
+use Rattle.std.specs.Prelude.{length, true, Option, Some, None, is_some}
 use Rattle.std.specs.List.{AllByRecursion}
 use Rattle.line_io.specs.Lines.{Piece, Whole, TooLong, line_feed}
 use Rattle.policy_rules.specs.declared.settings.Settings.{Settings}
@@ -20,7 +21,8 @@ abbrev pub text_in : Piece → List ℕ
 text_in (Whole line) = line_text line
 text_in TooLong = []
 
--- A line after so many steps is copied. The mark of an event begins the next step, whose number stands before it.
+-- A line after so many steps is copied. The mark of an event begins the next step, whose
+-- number stands before it.
 abbrev pub line_migrated : ℕ → Option Mark → List ℕ → List ℕ
 line_migrated steps (Some (Happens event)) text = line_text (step_line (step_number steps)) ++ text
 line_migrated steps (Some mark) text = text
@@ -33,7 +35,8 @@ steps_after steps mark = steps
 abbrev pub lines_migrated : ℕ → List Piece → List ℕ
 lines_migrated steps [] = []
 lines_migrated steps (line ∷ lines) =
-    line_migrated steps (mark_in line) (text_in line) ++ lines_migrated (steps_after steps (mark_in line)) lines
+    line_migrated steps (mark_in line) (text_in line)
+    ++ lines_migrated (steps_after steps (mark_in line)) lines
 
 -- the header, and the number of the first step
 abbrev pub beginning : Settings → List ℕ

@@ -6,11 +6,13 @@ use Rattle.line_io.specs.Lines.{parts}
 use Rattle.script_lines.specs.Marks.{Happens, ToIface, ToEngine, IsSpelled}
 use Rattle.adapter_core.specs.Trace.{Step, iface_text, engine_text}
 
--- Open is the event of the first step and of no other, and each other event has a mark. The newest step stands first.
+-- Open is the event of the first step and of no other, and each other event has a mark. The
+-- newest step stands first.
 abbrev pub AreEventsMarked : List Step → Type 0
 AreEventsMarked [] = ⊥
 AreEventsMarked (first ∷ []) = first.event ≡ Open
-AreEventsMarked (step ∷ earlier ∷ steps) = IsSpelled (Happens step.event) × AreEventsMarked (earlier ∷ steps)
+AreEventsMarked (step ∷ earlier ∷ steps) =
+    IsSpelled (Happens step.event) × AreEventsMarked (earlier ∷ steps)
 
 -- each line that the step wrote has a mark
 pub record IsWrittenMarked (step : Step) : Type 0 where

@@ -1,5 +1,6 @@
 -- What a replay makes of lines.
-use Rattle.std.specs.Prelude.{◌≡◌, ◌⊎◌, ℕ, List, [], ◌++◌, take, Bool, true, false, Option, Some, None}
+use Rattle.std.specs.Prelude.{◌≡◌, ◌⊎◌, ℕ, List, [], ◌++◌, take}
+use Rattle.std.specs.Prelude.{Bool, true, false, Option, Some, None}
 use Rattle.std.specs.Io.KnownBytes.{Appends}
 use Rattle.line_io.specs.Causes.{Rose}
 use Rattle.line_io.specs.Lines.{Piece}
@@ -15,7 +16,8 @@ use Rattle.command_endings.specs.declared.ending.Ending.TheVariants as endings
 use Rattle.script_player.specs.declared.player.Player.{Player}
 use Rattle.script_player.specs.declared.stage.ScriptStage.TheVariants as stages
 use Rattle.script_player.specs.Playing.{MayTake, Scripted, Took}
-use Rattle.script_player.specs.Versions.{script_by, script_events, script_fault, settings_by, version_in}
+use Rattle.script_player.specs.Versions.{script_by, script_events}
+use Rattle.script_player.specs.Versions.{script_fault, settings_by, version_in}
 use Rattle.command_endings.specs.declared.limits.TheConstants.{TEXT_ROOM}
 
 -- a session before its first line
@@ -31,12 +33,14 @@ abbrev pub MayGoOn : Player → Type 0
 MayGoOn player = MayTake player.core player.stage player.text
 
 -- these lines were replayed
-pub record Stood (o : Settings) (lines : List Piece) (player : Player) (before after : Received) : Type 0 where
+pub record Stood (o : Settings) (lines : List Piece) (player : Player)
+    (before after : Received) : Type 0 where
   pub took : Took o lines player.core player.stage player.text.text before after
   pub may : MayGoOn player
   pub no_failure : after.faults ≡ before.faults
 
--- A write failed, and the output got a front of the script of a lawful trace. Its events are those of the first of these lines.
+-- A write failed, and the output got a front of the script of a lawful trace. Its events are those
+-- of the first of these lines.
 pub record Broke (o : Settings) (pieces : List Piece) (before after : Received) : Type 0 where
   pub lines : List Piece
   pub more : List Piece
@@ -49,14 +53,17 @@ pub record Broke (o : Settings) (pieces : List Piece) (before after : Received) 
   pub failure : Rose before.faults after.faults
 
 -- the lines have this first fault, and were replayed up to it
-pub record Faulted (o : Settings) (fault : Ending) (lines : List Piece) (text : List ℕ) (before after : Received) : Type 0 where
+pub record Faulted (o : Settings) (fault : Ending) (lines : List Piece) (text : List ℕ)
+    (before after : Received) : Type 0 where
   pub is_fault : script_fault lines ≡ Some fault
   pub scripted : Scripted o lines text before after
   pub no_failure : after.faults ≡ before.faults
 
 -- no more lines are taken
-pub record Halted (o : Settings) (ending : Ending) (lines : List Piece) (player : Player) (before after : Received) : Type 0 where
-  pub halts : ((ending ≡ endings.WritingFailed) × Broke o lines before after) ⊎ Faulted o ending lines player.text.text before after
+pub record Halted (o : Settings) (ending : Ending) (lines : List Piece) (player : Player)
+    (before after : Received) : Type 0 where
+  pub halts : ((ending ≡ endings.WritingFailed) × Broke o lines before after)
+      ⊎ Faulted o ending lines player.text.text before after
   pub may : MayGoOn player
 
 -- what a line came to
@@ -84,7 +91,9 @@ is_cut e = false
 -- what a replay of lines means
 abbrev pub replays : {O : Type 0} → (O → Received) → Meaning Player O Ending
 replays {O} see = record {
-  took = λ player0 output0 lines player output. (o : Settings) → IsFresh o player0 → Stood o lines player (see output0) (see output);
+  took =
+      λ player0 output0 lines player output. (o : Settings) → IsFresh o player0
+      → Stood o lines player (see output0) (see output);
   stopped = λ player0 output0 lines ending player output. (o : Settings) → IsFresh o player0
       → Halted o ending lines player (see output0) (see output);
   may = λ player. MayGoOn player;

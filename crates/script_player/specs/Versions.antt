@@ -17,7 +17,8 @@ use Rattle.script_player.specs.declared.stage.ScriptStage.TheVariants as stages
 
 -- A LINE BY ITSELF
 
--- the mark of an event, the mark of a line that was written, the number of a step, or nothing of these
+-- the mark of an event, the mark of a line that was written, the number of a
+-- step, or nothing of these
 pub data LineKind : Type 0 where
   Tells : (event : Event) → LineKind
   Writes : LineKind
@@ -76,7 +77,8 @@ pub record ScriptPlace : Type 0 where
   pub stage : ScriptStage
   pub ends : Ends
 
--- what a line says there: an event that may come, a line that was written, the number of the step that comes, or a fault
+-- what a line says there: an event that may come, a line that was written, the number of the
+-- step that comes, or a fault
 pub data LineSaid : Type 0 where
   Comes : (event : Event) → LineSaid
   Passes : LineSaid
@@ -91,8 +93,9 @@ event_says ends e = if may ends e then Comes e else Cannot
 abbrev pub number_says : ℕ → ℕ → LineSaid
 number_says due number = if number == due then Starts number else IsOutOfStep
 
--- In version 1 marks come in any order. With a header step 0 comes after the header, and then step by step its number, the mark of
--- its event, and the lines that it wrote. Open is the event of step 0, and has no mark.
+-- In version 1 marks come in any order. With a header step 0 comes after the header, and then step
+-- by step its number, the mark of its event, and the lines that it wrote. Open is the event of
+-- step 0, and has no mark.
 abbrev pub kind_says : ScriptStage → Ends → LineKind → LineSaid
 kind_says stages.Start ends kind = HasNoMark
 kind_says stages.Plain ends (Tells e) = event_says ends e
@@ -122,8 +125,14 @@ stage_told (stages.Numbered number) = stages.Told number
 stage_told stage = stage
 
 abbrev pub place_said : ScriptPlace → LineSaid → ScriptPlace
-place_said place (Comes e) = record { stage = stage_told place.stage; ends = ends_after place.ends e }
-place_said place (Starts number) = record { stage = stage_started place.stage number; ends = place.ends }
+place_said place (Comes e) = record {
+  stage = stage_told place.stage;
+  ends = ends_after place.ends e;
+}
+place_said place (Starts number) = record {
+  stage = stage_started place.stage number;
+  ends = place.ends;
+}
 place_said place s = place
 
 -- where the reading stands after lines
@@ -142,11 +151,13 @@ abbrev pub or_later : Option Ending → Option Ending → Option Ending
 or_later None later = later
 or_later (Some e) later = Some e
 
--- the first line that has no mark, is out of step or whose event may not come, if the first line has this number
+-- the first line that has no mark, is out of step or whose event may not come, if the
+-- first line has this number
 abbrev pub first_fault : ℕ → ScriptPlace → List Piece → Option Ending
 first_fault n place [] = None
 first_fault n place (l ∷ ls) =
-    or_later (fault_said n (line_says place l)) (first_fault (n + 1) (place_said place (line_says place l)) ls)
+    or_later (fault_said n (line_says place l))
+    (first_fault (n + 1) (place_said place (line_says place l)) ls)
 
 abbrev pub events_said : LineSaid → List Event → List Event
 events_said (Comes e) later = e ∷ later
@@ -157,7 +168,8 @@ events_said s later = []
 -- the events of lines, up to the first fault
 abbrev pub events_of : ScriptPlace → List Piece → List Event
 events_of place [] = []
-events_of place (l ∷ ls) = events_said (line_says place l) (events_of (place_said place (line_says place l)) ls)
+events_of place (l ∷ ls) =
+    events_said (line_says place l) (events_of (place_said place (line_says place l)) ls)
 
 -- A WHOLE SCRIPT
 
@@ -174,7 +186,8 @@ abbrev pub beginning : Version → ScriptPlace
 beginning version = record { stage = first_stage version; ends = ends_once_open }
 
 abbrev pub fault_by : Version → List Piece → Option Ending
-fault_by version lines = first_fault (1 + header_lines version) (beginning version) (behind_header version lines)
+fault_by version lines =
+    first_fault (1 + header_lines version) (beginning version) (behind_header version lines)
 
 abbrev pub events_by : Version → List Piece → List Event
 events_by version lines = Open ∷ events_of (beginning version) (behind_header version lines)

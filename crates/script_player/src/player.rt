@@ -82,7 +82,8 @@ impl Player {
     fn open_numbered(&mut self, settings: &Settings)
         requires proper { IsProper settings.now }
         requires new { Stands self.old.core.settings self.old.core [] }
-        requires room { length self.old.text.text + HEADER_ROOM + 1 + 2 * STEP_ROOM ≤ self.old.text.room }
+        requires room { length self.old.text.text + HEADER_ROOM + 1 + 2 * STEP_ROOM
+            ≤ self.old.text.room }
         ensures begun { HasBegun (Some settings.now) self.old.core self.old.text
             self.new.core self.new.stage self.new.text }
         ensures room { self.new.text.room ≡ self.old.text.room }

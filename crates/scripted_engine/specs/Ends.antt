@@ -1,5 +1,6 @@
 -- How a run of the program ends.
-use Rattle.std.specs.Prelude.{◌≡◌, ◌⊎◌, ℕ, ◌^◌, ◌<◌, ◌≤◌, List, [], ◌∷◌, ◌++◌, length, Bool, true, false, if◌then◌else◌, Some, None, IsSome}
+use Rattle.std.specs.Prelude.{◌≡◌, ◌⊎◌, ℕ, ◌^◌, ◌<◌, ◌≤◌, List, [], ◌∷◌, ◌++◌, length}
+use Rattle.std.specs.Prelude.{Bool, true, false, if◌then◌else◌, Some, None, IsSome}
 use Rattle.std.specs.List.{list_any}
 use Rattle.std.specs.Str.{bytes_eq}
 use Rattle.std.specs.Prelude.{codes}
@@ -15,7 +16,10 @@ use Rattle.scripted_engine.specs.Blocks.{Block}
 use Rattle.scripted_engine.specs.Answers.{answer}
 use Rattle.scripted_engine.specs.Script.{first_bad, blocks_of}
 use Rattle.scripted_engine.specs.declared.ending.ScriptedEnding.{ScriptedEnding}
-use Rattle.scripted_engine.specs.declared.ending.ScriptedEnding.TheVariants.{Done, Usage, NoMemory, ReadFailed, WriteFailed, BadScript, TooLarge, Endless}
+use Rattle.scripted_engine.specs.declared.ending.ScriptedEnding.TheVariants.{Done, Usage, NoMemory}
+use Rattle.scripted_engine.specs.declared.ending.ScriptedEnding.TheVariants.{ReadFailed}
+use Rattle.scripted_engine.specs.declared.ending.ScriptedEnding.TheVariants.{WriteFailed, BadScript}
+use Rattle.scripted_engine.specs.declared.ending.ScriptedEnding.TheVariants.{TooLarge, Endless}
 use Rattle.scripted_engine.specs.declared.run.TheConstants.{SCRIPT_LIMIT}
 use Rattle.line_io.specs.declared.limits.TheConstants.{PEER_LINE}
 
@@ -46,7 +50,8 @@ has_quit lines = list_any is_quit lines
 -- the answers to some lines, after earlier ones
 abbrev pub replies_after : List Block → List (List ℕ) → List (List ℕ) → List ℕ
 replies_after blocks earlier [] = []
-replies_after blocks earlier (line ∷ lines) = answer blocks earlier line ++ replies_after blocks (earlier ++ line ∷ []) lines
+replies_after blocks earlier (line ∷ lines) =
+    answer blocks earlier line ++ replies_after blocks (earlier ++ line ∷ []) lines
 
 -- the answers to lines, up to the first that begins with `quit`
 abbrev pub replies : List Block → List Piece → List ℕ
@@ -73,16 +78,18 @@ NoScript old new script Endless = ⊥
 
 -- All lines were answered, up to the first `quit` or to the end: whatever is left after them, and
 -- nothing is left if the end was seen.
-pub record AnswersAll (blocks : List Block) (old new : Supplied) (heard told : List ℕ) : Type 0 where
+pub record AnswersAll (blocks : List Block) (old new : Supplied)
+    (heard told : List ℕ) : Type 0 where
   pub ended : Bool
   pub all : (left : List ℕ) → (ended ≡ true → left ≡ [])
       → told ≡ replies blocks (items PEER_LINE (heard ++ left))
   pub at_end : ended ≡ true → IsOver old new
   pub at_quit : ended ≡ false → has_quit (until_quit (items PEER_LINE heard)) ≡ true
 
--- what is written is a front of all answers, whatever is left after them, and nothing is left if the end
--- was seen
-pub record AnswersFront (blocks : List Block) (old new : Supplied) (heard told : List ℕ) : Type 0 where
+-- what is written is a front of all answers, whatever is left after them, and nothing is
+-- left if the end was seen
+pub record AnswersFront (blocks : List Block) (old new : Supplied)
+    (heard told : List ℕ) : Type 0 where
   pub ended : Bool
   pub front : (left : List ℕ) → (ended ≡ true → left ≡ [])
       → (more : List ℕ) × (told ++ more ≡ replies blocks (items PEER_LINE (heard ++ left)))
@@ -113,10 +120,12 @@ LinesEnd WriteFailed blocks old new heard told =
     Rose old.output.faults new.output.faults × AnswersFront blocks old.input new.input heard told
 LinesEnd BadScript blocks old new heard told = ⊥
 LinesEnd TooLarge blocks old new heard told = ⊥
-LinesEnd Endless blocks old new heard told = (2 ^ 32 ≤ length heard) × AnswersWhole blocks heard told
+LinesEnd Endless blocks old new heard told =
+    (2 ^ 32 ≤ length heard) × AnswersWhole blocks heard told
 
 -- The input gave some bytes, and the output took some.
-pub record Answered (ending : ScriptedEnding) (blocks : List Block) (old new : Streams) : Type 0 where
+pub record Answered (ending : ScriptedEnding) (blocks : List Block)
+    (old new : Streams) : Type 0 where
   pub heard : List ℕ
   pub told : List ℕ
   pub gave : Reads old.input new.input heard
@@ -124,19 +133,21 @@ pub record Answered (ending : ScriptedEnding) (blocks : List Block) (old new : S
   pub ends : LinesEnd ending blocks old new heard told
 
 -- there is no script, nothing is read of the input, and nothing is written
-pub record HasNoScript (ending : ScriptedEnding) (script heard told : List ℕ) (old new : Streams) : Type 0 where
+pub record HasNoScript (ending : ScriptedEnding) (script heard told : List ℕ)
+    (old new : Streams) : Type 0 where
   pub why : NoScript old.file new.file script ending
   pub none_heard : heard ≡ []
   pub none_told : told ≡ []
 
 -- the lines were answered by a script that is good
-pub record HasScript (ending : ScriptedEnding) (script heard told : List ℕ) (old new : Streams) : Type 0 where
+pub record HasScript (ending : ScriptedEnding) (script heard told : List ℕ)
+    (old new : Streams) : Type 0 where
   pub read : IsRead new.file script
   pub good : first_bad script ≡ None
   pub ends : LinesEnd ending (blocks_of script) old new heard told
 
--- The file gave this script, the input these bytes, and the output took this. The run had no script,
--- or answered the lines by it.
+-- The file gave this script, the input these bytes, and the output took this. The run had no
+-- script, or answered the lines by it.
 pub record Session (ending : ScriptedEnding) (old new : Streams) : Type 0 where
   pub script : List ℕ
   pub heard : List ℕ
@@ -144,7 +155,8 @@ pub record Session (ending : ScriptedEnding) (old new : Streams) : Type 0 where
   pub from_file : Reads old.file new.file script
   pub from_input : Reads old.input new.input heard
   pub to_output : Appends old.output.taken new.output.taken told
-  pub ends : HasNoScript ending script heard told old new ⊎ HasScript ending script heard told old new
+  pub ends :
+      HasNoScript ending script heard told old new ⊎ HasScript ending script heard told old new
 
 -- The file gave a good script within the limit, the input gave fewer than 2^32 bytes, and no count
 -- rose.
@@ -160,7 +172,8 @@ pub record GoesWell (script heard : List ℕ) (old new : Streams) : Type 0 where
 
 -- A run that goes well is done, or there was no memory.
 abbrev pub Completes : ℕ → Streams → Streams → Type 0
-Completes code old new = (script heard : List ℕ) → GoesWell script heard old new → (code ≡ 0) ⊎ (code ≡ 3)
+Completes code old new =
+    (script heard : List ℕ) → GoesWell script heard old new → (code ≡ 0) ⊎ (code ≡ 3)
 
 -- If both report their bytes and the run is done, the output took the answers to all lines of the
 -- input, up to `quit`.

@@ -24,7 +24,8 @@ ending_of ends.ReadFailed = endings.ReadFailed
 ending_of ends.Endless = endings.Endless
 
 -- these lines were answered, and none of them begins with `quit`
-pub record Heard (blocks : List Block) (pieces : List Piece) (table : Scripted) (output0 output : Received) : Type 0 where
+pub record Heard (blocks : List Block) (pieces : List Piece) (table : Scripted)
+    (output0 output : Received) : Type 0 where
   pub told : List ℕ
   pub took : Appends output0.taken output.taken told
   pub writes : output0.faults ≤ output.faults
@@ -34,10 +35,13 @@ pub record Heard (blocks : List Block) (pieces : List Piece) (table : Scripted) 
 
 -- the answers to these lines were written, or a front if a write failed
 abbrev pub StopsBy : Stop → List Block → List Piece → List ℕ → Received → Received → Type 0
-StopsBy stops.Quit blocks pieces told output0 output = (told ≡ replies blocks pieces) × (has_quit (until_quit pieces) ≡ true)
-StopsBy stops.WriteFailed blocks pieces told output0 output = Rose output0.faults output.faults × ((more : List ℕ) × (told ++ more ≡ replies blocks pieces))
+StopsBy stops.Quit blocks pieces told output0 output =
+    (told ≡ replies blocks pieces) × (has_quit (until_quit pieces) ≡ true)
+StopsBy stops.WriteFailed blocks pieces told output0 output =
+    Rose output0.faults output.faults × ((more : List ℕ) × (told ++ more ≡ replies blocks pieces))
 
-pub record Halted (stop : Stop) (blocks : List Block) (pieces : List Piece) (output0 output : Received) : Type 0 where
+pub record Halted (stop : Stop) (blocks : List Block) (pieces : List Piece)
+    (output0 output : Received) : Type 0 where
   pub told : List ℕ
   pub took : Appends output0.taken output.taken told
   pub stops : StopsBy stop blocks pieces told output0 output
@@ -45,8 +49,12 @@ pub record Halted (stop : Stop) (blocks : List Block) (pieces : List Piece) (out
 -- what answers to lines are
 abbrev pub answers_of : {O : Type 0} → (O → Received) → Meaning Scripted O Stop
 answers_of {O} see = record {
-  took = λ table0 output0 pieces table output. (blocks : List Block) → Stands table0 blocks [] → Heard blocks pieces table (see output0) (see output);
-  stopped = λ table0 output0 pieces stop table output. (blocks : List Block) → Stands table0 blocks [] → Halted stop blocks pieces (see output0) (see output);
+  took =
+      λ table0 output0 pieces table output. (blocks : List Block) → Stands table0 blocks []
+      → Heard blocks pieces table (see output0) (see output);
+  stopped =
+      λ table0 output0 pieces stop table output. (blocks : List Block) → Stands table0 blocks []
+      → Halted stop blocks pieces (see output0) (see output);
   may = λ table. ⊤;
   is_written = λ table. ⊤;
 }

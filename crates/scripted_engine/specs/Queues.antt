@@ -1,5 +1,6 @@
 -- The answers of a script, by their words.
-use Rattle.std.specs.Prelude.{ℕ, ◌+◌, ◌-◌, List, [], ◌∷◌, ◌++◌, length, if◌then◌else◌, nat_lt, slice_get, map}
+use Rattle.std.specs.Prelude.{ℕ, ◌+◌, ◌-◌, List, [], ◌∷◌, ◌++◌, length}
+use Rattle.std.specs.Prelude.{if◌then◌else◌, nat_lt, slice_get, map}
 use Rattle.std.specs.Option.{option_map_or}
 use Rattle.std.specs.Str.{bytes_eq}
 use Rattle.std.specs.Global.{Vec}
@@ -19,7 +20,10 @@ with_text q text = record { answers = q.answers ++ text ∷ []; next = q.next }
 
 -- the next answer is that after this one, and the last one stays
 abbrev pub queue_at_next : Queue → Queue
-queue_at_next q = record { answers = q.answers; next = if nat_lt 1 (length q.answers - q.next) then q.next + 1 else q.next }
+queue_at_next q = record {
+  answers = q.answers;
+  next = if nat_lt 1 (length q.answers - q.next) then q.next + 1 else q.next;
+}
 
 abbrev pub text_at : Queue → ℕ → List ℕ
 text_at q at = option_map_or (λ t. t) (slice_get q.answers at) []
@@ -38,7 +42,8 @@ find word (w ∷ ws) (q ∷ qs) = if bytes_eq word w then q else find word ws qs
 -- the same, once a block was added
 abbrev pub find_with : Block → List ℕ → List (List ℕ) → List Queue → Queue
 find_with block word words queues =
-    if bytes_eq block.word word then with_text (find word words queues) block.answer else find word words queues
+    if bytes_eq block.word word then with_text (find word words queues) block.answer
+    else find word words queues
 
 -- the words of a set
 abbrev pub names : List (Vec ℕ) → List (List ℕ)

@@ -1,5 +1,6 @@
 -- Whole dialogues: lists of exchanges, the newest first.
-use Rattle.std.specs.Prelude.{◌≡◌, ℕ, ◌+◌, List, [], ◌∷◌, Bool, true, false, not, if◌then◌else◌, ◌==◌, ◌||◌, Option, Some, None}
+use Rattle.std.specs.Prelude.{◌≡◌, ℕ, ◌+◌, List, [], ◌∷◌, Bool, true, false, not}
+use Rattle.std.specs.Prelude.{if◌then◌else◌, ◌==◌, ◌||◌, Option, Some, None}
 use Rattle.chess_board.specs.declared.board.Move.{Move}
 use Rattle.peer_words.specs.declared.kinds.GoKind.TheVariants as kinds
 use Rattle.search_epochs.specs.declared.words.EngineState.{EngineState}
@@ -9,10 +10,15 @@ use Rattle.search_epochs.specs.declared.words.Call.TheVariants as calls
 use Rattle.search_epochs.specs.declared.words.Said.TheVariants as said
 use Rattle.search_epochs.specs.declared.words.Orders.{Orders}
 use Rattle.search_epochs.specs.declared.words.Orders.TheVariants as orders
-use Rattle.search_epochs.specs.Tickets.{Engine, Search, Word, Go, Stop, Quit, What, Says, Quiet, Ticketed, DialogueTurn, Settled, AllSetup, first_dialogue, before_orders, after, owed, is_due, is_hit, is_hurry, is_empty, is_gone, has_go, has_hit}
-use Rattle.search_epochs.specs.Dialogue.{Dialogue, opening, mid_dialogue, after_settled, settle, words, played_of, boots}
+use Rattle.search_epochs.specs.Tickets.{Engine, Search, Word, Go, Stop, Quit, What, Says}
+use Rattle.search_epochs.specs.Tickets.{Quiet, Ticketed, DialogueTurn, Settled, AllSetup}
+use Rattle.search_epochs.specs.Tickets.{first_dialogue, before_orders, after, owed, is_due}
+use Rattle.search_epochs.specs.Tickets.{is_hit, is_hurry, is_empty, is_gone, has_go, has_hit}
+use Rattle.search_epochs.specs.Dialogue.{Dialogue, opening, mid_dialogue, after_settled}
+use Rattle.search_epochs.specs.Dialogue.{settle, words, played_of, boots}
 
--- one exchange: a turn, the desk's hint after it, whether the session is closed after it, and the orders that are written
+-- one exchange: a turn, the desk's hint after it, whether the session is closed after it, and
+-- the orders that are written
 pub record Exchange : Type 0 where
   pub turn : DialogueTurn
   pub hint : Option Move
@@ -45,22 +51,25 @@ IsDeaf Quiet = Unit {0}
 IsDeaf (Says said.Ended) = Unit {0}
 IsDeaf w = ⊥
 
--- An exchange that may come: only settings wait; a closed session stays closed; a step after which the session is closed begins no
--- epoch, and hears no answer.
+-- An exchange that may come: only settings wait; a closed session stays closed; a step after which
+-- the session is closed begins no epoch, and hears no answer.
 pub record MayCome (closed : Bool) (x : Exchange) : Type 0 where
   pub waiting : AllSetup x.turn.waiting
   pub stays_closed : closed ≡ true → x.closed ≡ true
   pub no_epoch : x.closed ≡ true → x.turn.begins_epoch ≡ false
   pub deaf : x.closed ≡ true → IsDeaf x.turn.what
 
--- the orders of a step after which the session is closed: `quit` if it closes it, unless the engine is gone
+-- the orders of a step after which the session is closed: `quit` if it closes it,
+-- unless the engine is gone
 abbrev pub last_orders : Bool → Bool → List Word
 last_orders closed gone = if closed || gone then [] else Quit ∷ []
 
 -- its orders are those that are settled
 pub record AreLawful (t : Ticketed) (closed : Bool) (x : Exchange) : Type 0 where
-  pub settled : x.closed ≡ false → Settled (before_orders t x.turn).engine (before_orders t x.turn).epoch (owed (before_orders t x.turn) x.turn.call)
-      x.turn.waiting (is_due t x.turn) (is_hit t x.turn) (is_hurry x.turn.what) x.orders
+  pub settled : x.closed ≡ false
+      → Settled (before_orders t x.turn).engine (before_orders t x.turn).epoch
+      (owed (before_orders t x.turn) x.turn.call) x.turn.waiting (is_due t x.turn)
+      (is_hit t x.turn) (is_hurry x.turn.what) x.orders
   pub closing : x.closed ≡ true
       → x.orders ≡ last_orders closed (is_gone (before_orders t x.turn).engine)
 
@@ -82,13 +91,16 @@ abbrev pub is_end : What → Bool
 is_end (Says said.Ended) = true
 is_end w = false
 
--- Nothing is called for afterwards, unless an epoch begins: an answer that shows no move, the engine's end, the session's end.
+-- Nothing is called for afterwards, unless an epoch begins: an answer that shows no move, the
+-- engine's end, the session's end.
 abbrev pub ends_call : Ticketed → Exchange → Bool
 ends_call t x = x.closed || (answers t x.turn.what || is_end x.turn.what)
 
--- The call and the hint change only with the epoch, save that such a step ends the call. A call to ponder names the hint.
+-- The call and the hint change only with the epoch, save that such a step ends the call. A call
+-- to ponder names the hint.
 pub record IsSteady (t : Ticketed) (call : Call) (hint : Option Move) (x : Exchange) : Type 0 where
-  pub call_stays : x.turn.begins_epoch ≡ false → x.turn.call ≡ (if ends_call t x then calls.Nothing else call)
+  pub call_stays : x.turn.begins_epoch ≡ false
+      → x.turn.call ≡ (if ends_call t x then calls.Nothing else call)
   pub hint_before : x.turn.hint ≡ hint
   pub hint_stays : x.turn.begins_epoch ≡ false → x.hint ≡ hint
   pub hint_called : (h : Move) → x.turn.call ≡ calls.Ponder h → x.hint ≡ Some h
@@ -97,7 +109,8 @@ abbrev pub Steady : List Exchange → Type 0
 Steady [] = Unit {0}
 Steady (x ∷ xs) = Steady xs × IsSteady (dialogue xs) (last_call xs) (last_hint xs) x
 
--- what the code does in an exchange: it hears, begins the epoch, and settles; after the session's end it rests
+-- what the code does in an exchange: it hears, begins the epoch, and settles; after
+-- the session's end it rests
 
 abbrev pub heard_in : Dialogue → Exchange → Dialogue
 heard_in v x = mid_dialogue v x.turn.what x.turn.begins_epoch
@@ -105,14 +118,18 @@ heard_in v x = mid_dialogue v x.turn.what x.turn.begins_epoch
 abbrev pub choice : Dialogue → Exchange → Orders
 choice v x =
     if x.closed then orders.None
-    else settle (heard_in v x) x.turn.call (boots v.state x.turn.what || not (is_empty x.turn.waiting)) (played_of x.turn.what) (is_hurry x.turn.what)
+    else settle (heard_in v x) x.turn.call
+    (boots v.state x.turn.what || not (is_empty x.turn.waiting)) (played_of x.turn.what)
+    (is_hurry x.turn.what)
 
 abbrev pub is_gone_state : EngineState → Bool
 is_gone_state states.Gone = true
 is_gone_state e = false
 
 abbrev pub orders_of : Dialogue → Bool → Exchange → List Word
-orders_of v closed x = if x.closed then last_orders closed (is_gone_state (heard_in v x).state) else words x.turn.waiting (choice v x)
+orders_of v closed x =
+    if x.closed then last_orders closed (is_gone_state (heard_in v x).state)
+    else words x.turn.waiting (choice v x)
 
 -- what it keeps after all exchanges
 abbrev pub view : List Exchange → Dialogue
@@ -122,7 +139,8 @@ view (x ∷ xs) = after_settled (heard_in (view xs) x) (choice (view xs) x)
 -- each exchange's orders are those that the code chose
 abbrev pub Chosen : List Exchange → Type 0
 Chosen [] = Unit {0}
-Chosen (x ∷ xs) = Chosen xs × MayCome (is_closed xs) x × (x.orders ≡ orders_of (view xs) (is_closed xs) x)
+Chosen (x ∷ xs) =
+    Chosen xs × MayCome (is_closed xs) x × (x.orders ≡ orders_of (view xs) (is_closed xs) x)
 
 -- what is said of a whole dialogue
 

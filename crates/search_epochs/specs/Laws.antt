@@ -1,17 +1,27 @@
 -- The laws of the dialogue: of one turn, and of every list of exchanges.
-use Rattle.std.specs.Prelude.{◌≡◌, ◌≢◌, ℕ, ◌≤◌, List, [], ◌∷◌, ◌++◌, map, Bool, true, false, Option, Some}
+use Rattle.std.specs.Prelude.{◌≡◌, ◌≢◌, ℕ, ◌≤◌, List, [], ◌∷◌, ◌++◌}
+use Rattle.std.specs.Prelude.{map, Bool, true, false, Option, Some}
 use Rattle.chess_board.specs.declared.board.Move.{Move}
 use Rattle.peer_words.specs.declared.kinds.GoKind.{GoKind}
 use Rattle.peer_words.specs.declared.kinds.GoKind.TheVariants as kinds
 use Rattle.search_epochs.specs.declared.words.Call.{Call}
 use Rattle.search_epochs.specs.declared.words.Call.TheVariants as calls
-use Rattle.search_epochs.specs.Tickets.{Engine, Idle, Search, Gone, Word, Setup, IsReady, Position, Go, Stop, PonderHit, Quit, Ticketed, DialogueTurn, TicketWithin, LastWithin, AllSetup, Settled, IsLiveOnlyAt, Serves, Paired, before_orders, after, owed, is_call_spent, is_due, is_hit, is_hurry, is_move, is_idle, is_empty, is_nothing, has_quit, only}
-use Rattle.search_epochs.specs.Dialogue.{dialogue_between_steps, kept_mid, mid_dialogue, settled_by, after_settled, words}
-use Rattle.search_epochs.specs.History.{Exchange, Steady, Chosen, Lawful, dialogue, view, last_hint, last_call, is_closed, call_of_last_search, stops_since_go, engine_at, without_orders}
+use Rattle.search_epochs.specs.Tickets.{Engine, Idle, Search, Gone, Word, Setup, IsReady}
+use Rattle.search_epochs.specs.Tickets.{Position, Go, Stop, PonderHit, Quit, Ticketed}
+use Rattle.search_epochs.specs.Tickets.{DialogueTurn, TicketWithin, LastWithin, AllSetup}
+use Rattle.search_epochs.specs.Tickets.{Settled, IsLiveOnlyAt, Serves, Paired, before_orders}
+use Rattle.search_epochs.specs.Tickets.{after, owed, is_call_spent, is_due, is_hit, is_hurry}
+use Rattle.search_epochs.specs.Tickets.{is_move, is_idle, is_empty, is_nothing, has_quit, only}
+use Rattle.search_epochs.specs.Dialogue.{dialogue_between_steps, kept_mid, mid_dialogue}
+use Rattle.search_epochs.specs.Dialogue.{settled_by, after_settled, words}
+use Rattle.search_epochs.specs.History.{Exchange, Steady, Chosen, Lawful, dialogue, view}
+use Rattle.search_epochs.specs.History.{last_hint, last_call, is_closed, call_of_last_search}
+use Rattle.search_epochs.specs.History.{stops_since_go, engine_at, without_orders}
 
 -- one turn
 
--- the code keeps the right thing after the event: without the epoch's number it knows what is stale and what is spent
+-- the code keeps the right thing after the event: without the epoch's number it knows what
+-- is stale and what is spent
 abbrev pub MidIsKept : Type 0
 MidIsKept =
     (t : Ticketed) (u : DialogueTurn) → TicketWithin t.epoch t.engine → LastWithin t.epoch t.last
@@ -21,27 +31,35 @@ MidIsKept =
 abbrev pub TurnIsSettled : Type 0
 TurnIsSettled =
     (t : Ticketed) (u : DialogueTurn) → AllSetup u.waiting
-    → Settled (before_orders t u).engine (before_orders t u).epoch (owed (before_orders t u) u.call) u.waiting (is_due t u) (is_hit t u) (is_hurry u.what) (words u.waiting (settled_by t u))
+    → Settled (before_orders t u).engine (before_orders t u).epoch (owed (before_orders t u) u.call)
+    u.waiting (is_due t u) (is_hit t u) (is_hurry u.what) (words u.waiting (settled_by t u))
 
--- and what is kept goes on with the tickets, if the hint afterwards is the one before, unless an epoch begins, and is named by a
--- call to ponder that is owed
+-- and what is kept goes on with the tickets, if the hint afterwards is the one before, unless an
+-- epoch begins, and is named by a call to ponder that is owed
 abbrev pub TurnIsKept : Type 0
 TurnIsKept =
-    (t : Ticketed) (u : DialogueTurn) (hint : Option Move) → TicketWithin t.epoch t.engine → AllSetup u.waiting
-    → (u.begins_epoch ≡ false → hint ≡ u.hint) → ((h : Move) → owed (before_orders t u) u.call ≡ calls.Ponder h → hint ≡ Some h)
-    → after_settled (kept_mid t u) (settled_by t u) ≡ dialogue_between_steps (after (before_orders t u) (words u.waiting (settled_by t u))) hint
+    (t : Ticketed) (u : DialogueTurn) (hint : Option Move) → TicketWithin t.epoch t.engine
+    → AllSetup u.waiting
+    → (u.begins_epoch ≡ false → hint ≡ u.hint)
+    → ((h : Move) → owed (before_orders t u) u.call ≡ calls.Ponder h → hint ≡ Some h)
+    → after_settled (kept_mid t u) (settled_by t u)
+    ≡ dialogue_between_steps (after (before_orders t u) (words u.waiting (settled_by t u))) hint
 
 -- what is settled is one list of orders
 abbrev pub SettledIsUnique : Type 0
 SettledIsUnique =
-    (engine : Engine) (epoch : ℕ) (owing : Call) (waiting : List Word) (due hits hurries : Bool) (ws ws' : List Word)
-    → Settled engine epoch owing waiting due hits hurries ws → Settled engine epoch owing waiting due hits hurries ws' → ws ≡ ws'
+    (engine : Engine) (epoch : ℕ) (owing : Call) (waiting : List Word) (due hits hurries : Bool)
+    (ws ws' : List Word)
+    → Settled engine epoch owing waiting due hits hurries ws
+    → Settled engine epoch owing waiting due hits hurries ws' → ws ≡ ws'
 
 -- and which list it is
 abbrev pub SettledIsOnly : Type 0
 SettledIsOnly =
-    (engine : Engine) (epoch : ℕ) (owing : Call) (waiting : List Word) (due hits hurries : Bool) (ws : List Word)
-    → Settled engine epoch owing waiting due hits hurries ws → ws ≡ only engine epoch owing waiting due hits hurries
+    (engine : Engine) (epoch : ℕ) (owing : Call) (waiting : List Word) (due hits hurries : Bool)
+    (ws : List Word)
+    → Settled engine epoch owing waiting due hits hurries ws
+    → ws ≡ only engine epoch owing waiting due hits hurries
 
 -- whole dialogues
 
@@ -55,51 +73,71 @@ LawfulIsChosen = (xs : List Exchange) → Steady xs → Lawful xs → Chosen xs
 
 -- in each, what the code keeps goes with the tickets
 abbrev pub DialogueIsKept : Type 0
-DialogueIsKept = (xs : List Exchange) → Steady xs → Lawful xs → view xs ≡ dialogue_between_steps (dialogue xs) (last_hint xs)
+DialogueIsKept =
+    (xs : List Exchange) → Steady xs → Lawful xs
+    → view xs ≡ dialogue_between_steps (dialogue xs) (last_hint xs)
 
 -- two lawful dialogues in which the same is asked are the same
 abbrev pub DialogueIsUnique : Type 0
-DialogueIsUnique = (xs ys : List Exchange) → Lawful xs → Lawful ys → map without_orders xs ≡ map without_orders ys → xs ≡ ys
+DialogueIsUnique =
+    (xs ys : List Exchange) → Lawful xs → Lawful ys → map without_orders xs ≡ map without_orders ys
+    → xs ≡ ys
 
 -- no ticket is ever above the epoch
 abbrev pub TicketsAreWithin : Type 0
-TicketsAreWithin = (xs : List Exchange) → TicketWithin (dialogue xs).epoch (dialogue xs).engine × LastWithin (dialogue xs).epoch (dialogue xs).last
+TicketsAreWithin =
+    (xs : List Exchange)
+    → TicketWithin (dialogue xs).epoch (dialogue xs).engine
+    × LastWithin (dialogue xs).epoch (dialogue xs).last
 
 -- searches
 
 -- an open search that is not stopped is current
 abbrev pub LiveIsCurrent : Type 0
-LiveIsCurrent = (xs : List Exchange) → Lawful xs → IsLiveOnlyAt (dialogue xs).epoch (dialogue xs).engine
+LiveIsCurrent =
+    (xs : List Exchange) → Lawful xs → IsLiveOnlyAt (dialogue xs).epoch (dialogue xs).engine
 
 -- a current search that is stopped is for a Move
 abbrev pub StoppedIsForMove : Type 0
-StoppedIsForMove = (xs : List Exchange) (k : GoKind) → Lawful xs → (dialogue xs).engine ≡ Search k (dialogue xs).epoch true → k ≡ kinds.Move
+StoppedIsForMove =
+    (xs : List Exchange) (k : GoKind) → Lawful xs
+    → (dialogue xs).engine ≡ Search k (dialogue xs).epoch true → k ≡ kinds.Move
 
 -- there is no open current search beside spent
 abbrev pub CurrentIsUnspent : Type 0
-CurrentIsUnspent = (xs : List Exchange) (k : GoKind) (stopped : Bool) → Lawful xs → (dialogue xs).engine ≡ Search k (dialogue xs).epoch stopped → is_call_spent (dialogue xs) ≡ false
+CurrentIsUnspent =
+    (xs : List Exchange) (k : GoKind) (stopped : Bool) → Lawful xs
+    → (dialogue xs).engine ≡ Search k (dialogue xs).epoch stopped
+    → is_call_spent (dialogue xs) ≡ false
 
--- at most one `stop` is written from a `go` to the next, so in a search, which ends with its answer and goes on after a `ponderhit`
+-- at most one `stop` is written from a `go` to the next, so in a search, which ends with its answer
+-- and goes on after a `ponderhit`
 abbrev pub StopsOnce : Type 0
 StopsOnce = (xs : List Exchange) → Lawful xs → stops_since_go xs ≤ 1
 
 -- an idle engine is left idle only if nothing is owed and nothing waits
 abbrev pub NothingIsLeft : Type 0
 NothingIsLeft =
-    (x : Exchange) (xs : List Exchange) → Lawful (x ∷ xs) → x.closed ≡ false → is_idle (dialogue (x ∷ xs)).engine ≡ true
+    (x : Exchange) (xs : List Exchange) → Lawful (x ∷ xs) → x.closed ≡ false
+    → is_idle (dialogue (x ∷ xs)).engine ≡ true
     → (is_empty x.turn.waiting ≡ true) × (is_nothing (owed (dialogue (x ∷ xs)) x.turn.call) ≡ true)
 
 -- calls
 
--- an open current search is of the kind that is called for, and was begun or renewed for just this call, hint and all
+-- an open current search is of the kind that is called for, and was begun or renewed for
+-- just this call, hint and all
 abbrev pub CurrentServes : Type 0
 CurrentServes =
-    (xs : List Exchange) (k : GoKind) (stopped : Bool) → Steady xs → Lawful xs → is_closed xs ≡ false
-    → (dialogue xs).engine ≡ Search k (dialogue xs).epoch stopped → Serves k (last_call xs) × (call_of_last_search xs ≡ last_call xs)
+    (xs : List Exchange) (k : GoKind) (stopped : Bool) → Steady xs → Lawful xs
+    → is_closed xs ≡ false
+    → (dialogue xs).engine ≡ Search k (dialogue xs).epoch stopped
+    → Serves k (last_call xs) × (call_of_last_search xs ≡ last_call xs)
 
 -- a call for a Move is never spent: a Move is owed if and only if it is called for
 abbrev pub MoveIsOwed : Type 0
-MoveIsOwed = (xs : List Exchange) → Steady xs → Lawful xs → is_move (owed (dialogue xs) (last_call xs)) ≡ is_move (last_call xs)
+MoveIsOwed =
+    (xs : List Exchange) → Steady xs → Lawful xs
+    → is_move (owed (dialogue xs) (last_call xs)) ≡ is_move (last_call xs)
 
 -- where orders stand
 
@@ -113,25 +151,29 @@ needs_idle w = false
 
 abbrev pub IdleGetsThem : Type 0
 IdleGetsThem =
-    (x : Exchange) (xs : List Exchange) (before behind : List Word) (w : Word) → Lawful (x ∷ xs) → x.orders ≡ before ++ w ∷ behind
+    (x : Exchange) (xs : List Exchange) (before behind : List Word) (w : Word) → Lawful (x ∷ xs)
+    → x.orders ≡ before ++ w ∷ behind
     → needs_idle w ≡ true → engine_at xs x before ≡ Idle
 
 -- `stop` reaches only an open search that is not stopped
 abbrev pub SearchGetsStop : Type 0
 SearchGetsStop =
-    (x : Exchange) (xs : List Exchange) (before behind : List Word) → Lawful (x ∷ xs) → x.orders ≡ before ++ Stop ∷ behind
+    (x : Exchange) (xs : List Exchange) (before behind : List Word) → Lawful (x ∷ xs)
+    → x.orders ≡ before ++ Stop ∷ behind
     → (k : GoKind) × (ticket : ℕ) × (engine_at xs x before ≡ Search k ticket false)
 
 -- `ponderhit` reaches only an open Ponder search that is not stopped
 abbrev pub PonderGetsHit : Type 0
 PonderGetsHit =
-    (x : Exchange) (xs : List Exchange) (before behind : List Word) → Lawful (x ∷ xs) → x.orders ≡ before ++ PonderHit ∷ behind
+    (x : Exchange) (xs : List Exchange) (before behind : List Word) → Lawful (x ∷ xs)
+    → x.orders ≡ before ++ PonderHit ∷ behind
     → (ticket : ℕ) × (engine_at xs x before ≡ Search kinds.Ponder ticket false)
 
 -- nothing reaches a gone engine
 abbrev pub GoneGetsNothing : Type 0
 GoneGetsNothing =
-    (x : Exchange) (xs : List Exchange) (before behind : List Word) (w : Word) → Lawful (x ∷ xs) → x.orders ≡ before ++ w ∷ behind
+    (x : Exchange) (xs : List Exchange) (before behind : List Word) (w : Word) → Lawful (x ∷ xs)
+    → x.orders ≡ before ++ w ∷ behind
     → engine_at xs x before ≢ Gone
 
 -- each `go` comes directly after a `position`, and each `position` directly before a `go`
@@ -142,4 +184,5 @@ GoFollowsPosition = (x : Exchange) (xs : List Exchange) → Lawful (x ∷ xs) �
 abbrev pub QuitIsLast : Type 0
 QuitIsLast =
     (x : Exchange) (xs : List Exchange) → Lawful (x ∷ xs)
-    → (x.closed ≡ false → has_quit x.orders ≡ false) × (has_quit x.orders ≡ true → x.orders ≡ Quit ∷ []) × (is_closed xs ≡ true → x.orders ≡ [])
+    → (x.closed ≡ false → has_quit x.orders ≡ false)
+    × (has_quit x.orders ≡ true → x.orders ≡ Quit ∷ []) × (is_closed xs ≡ true → x.orders ≡ [])

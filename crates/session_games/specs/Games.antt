@@ -1,5 +1,6 @@
 -- The games of a session.
-use Rattle.std.specs.Prelude.{ℕ, List, [], ◌∷◌, ◌++◌, length, Bool, true, false, ◌&&◌, not, nat_lt, if◌then◌else◌, Result, Ok}
+use Rattle.std.specs.Prelude.{ℕ, List, [], ◌∷◌, ◌++◌, length, Bool, true, false}
+use Rattle.std.specs.Prelude.{◌&&◌, not, nat_lt, if◌then◌else◌, Result, Ok}
 use Rattle.line_io.specs.Event.{Event}
 use Rattle.line_io.specs.Event as events
 use Rattle.cecp_lines.specs.Messages.{IfaceMsg}
@@ -34,7 +35,8 @@ is_over before event after = asks_anew event && (has_moves before && not (has_mo
 abbrev pub over_by : Game → Event → Game → List Game
 over_by before event after = if is_over before event after then before ∷ [] else []
 
--- the games that were over in these steps, of which the newest stands first; the first game is first
+-- the games that were over in these steps, of which the newest stands
+-- first; the first game is first
 abbrev pub games_over : Settings → List Step → List Game
 games_over o [] = []
 games_over o (step ∷ trace) =

@@ -64,8 +64,8 @@ pub record MuchWritten (o : Settings) (before after : Streams) : Type 0 where
 abbrev pub AreWhole : Streams → List Piece → Type 0
 AreWhole before lines = AreAll before.input.left lines × (script_fault lines ≡ None)
 
--- The output took a front of the texts of the games that were over in the first lines; or of those of all games, if these
--- lines are the whole input.
+-- The output took a front of the texts of the games that were over in the first lines; or of those
+-- of all games, if these lines are the whole input.
 pub record FrontWritten (o : Settings) (before after : Streams) : Type 0 where
   pub lines : List Piece
   pub read : AreRead before after lines
@@ -85,7 +85,8 @@ FirstGamesStay o =
     × (games_over (settings_by (version_in (lines ++ later)) o) trace'
     ≡ games_over (settings_by (version_in lines) o) trace ++ more)
 
--- The games of an input without a fault of fewer than 2^32 bytes are written, or there was no memory.
+-- The games of an input without a fault of fewer than 2^32 bytes are
+-- written, or there was no memory.
 abbrev pub CompletesGames : Streams → Streams → ℕ → Type 0
 CompletesGames before after code =
     (x : List ℕ) → before.input.left ≡ Some x → length x < 2 ^ 32

@@ -34,7 +34,9 @@ crossings log = (talk listeners.Tap log).crossings
 
 -- A log is clean as the bridge's own exactly if it is clean as a tap's, and no order crosses in it.
 abbrev pub CrossingsAreTheDifference : Type 0
-CrossingsAreTheDifference = (log : List Entry) → IsClean listeners.Bridge log ↔ (IsClean listeners.Tap log × (crossings log ≡ 0))
+CrossingsAreTheDifference =
+    (log : List Entry)
+    → IsClean listeners.Bridge log ↔ (IsClean listeners.Tap log × (crossings log ≡ 0))
 
 -- what a judge answers
 abbrev pub verdict : Option Rule → Result (Unit {0}) Rule

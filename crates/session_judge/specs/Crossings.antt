@@ -1,5 +1,5 @@
--- Crossings. A tap logs a line of the engine before the bridge has read it. So an order that the bridge wrote before it read
--- the line can come after it.
+-- Crossings. A tap logs a line of the engine before the bridge has read it. So an order that the
+-- bridge wrote before it read the line can come after it.
 use Rattle.std.specs.Prelude.{Bool, true, false, ℕ, ◌+◌, ◌&&◌, ◌||◌, nat_lt, if◌then◌else◌}
 use Rattle.session_judge.specs.declared.deed.OrderKind.{OrderKind}
 use Rattle.session_judge.specs.declared.deed.OrderKind.TheVariants as orders
@@ -19,19 +19,22 @@ is_to_search orders.Stop = true
 is_to_search orders.PonderHit = true
 is_to_search order = false
 
--- A crossing: an order to an engine that is gone, or `stop` or `ponderhit` to one that has answered.
+-- A crossing: an order to an engine that is gone, or `stop` or `ponderhit`
+-- to one that has answered.
 abbrev pub is_crossing : Bool → EnginePhase → OrderKind → Bool
 is_crossing gone engine order = gone || (is_idle engine && is_to_search order)
 
--- The engine as it would be if its last `bestmove` had not come: in the search that this ended, until an order other than
--- `stop` and `ponderhit` is written.
+-- The engine as it would be if its last `bestmove` had not come: in the search that this ended,
+-- until an order other than `stop` and `ponderhit` is written.
 abbrev pub unanswered_after : EnginePhase → EnginePhase → Deed → EnginePhase
 unanswered_after engine unanswered (deeds.Writes order) =
     if is_to_search order then engine_after unanswered (deeds.Writes order) else engines.Idle
-unanswered_after (engines.Search kind stopped) unanswered (deeds.Answers best) = engines.Search kind stopped
+unanswered_after (engines.Search kind stopped) unanswered (deeds.Answers best) =
+    engines.Search kind stopped
 unanswered_after engine unanswered deed = unanswered
 
--- The engine as the bridge may take it to be: it may not know yet of a `bestmove` that a tap has logged.
+-- The engine as the bridge may take it to be: it may not know yet of a
+-- `bestmove` that a tap has logged.
 abbrev pub taken_as : EnginePhase → Listener → EnginePhase → EnginePhase
 taken_as engines.Idle listeners.Tap unanswered = unanswered
 taken_as engine listener unanswered = engine
@@ -45,5 +48,6 @@ next n = if nat_lt n LAST_NUMBER then n + 1 else LAST_NUMBER
 
 -- how many orders crossed
 abbrev pub crossings_after : ℕ → Bool → EnginePhase → Deed → ℕ
-crossings_after n gone engine (deeds.Writes order) = if is_crossing gone engine order then next n else n
+crossings_after n gone engine (deeds.Writes order) =
+    if is_crossing gone engine order then next n else n
 crossings_after n gone engine deed = n

@@ -1,4 +1,5 @@
--- What a mark is to the judge: an order by its first token, a line of the engine by what it says, a move that is shown.
+-- What a mark is to the judge: an order by its first token, a line of the engine by what it
+-- says, a move that is shown.
 use Rattle.std.specs.Prelude.{ℕ, List, codes, ◌||◌, if◌then◌else◌, Option, Some, None}
 use Rattle.line_io.specs.Event as events
 use Rattle.peer_words.specs.Tokens.{first_token}
@@ -43,7 +44,8 @@ abbrev pub order_named : List ℕ → List ℕ → Option OrderKind
 order_named word line =
     if is_word (codes "uci") word then Some orders.Uci
     else (if is_word (codes "isready") word then Some orders.IsReady
-    else (if is_word (codes "setoption") word || is_word (codes "ucinewgame") word then Some orders.Setup
+    else (if is_word (codes "setoption") word || is_word (codes "ucinewgame") word
+    then Some orders.Setup
     else (if is_word (codes "position") word then Some (orders.Position (end_of (line_of line)))
     else (if is_word (codes "go") word then Some (orders.Go (kind_asked line))
     else (if is_word (codes "stop") word then Some orders.Stop

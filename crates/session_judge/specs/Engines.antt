@@ -13,7 +13,8 @@ engine_after engine (deeds.Writes orders.Uci) = engines.Boot
 engine_after engine (deeds.Writes orders.IsReady) = engines.Getting
 engine_after engine (deeds.Writes (orders.Go kind)) = engines.Search kind false
 engine_after (engines.Search kind stopped) (deeds.Writes orders.Stop) = engines.Search kind true
-engine_after (engines.Search kinds.Ponder stopped) (deeds.Writes orders.PonderHit) = engines.Search kinds.Move false
+engine_after (engines.Search kinds.Ponder stopped) (deeds.Writes orders.PonderHit) =
+    engines.Search kinds.Move false
 engine_after engines.Boot deeds.Boots = engines.Idle
 engine_after engines.Getting deeds.GetsReady = engines.Idle
 engine_after (engines.Search kind stopped) (deeds.Answers best) = engines.Idle

@@ -1,4 +1,5 @@
--- The rules of the dialogue with an engine, each a test of what was written and heard before and of an order or a move.
+-- The rules of the dialogue with an engine, each a test of what was written and heard before
+-- and of an order or a move.
 use Rattle.std.specs.Prelude.{Bool, true, false, not, ◌&&◌, if◌then◌else◌, Option, Some, None}
 use Rattle.chess_board.specs.declared.board.Move.{Move}
 use Rattle.chess_board.specs.Place.{legal}
@@ -38,7 +39,8 @@ abbrev pub breaks_quit : OrderStage → Bool
 breaks_quit stages.Over = true
 breaks_quit stage = false
 
--- Order: a `go` does not come directly after a `position`, or another order comes directly after one.
+-- Order: a `go` does not come directly after a `position`, or another order
+-- comes directly after one.
 abbrev pub breaks_order : OrderStage → OrderKind → Bool
 breaks_order stages.Placed (orders.Go kind) = false
 breaks_order stages.Placed order = true
@@ -105,7 +107,8 @@ abbrev pub is_answer : Option HeardAnswer → Move → Bool
 is_answer None m = false
 is_answer (Some a) m = is_shown_by a m
 
--- The first rule that a mark breaks. Move: a move is shown that is not the last answer, in its time.
+-- The first rule that a mark breaks. Move: a move is shown that is not the
+-- last answer, in its time.
 abbrev pub broken : JudgedTalk → Deed → Option Rule
 broken t (deeds.Writes order) = broken_by t order
 broken t (deeds.Shows m) = if is_answer t.answer m then None else Some rules.Move

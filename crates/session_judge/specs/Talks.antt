@@ -48,8 +48,10 @@ placed_after p deed = p
 
 -- the answer that was heard last in a search
 
-abbrev pub answer_in : EnginePhase → Position → Option Move → Option HeardAnswer → Option HeardAnswer
-answer_in (engines.Search kind stopped) p best last = Some (record { kind = kind; best = best; at = p; told = false })
+abbrev pub answer_in : EnginePhase → Position → Option Move → Option HeardAnswer
+    → Option HeardAnswer
+answer_in (engines.Search kind stopped) p best last =
+    Some (record { kind = kind; best = best; at = p; told = false })
 answer_in engine p best last = last
 
 abbrev pub told : Option HeardAnswer → Option HeardAnswer
@@ -93,9 +95,11 @@ abbrev pub shown_in : Move → Search → Search
 shown_in m s = shown_by s.ended m s
 
 abbrev pub search_after : EnginePhase → ℕ → Option Search → Deed → Option Search
-search_after engine line search (deeds.Writes (orders.Go kind)) = Some (search_from_go (number_after search) kind line)
+search_after engine line search (deeds.Writes (orders.Go kind)) =
+    Some (search_from_go (number_after search) kind line)
 search_after engine line (Some s) (deeds.Shows m) = Some (shown_in m s)
-search_after engine line (Some s) deed = Some (if is_searching engine then search_told line s deed else s)
+search_after engine line (Some s) deed =
+    Some (if is_searching engine then search_told line s deed else s)
 search_after engine line None deed = None
 
 abbrev pub after_heard : JudgedTalk → ℕ → Deed → JudgedTalk

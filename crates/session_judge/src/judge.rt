@@ -63,7 +63,8 @@ impl Judge {
         ensures exact { (listener : AnyListener) (log : List Entry) → self.old ≡ talk listener log
             → result ≡ verdict (broken_rule listener log (plain mark.now)) }
         ensures goes_on { (listener : AnyListener) (log : List Entry) → self.old ≡ talk listener log
-            → OnOk result (self.new ≡ talk listener (record { line = line; mark = plain mark.now } ∷ log)) }
+            → OnOk result
+            (self.new ≡ talk listener (record { line = line; mark = plain mark.now } ∷ log)) }
     {
         let deed = self.deed_of(mark);
         self.hear_deed(line, &deed)

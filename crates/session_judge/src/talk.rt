@@ -289,7 +289,8 @@ impl JudgedTalk {
     }
 
     fn crossings_after(&self, deed: &Deed) -> u64
-        ensures { result ≡ crossings_after self.now.crossings self.now.gone self.now.engine deed.now }
+        ensures { result
+            ≡ crossings_after self.now.crossings self.now.gone self.now.engine deed.now }
     {
         match deed {
             Deed::Writes(order) if self.is_crossing(order) => next(self.crossings),

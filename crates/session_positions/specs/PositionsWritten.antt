@@ -18,13 +18,14 @@ use Rattle.session_positions.specs.Telling.{fresh, text_of_lines, writes_positio
 use Rattle.line_io.specs.declared.limits.TheConstants.{SCRIPT_LINE}
 
 -- The output took the positions of the session of these lines.
-pub record WritesPositions (o : Settings) (before after : Streams) (lines : List Piece) : Type 0 where
+pub record WritesPositions (o : Settings) (before after : Streams)
+    (lines : List Piece) : Type 0 where
   pub trace : List Step
   pub session : IsSession o lines trace
   pub written : Appends before.output.taken after.output.taken (text_of_lines o lines trace)
 
--- All of the input was read, none of its lines is a fault, all positions were written, and no stream
--- failed.
+-- All of the input was read, none of its lines is a fault, all positions were
+-- written, and no stream failed.
 pub record AllWritten (o : Settings) (before after : Streams) : Type 0 where
   pub got : List ℕ
   pub reads : Got before after got

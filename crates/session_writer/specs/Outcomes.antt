@@ -19,8 +19,8 @@ use Rattle.script_player.specs.Versions.{script_events, script_fault, settings_b
 use Rattle.session_writer.specs.Telling.{Telling, ended_text, told_text}
 use Rattle.line_io.specs.declared.limits.TheConstants.{SCRIPT_LINE}
 
--- The trace is the one lawful session of these lines: its settings are the header's, if there is one,
--- and its events those of the lines.
+-- The trace is the one lawful session of these lines: its settings are the header's, if there is
+-- one, and its events those of the lines.
 pub record IsSession (o : Settings) (lines : List Piece) (trace : List Step) : Type 0 where
   pub lawful : Lawful (settings_by (version_in lines) o) trace
   pub events_are : events trace ≡ script_events lines
@@ -34,8 +34,8 @@ pub record WritesText (text_of : Settings → List Piece → List Step → List 
   pub session : IsSession o lines trace
   pub written : Appends before.output.taken after.output.taken (text_of o lines trace)
 
--- All of the input was read, none of its lines is a fault, and what is told of the session and of its
--- end was written.
+-- All of the input was read, none of its lines is a fault, and what is told of the session
+-- and of its end was written.
 pub record AllTold {T : Type 0} (means : Telling T) (o : Settings) (before after : Streams)
     : Type 0 where
   pub got : List ℕ
@@ -54,8 +54,8 @@ pub record FaultTold {T : Type 0} (means : Telling T) (o : Settings) (before aft
   pub is_fault : script_fault lines ≡ Some fault
   pub text : WritesText (told_text means) o before after lines
 
--- All whole lines that were read, of at least so many bytes, have no fault, and what is told of their
--- session and of its end for this reason was written.
+-- All whole lines that were read, of at least so many bytes, have no fault, and what is told of
+-- their session and of its end for this reason was written.
 pub record WholeTold {T : Type 0} (means : Telling T) (ending : Ending) (least : ℕ) (o : Settings)
     (before after : Streams) : Type 0 where
   pub got : List ℕ
@@ -65,8 +65,8 @@ pub record WholeTold {T : Type 0} (means : Telling T) (ending : Ending) (least :
   pub faultless : script_fault (whole SCRIPT_LINE got) ≡ None
   pub text : WritesText (ended_text means ending) o before after (whole SCRIPT_LINE got)
 
--- The text is what is told of this session, or of its end too if the lines have no fault, for a reason
--- why no more were read.
+-- The text is what is told of this session, or of its end too if the lines have no fault, for a
+-- reason why no more were read.
 abbrev pub IsToldOrEnded : {T : Type 0} → Telling T → Settings → Option (List ℕ) → List Piece
     → List Step → List ℕ → Type 0
 IsToldOrEnded means o left lines trace text =

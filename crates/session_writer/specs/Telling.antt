@@ -7,7 +7,9 @@ use Rattle.game_record.specs.Game.{Game, game_from}
 use Rattle.policy_rules.specs.declared.settings.Settings.{Settings}
 use Rattle.adapter_core.specs.Trace.{Step, state}
 use Rattle.command_endings.specs.declared.ending.Ending.{Ending}
-use Rattle.script_player.specs.Versions.{ScriptPlace, LineSaid, Comes, Passes, Starts, beginning, behind_header, header_lines, line_says, place_said, settings_by, version_in}
+use Rattle.script_player.specs.Versions.{ScriptPlace, LineSaid, Comes, Passes, Starts}
+use Rattle.script_player.specs.Versions.{beginning, behind_header, header_lines}
+use Rattle.script_player.specs.Versions.{line_says, place_said, settings_by, version_in}
 
 -- the game that was told last, and before the first step the one that the session has then
 abbrev pub game_at : Option Game → Game
@@ -20,7 +22,8 @@ pub record Telling (T : Type 0) : Type 1 where
   pub first : T
   -- this is the game that it was told last, if it was told one
   pub at : T → Option Game → Type 0
-  -- the text of a step: of the number of its line, its event, the game told before, and the one after it
+  -- the text of a step: of the number of its line, its event, the game told
+  -- before, and the one after it
   pub step_text : ℕ → Event → Option Game → Game → List ℕ
   -- the text of the end, for this reason, after this game
   pub last_text : Ending → Game → List ℕ
@@ -34,14 +37,16 @@ numbers_said n Passes later = later
 numbers_said n (Starts step) later = later
 numbers_said n fault later = []
 
--- the numbers of the lines that tell events, up to the first fault, if the first line has this number
+-- the numbers of the lines that tell events, up to the first fault, if the
+-- first line has this number
 abbrev pub numbers_of : ℕ → ScriptPlace → List Piece → List ℕ
 numbers_of n place [] = []
 numbers_of n place (l ∷ ls) =
-    numbers_said n (line_says place l) (numbers_of (n + 1) (place_said place (line_says place l)) ls)
+    numbers_said n (line_says place l)
+    (numbers_of (n + 1) (place_said place (line_says place l)) ls)
 
--- Each event of a script has the number of its line. Open, the first, has no line, and the number 0.
--- The newest stands first.
+-- Each event of a script has the number of its line. Open, the first, has no line, and the number
+-- 0. The newest stands first.
 abbrev pub event_lines : List Piece → List ℕ
 event_lines lines =
     let v = version_in lines in

@@ -15,7 +15,8 @@ use Rattle.command_endings.specs.declared.ending.Ending.TheVariants as endings
 use Rattle.script_player.specs.declared.stage.ScriptStage.{ScriptStage}
 use Rattle.script_player.specs.declared.stage.ScriptStage.TheVariants as stages
 use Rattle.script_player.specs.Stages.{IsNumbered, is_start}
-use Rattle.script_player.specs.Versions.{LineSaid, Comes, Starts, script_events, script_fault, settings_by, stage_started, stage_told, version_in}
+use Rattle.script_player.specs.Versions.{LineSaid, Comes, Starts, script_events, script_fault}
+use Rattle.script_player.specs.Versions.{settings_by, stage_started, stage_told, version_in}
 use Rattle.script_player.specs.Playing.{Adds, Took}
 use Rattle.line_scribe.specs.Putting.{Putting}
 use Rattle.session_writer.specs.declared.writer.SessionWriter.{SessionWriter}
@@ -28,8 +29,8 @@ pub record HasPut (Holds : List ℕ → Type 0) (old new : Text) : Type 0 where
   pub put : new ≡ with old more
   pub holds : Holds more
 
--- A step of this event was taken, and this text was made of it, of the game told before and of the game
--- after it.
+-- A step of this event was taken, and this text was made of it, of the game told before
+-- and of the game after it.
 pub record TakesStep (text_of : Event → Option Game → Game → List ℕ) (before : Option Game)
     (old new : CoreParts) (e : Event) (more : List ℕ) : Type 0 where
   pub step : Step

@@ -6,7 +6,11 @@ use Rattle.policy_rules.specs.declared.settings.TheConstants.{MOST_MOVES, MOST_S
 
 -- an option with one value, and the value that it has if no word gives one
 abbrev pub option_rule : Text → Text → Rule
-option_rule name usual = record (new_rule name) { long = Some name; defaults = usual ∷ []; value_names = 1 }
+option_rule name usual = record (new_rule name) {
+  long = Some name;
+  defaults = usual ∷ [];
+  value_names = 1;
+}
 
 -- an option whose value is `true` or `false`
 abbrev pub flag_rule : Text → Text → Rule
@@ -17,11 +21,15 @@ resign_rule = flag_rule (codes "Resign") (codes "false")
 
 abbrev pub resign_moves_rule : Rule
 resign_moves_rule =
-    record (option_rule (codes "ResignMoves") (codes "3")) { parser = Some (parsers.Unsigned 1 MOST_MOVES) }
+    record (option_rule (codes "ResignMoves") (codes "3")) {
+      parser = Some (parsers.Unsigned 1 MOST_MOVES);
+    }
 
 abbrev pub resign_score_rule : Rule
 resign_score_rule =
-    record (option_rule (codes "ResignScore") (codes "600")) { parser = Some (parsers.Unsigned 0 MOST_SCORE) }
+    record (option_rule (codes "ResignScore") (codes "600")) {
+      parser = Some (parsers.Unsigned 0 MOST_SCORE);
+    }
 
 abbrev pub show_ponder_rule : Rule
 show_ponder_rule = flag_rule (codes "ShowPonder") (codes "true")
@@ -32,4 +40,5 @@ log_file_rule usual = option_rule (codes "LogFile") usual
 
 abbrev pub with_policy_rules : App → App
 with_policy_rules a =
-    with_rule (with_rule (with_rule (with_rule a resign_rule) resign_moves_rule) resign_score_rule) show_ponder_rule
+    with_rule (with_rule (with_rule (with_rule a resign_rule) resign_moves_rule) resign_score_rule)
+    show_ponder_rule

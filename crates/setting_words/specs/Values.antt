@@ -1,10 +1,12 @@
 -- What values of arguments ask for.
-use Rattle.std.specs.Prelude.{◌≡◌, ℕ, Bool, false, ◌&&◌, nat_le, if◌then◌else◌, List, [], Option, Some, None, codes}
+use Rattle.std.specs.Prelude.{◌≡◌, ℕ, Bool, false, ◌&&◌, nat_le, if◌then◌else◌}
+use Rattle.std.specs.Prelude.{List, [], Option, Some, None, codes}
 use Rattle.std.specs.Str.{bytes_eq}
 use Rattle.clap.specs.Words.{Row, Text, first_of, one_of, ReadsOne}
 use Rattle.std.specs.Str.Parse.{ParsesUnsigned, ExplainsUnsignedError, HasUnsignedDigitsIfOk}
 use Rattle.policy_rules.specs.declared.settings.Settings.{Settings}
-use Rattle.policy_rules.specs.declared.settings.TheConstants.{MOST_MOVES, USUAL_MOVES, MOST_SCORE, USUAL_SCORE}
+use Rattle.policy_rules.specs.declared.settings.TheConstants.{MOST_MOVES, USUAL_MOVES}
+use Rattle.policy_rules.specs.declared.settings.TheConstants.{MOST_SCORE, USUAL_SCORE}
 use Rattle.policy_rules.specs.Policy.{usual}
 
 abbrev pub is_true : Option Text → Bool
@@ -27,7 +29,9 @@ number_within least most usual None = usual
 -- n is the number that the text spells, as std reads a `u32`
 pub record IsNumberOf (least most usual : ℕ) (text : Text) (n : ℕ) : Type 0 where
   pub read : Option ℕ
-  pub reads : ReadsOne (λ t r. ParsesUnsigned 32 10 t r × ExplainsUnsignedError 10 t r × HasUnsignedDigitsIfOk t r) text read
+  pub reads : ReadsOne
+      (λ t r. ParsesUnsigned 32 10 t r × ExplainsUnsignedError 10 t r × HasUnsignedDigitsIfOk t r)
+      text read
   pub number : n ≡ number_within least most usual read
 
 -- n is the number that an option's value asks for, or the usual one if no value was found
@@ -35,12 +39,15 @@ abbrev pub AsksNumber : ℕ → ℕ → ℕ → Option Text → ℕ → Type 0
 AsksNumber least most usual (Some text) n = IsNumberOf least most usual text n
 AsksNumber least most usual None n = n ≡ usual
 
--- The settings that say when a game is resigned, and whether pondering is shown, have the values that were found.
+-- The settings that say when a game is resigned, and whether pondering is shown, have
+-- the values that were found.
 pub record AsksPolicy (rows : List Row) (s : Settings) : Type 0 where
   pub resign : s.resign ≡ is_true (first_of (codes "Resign") rows)
   pub show_ponder : s.show_ponder ≡ is_true (first_of (codes "ShowPonder") rows)
-  pub resign_moves : AsksNumber 1 MOST_MOVES USUAL_MOVES (one_of (codes "ResignMoves") rows) s.resign_moves
-  pub resign_score : AsksNumber 0 MOST_SCORE USUAL_SCORE (one_of (codes "ResignScore") rows) s.resign_score
+  pub resign_moves :
+      AsksNumber 1 MOST_MOVES USUAL_MOVES (one_of (codes "ResignMoves") rows) s.resign_moves
+  pub resign_score :
+      AsksNumber 0 MOST_SCORE USUAL_SCORE (one_of (codes "ResignScore") rows) s.resign_score
 
 -- the other settings are the usual ones
 abbrev pub HasUsualOthers : Settings → Type 0

@@ -30,12 +30,14 @@ log_state state None = record { taken = None; faults = 0 }
 log_state state (Some log) = state log
 
 -- the sinks of a loop, by what each shows
-abbrev pub sinks_of : {O E L : Type 0} → (O → Received) → (E → Received) → (L → Received) → O → E → Option L → Sinks
+abbrev pub sinks_of : {O E L : Type 0} → (O → Received) → (E → Received) → (L → Received) → O → E
+    → Option L → Sinks
 sinks_of to_output to_engine to_log output engine log =
     sinks (to_output output) (to_engine engine) (log_state to_log log)
 
 -- the interface's streams and those that were handed out, by what each shows
-abbrev pub streams_of : {I O S E L : Type 0} → (I → Supplied) → (O → Received) → (S → Supplied) → (E → Received) → (L → Received) → Interface I O → HandedStreams S E L → Streams
+abbrev pub streams_of : {I O S E L : Type 0} → (I → Supplied) → (O → Received) → (S → Supplied)
+    → (E → Received) → (L → Received) → Interface I O → HandedStreams S E L → Streams
 streams_of input output source engine log interface handed =
     streams (input interface.input) (source handed.source)
     (sinks_of output engine log interface.output handed.engine handed.log)
@@ -47,8 +49,8 @@ pub record TookFront (text : List ℕ) (old new : Option (List ℕ)) : Type 0 wh
   pub is : text ≡ front ++ rest
   pub took : Appends old new front
 
--- What a sink took of a piece, by whether it had failed before and has failed now: all of it; or a front,
--- if it failed now; or nothing, if it had failed.
+-- What a sink took of a piece, by whether it had failed before and has failed now: all of it; or a
+-- front, if it failed now; or nothing, if it had failed.
 pub record Offered (failed failed' : Bool) (old new : Received) (piece : List ℕ) : Type 0 where
   pub stays : failed ≡ true → (failed' ≡ true) × (new ≡ old)
   pub whole : failed' ≡ false → Appends old.taken new.taken piece

@@ -1,5 +1,6 @@
 -- What is kept of a search.
-use Rattle.std.specs.Prelude.{ℕ, ◌-◌, ◌/◌, ◌==◌, ◌&&◌, ℤ, Bool, true, not, if◌then◌else◌, Option, Some, None, IfSome}
+use Rattle.std.specs.Prelude.{ℕ, ◌-◌, ◌/◌, ◌==◌, ◌&&◌, ℤ, Bool, true, not}
+use Rattle.std.specs.Prelude.{if◌then◌else◌, Option, Some, None, IfSome}
 use Rattle.std.specs.Option.{unwrap_or, option_map, option_or}
 use Rattle.chess_board.specs.declared.board.Move.{Move}
 use Rattle.chess_board.specs.Position.{Position}
@@ -24,7 +25,10 @@ is_first (Some n) = n == 1
 
 -- a score counts only if it is no bound, and that of the first variation
 abbrev pub newer_score : Info → Option ℤ → Option ℤ
-newer_score facts old = if not facts.bound && is_first facts.multipv then option_or (option_map value_of facts.score) old else old
+newer_score facts old =
+    if not facts.bound && is_first facts.multipv
+    then option_or (option_map value_of facts.score) old
+    else old
 
 -- Each value is that of the last message that gave it.
 abbrev pub after_info : SeenThinking → Info → Position → SeenThinking
@@ -37,10 +41,15 @@ after_info seen facts p = record {
   score = newer_score facts seen.score;
 }
 
--- What `stat01` reports: the time in hundredths of a second, and how many of the legal moves are not yet searched.
+-- What `stat01` reports: the time in hundredths of a second, and how many of the legal
+-- moves are not yet searched.
 abbrev pub stat01_of : SeenThinking → Position → Reply
-stat01_of seen p = Stat01 (seen.time / 10) seen.nodes seen.depth (legal_count p - seen.number) (legal_count p) seen.current
+stat01_of seen p =
+    Stat01 (seen.time / 10) seen.nodes seen.depth (legal_count p - seen.number) (legal_count p)
+    seen.current
 
 -- A current move that is kept has a text.
 abbrev pub StaysWritable : Type 0
-StaysWritable = (seen : SeenThinking) (facts : Info) (p : Position) → IfSome seen.current IsWritable → IfSome (after_info seen facts p).current IsWritable
+StaysWritable =
+    (seen : SeenThinking) (facts : Info) (p : Position) → IfSome seen.current IsWritable
+    → IfSome (after_info seen facts p).current IsWritable

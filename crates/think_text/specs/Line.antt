@@ -1,5 +1,7 @@
 -- The thinking line of what an engine reports.
-use Rattle.std.specs.Prelude.{◌≡◌, ℕ, ◌+◌, ◌/◌, ◌≤◌, ℤ, pos, neg_ℤ, ◌+ℤ◌, ◌-ℤ◌, int_lt, true, if◌then◌else◌, length, List, [], ◌∷◌, ◌++◌, Option, Some, None, IfSome}
+use Rattle.std.specs.Prelude.{◌≡◌, ℕ, ◌+◌, ◌/◌, ◌≤◌, ℤ, pos, neg_ℤ, ◌+ℤ◌}
+use Rattle.std.specs.Prelude.{◌-ℤ◌, int_lt, true, if◌then◌else◌, length, List}
+use Rattle.std.specs.Prelude.{[], ◌∷◌, ◌++◌, Option, Some, None, IfSome}
 use Rattle.std.specs.Option.{unwrap_or}
 use Rattle.std.specs.List.{join_with_byte}
 use Rattle.line_io.specs.Out.{Text, with}
@@ -25,7 +27,8 @@ use Rattle.peer_words.specs.Bytes.{blank}
 abbrev pub IsHeard : AnyInfo → Type 0
 IsHeard facts = (line : List ℕ) × (engine_message line ≡ Info facts)
 
--- A score in hundredths of a pawn. A mate counts as 1,000 pawns, and is given in as many moves more or less.
+-- A score in hundredths of a pawn. A mate counts as 1,000 pawns, and is given in as
+-- many moves more or less.
 abbrev pub value_of : Score → ℤ
 value_of (Cp score) = score
 value_of (Mate moves) = if int_lt (pos 0) moves then MATE +ℤ moves else neg_ℤ (MATE -ℤ moves)
@@ -53,10 +56,13 @@ abbrev pub spaced_moves : Spelling → Position → List Move → List ℕ
 spaced_moves s p [] = []
 spaced_moves s p (m ∷ moves) = (blank ∷ written s p m) ++ spaced_moves s (moved_position p m) moves
 
--- The line with these texts of moves. It needs a depth, a score and a move; a time or a number of nodes that is missing is 0.
-abbrev pub line_with : Option ℕ → Option Score → List (List ℕ) → AnyInfo → Spelling → Option (List ℕ) → Option Reply
+-- The line with these texts of moves. It needs a depth, a score and a move; a time or a number of
+-- nodes that is missing is 0.
+abbrev pub line_with : Option ℕ → Option Score → List (List ℕ) → AnyInfo → Spelling
+    → Option (List ℕ) → Option Reply
 line_with (Some depth) (Some score) (text ∷ texts) facts spelling hint =
-    Some (Thinking depth (value_of score) (unwrap_or facts.time 0 / 10) (unwrap_or facts.nodes 0) spelling hint (join_with_byte blank (text ∷ texts)))
+    Some (Thinking depth (value_of score) (unwrap_or facts.time 0 / 10) (unwrap_or facts.nodes 0)
+    spelling hint (join_with_byte blank (text ∷ texts)))
 line_with (Some depth) (Some score) [] facts spelling hint = None
 line_with (Some depth) None texts facts spelling hint = None
 line_with None score texts facts spelling hint = None
@@ -68,7 +74,9 @@ hint_text s (Some hint) = Some (written s hint.before hint.hint)
 
 -- the line that the interface is shown of a search in a position, if there is one
 abbrev pub thinking_line : Spelling → AnyInfo → Position → Option Pondered → Option Reply
-thinking_line s facts p hint = line_with facts.depth facts.score (run_texts s p (legal_run p facts.pv)) facts s (hint_text s hint)
+thinking_line s facts p hint =
+    line_with facts.depth facts.score (run_texts s p (legal_run p facts.pv)) facts s
+    (hint_text s hint)
 
 -- a hint can be played in the position before it
 abbrev pub IsPlayable : Option Pondered → Type 0

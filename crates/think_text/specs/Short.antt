@@ -1,5 +1,7 @@
--- How long the lines about a search are, how large the numbers that are kept, and that the lines are replies.
-use Rattle.std.specs.Prelude.{◌≡◌, ℕ, ◌+◌, ◌*◌, ◌/◌, ◌^◌, ◌<◌, ◌≤◌, List, length, Option, Some, IfSome}
+-- How long the lines about a search are, how large the numbers that are kept, and
+-- that the lines are replies.
+use Rattle.std.specs.Prelude.{◌≡◌, ℕ, ◌+◌, ◌*◌, ◌/◌, ◌^◌, ◌<◌, ◌≤◌}
+use Rattle.std.specs.Prelude.{List, length, Option, Some, IfSome}
 use Rattle.chess_board.specs.Play.{IsPosition}
 use Rattle.chess_board.specs.Position.{Position}
 use Rattle.cecp_lines.specs.declared.reply.Spelling.{Spelling}
@@ -13,8 +15,9 @@ use Rattle.think_text.specs.declared.seen.SeenThinking.{SeenThinking}
 use Rattle.think_text.specs.Line.{IsHeard, IsPlayable, thinking_line}
 use Rattle.think_text.specs.Kept.{nothing_seen, after_info, stat01_of}
 
--- How long a thinking line is at most, by the engine's line that it tells: a move by its squares has at most as many bytes
--- as the engine wrote, and one in standard algebraic notation at most three more, where the engine wrote four or more.
+-- How long a thinking line is at most, by the engine's line that it tells: a move by its squares
+-- has at most as many bytes as the engine wrote, and one in standard algebraic notation at most
+-- three more, where the engine wrote four or more.
 abbrev pub most_bytes : Spelling → ℕ → ℕ
 most_bytes Coordinates n = 128 + n
 most_bytes San n = 128 + 8 * n / 5
@@ -22,7 +25,8 @@ most_bytes San n = 128 + 8 * n / 5
 -- No thinking line is longer.
 abbrev pub LinesAreShort : Type 0
 LinesAreShort =
-    (s : Spelling) (line : List ℕ) (facts : AnyInfo) (p : Position) (hint : Option Pondered) (t : Reply)
+    (s : Spelling) (line : List ℕ) (facts : AnyInfo) (p : Position) (hint : Option Pondered)
+    (t : Reply)
     → IsPlayable hint → engine_message line ≡ Info facts → thinking_line s facts p hint ≡ Some t
     → length (reply_text t) ≤ most_bytes s (length line)
 
@@ -34,7 +38,8 @@ IsBefore hint = IsPosition hint.before
 abbrev pub LinesAreReplies : Type 0
 LinesAreReplies =
     (s : Spelling) (facts : AnyInfo) (p : Position) (hint : Option Pondered) (t : Reply)
-    → IsPosition p → IfSome hint IsBefore → IsPlayable hint → IsHeard facts → thinking_line s facts p hint ≡ Some t
+    → IsPosition p → IfSome hint IsBefore → IsPlayable hint → IsHeard facts
+    → thinking_line s facts p hint ≡ Some t
     → SpellsReply (reply_text t) t
 
 -- the numbers that are kept have at most 64 bits
@@ -46,8 +51,13 @@ pub record IsBounded (seen : SeenThinking) : Type 0 where
 
 -- They have from the start, and once more was reported by a line of the engine.
 abbrev pub StaysBounded : Type 0
-StaysBounded = IsBounded nothing_seen × ((seen : SeenThinking) (facts : AnyInfo) (p : Position) → IsBounded seen → IsHeard facts → IsBounded (after_info seen facts p))
+StaysBounded =
+    IsBounded nothing_seen
+    × ((seen : SeenThinking) (facts : AnyInfo) (p : Position) → IsBounded seen → IsHeard facts
+    → IsBounded (after_info seen facts p))
 
 -- The answer to `.` has at most 128 bytes.
 abbrev pub StatIsShort : Type 0
-StatIsShort = (seen : SeenThinking) (p : Position) → IsBounded seen → length (reply_text (stat01_of seen p)) ≤ 128
+StatIsShort =
+    (seen : SeenThinking) (p : Position) → IsBounded seen
+    → length (reply_text (stat01_of seen p)) ≤ 128

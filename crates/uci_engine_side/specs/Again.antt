@@ -13,6 +13,9 @@ CanBeSaid m = (line : List ℕ) × SpellsMessage line m
 abbrev pub MessagesReadBack : Type 0
 MessagesReadBack = (m : EngineMsg) → CanBeSaid m → SpellsMessage (said_text m) m
 
--- The canonical text of the message that a line spells is at most `RESPELLED` bytes longer than the line.
+-- The canonical text of the message that a line spells is at most `RESPELLED`
+-- bytes longer than the line.
 abbrev pub TextsFitTheLine : Type 0
-TextsFitTheLine = (line : List ℕ) (m : EngineMsg) → SpellsMessage line m → length (said_text m) ≤ length line + RESPELLED
+TextsFitTheLine =
+    (line : List ℕ) (m : EngineMsg) → SpellsMessage line m
+    → length (said_text m) ≤ length line + RESPELLED

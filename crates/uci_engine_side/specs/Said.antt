@@ -1,5 +1,7 @@
--- The canonical text of what an engine says: the parts in the order of the grammar, one blank between.
-use Rattle.std.specs.Prelude.{ℕ, ℤ, List, [], ◌∷◌, ◌++◌, codes, Bool, true, false, Option, Some, None}
+-- The canonical text of what an engine says: the parts in the order of the
+-- grammar, one blank between.
+use Rattle.std.specs.Prelude.{ℕ, ℤ, List, [], ◌∷◌, ◌++◌, codes}
+use Rattle.std.specs.Prelude.{Bool, true, false, Option, Some, None}
 use Rattle.std.specs.Fmt.{signed_decimal}
 use Rattle.chess_board.specs.declared.board.Move.{Move}
 use Rattle.chess_board.specs.Text.{text_of}
@@ -7,7 +9,8 @@ use Rattle.uci_lines.specs.declared.messages.Score.{Score}
 use Rattle.uci_lines.specs.declared.messages.Score.TheVariants.{Cp, Mate}
 use Rattle.uci_lines.specs.Orders.{optional_number}
 use Rattle.uci_lines.specs.Info.{Info as AnyInfo}
-use Rattle.uci_lines.specs.Messages.{OptionKind, Check, Spin, Combo, Button, Text, EngineMsg, Name, UciOk, ReadyOk, Best, OptionLine, Info, Nothing}
+use Rattle.uci_lines.specs.Messages.{OptionKind, Check, Spin, Combo, Button, Text, EngineMsg}
+use Rattle.uci_lines.specs.Messages.{Name, UciOk, ReadyOk, Best, OptionLine, Info, Nothing}
 use Rattle.peer_words.specs.Bytes.{blank}
 
 -- a text after a blank, if there is one
@@ -40,11 +43,14 @@ pv_text (m ∷ moves) = codes " pv" ++ each_move (m ∷ moves)
 
 abbrev pub counts_text : AnyInfo → List ℕ
 counts_text f =
-    optional_number (codes " depth ") f.depth ++ optional_number (codes " time ") f.time ++ optional_number (codes " nodes ") f.nodes
-    ++ optional_number (codes " multipv ") f.multipv ++ optional_number (codes " currmovenumber ") f.number
+    optional_number (codes " depth ") f.depth ++ optional_number (codes " time ") f.time
+    ++ optional_number (codes " nodes ") f.nodes ++ optional_number (codes " multipv ") f.multipv
+    ++ optional_number (codes " currmovenumber ") f.number
 
 unfoldable pub facts_text : AnyInfo → List ℕ
-facts_text f = codes "info" ++ counts_text f ++ score_text f.score ++ bound_text f.bound ++ move_text (codes " currmove ") f.current ++ pv_text f.pv
+facts_text f =
+    codes "info" ++ counts_text f ++ score_text f.score ++ bound_text f.bound
+    ++ move_text (codes " currmove ") f.current ++ pv_text f.pv
 
 -- each value after `var`
 abbrev pub each_value : List (List ℕ) → List ℕ
@@ -66,7 +72,8 @@ abbrev pub range_text : ℤ → ℤ → List ℕ
 range_text min max = (codes " min " ++ signed_decimal min) ++ (codes " max " ++ signed_decimal max)
 
 abbrev pub spin_text : ℤ → ℤ → ℤ → List ℕ
-spin_text default min max = (codes " type spin default " ++ signed_decimal default) ++ range_text min max
+spin_text default min max =
+    (codes " type spin default " ++ signed_decimal default) ++ range_text min max
 
 abbrev pub combo_text : List ℕ → List (List ℕ) → List ℕ
 combo_text default values = codes " type combo default" ++ spaced_text default ++ each_value values
@@ -92,7 +99,8 @@ unfoldable pub said_text : EngineMsg → List ℕ
 said_text (Name text) = codes "id name" ++ spaced_text text
 said_text UciOk = codes "uciok"
 said_text ReadyOk = codes "readyok"
-said_text (Best best hint) = codes "bestmove " ++ best_text best ++ move_text (codes " ponder ") hint
+said_text (Best best hint) =
+    codes "bestmove " ++ best_text best ++ move_text (codes " ponder ") hint
 said_text (OptionLine name shape) = option_text name shape
 said_text (Info facts) = facts_text facts
 said_text Nothing = []

@@ -1,5 +1,6 @@
 -- What a `position` line says, as a function of its tokens.
-use Rattle.std.specs.Prelude.{ℕ, List, [], ◌∷◌, drop, codes, Bool, if◌then◌else◌, Option, Some, None, Result, Ok, Err}
+use Rattle.std.specs.Prelude.{ℕ, List, [], ◌∷◌, drop, codes, Bool, if◌then◌else◌}
+use Rattle.std.specs.Prelude.{Option, Some, None, Result, Ok, Err}
 use Rattle.peer_words.specs.Tokens.{tokens}
 use Rattle.chess_board.specs.declared.board.Move.{Move}
 use Rattle.chess_board.specs.Position.{Position}

@@ -13,14 +13,17 @@ use Rattle.uci_talk.specs.Lines.{Line, moved_position}
 pub data Leads : Position → List (List ℕ) → Position → Type 0 where
   Stays : {p : Position} → Leads p [] p
   Goes : {p q : Position} → {t : List ℕ} → {ts : List (List ℕ)} → (m : Move)
-      → Spells t m → IsLegal p m.from.index m.to.index m.promotion → Leads (moved_position p m) ts q → Leads p (t ∷ ts) q
+      → Spells t m → IsLegal p m.from.index m.to.index m.promotion → Leads (moved_position p m) ts q
+      → Leads p (t ∷ ts) q
 
 -- `startpos`, or `fen` and the fields of a position
 pub data Starts : List (List ℕ) → Position → Type 0 where
   Standard : Starts (codes "startpos" ∷ []) start_position
-  SetUp : {fields : List (List ℕ)} → {p : Position} → position_of_fields fields ≡ Ok p → Starts (codes "fen" ∷ fields) p
+  SetUp : {fields : List (List ℕ)} → {p : Position} → position_of_fields fields ≡ Ok p
+      → Starts (codes "fen" ∷ fields) p
 
--- The tokens after `position` are the start, and then nothing, or `moves` and moves that are legal in their turn.
+-- The tokens after `position` are the start, and then nothing, or `moves` and moves that
+-- are legal in their turn.
 pub record Speaks (ts : List (List ℕ)) (said : Line) : Type 0 where
   pub first : List (List ℕ)
   pub starts : Starts first said.start

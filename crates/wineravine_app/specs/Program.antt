@@ -1,5 +1,6 @@
 -- What the program does, by what its words are.
-use Rattle.std.specs.Prelude.{◌≡◌, ◌≢◌, ◌⊎◌, ℕ, Bool, ◌&&◌, not, nat_eq, List, [], ◌∷◌, ◌++◌, filter, take, codes}
+use Rattle.std.specs.Prelude.{◌≡◌, ◌≢◌, ◌⊎◌, ℕ, Bool, ◌&&◌, not, nat_eq}
+use Rattle.std.specs.Prelude.{List, [], ◌∷◌, ◌++◌, filter, take, codes}
 use Rattle.std.specs.Io.KnownBytes.{Appends}
 use Rattle.clap.specs.Words.{Text, first_of}
 use Rattle.line_io.specs.Causes.{Rose}
@@ -13,7 +14,8 @@ use Rattle.bridge_runner.specs.Program.{RunsAsAsked}
 use Rattle.peer_words.specs.Bytes.{carriage_return}
 use Rattle.program_texts.specs.About.{version_line}
 use Rattle.setting_words.specs.Values.{text_or_empty}
-use Rattle.wineravine_words.specs.Words.{AreTaken, AskForHelp, AskForVersion, AreWrong, AreAsked, first_lines, values_found}
+use Rattle.wineravine_words.specs.Words.{AreTaken, AskForHelp, AskForVersion, AreWrong}
+use Rattle.wineravine_words.specs.Words.{AreAsked, first_lines, values_found}
 use Rattle.wineravine_words.specs.declared.help.TheConstants.{HELP}
 use Rattle.wineravine_app.specs.declared.telling.TheConstants.{MOST_SHOWN}
 
@@ -71,11 +73,14 @@ pub record IsCut (text : List ℕ) (before after diag diag' : Received) (code : 
   pub told : IsToldTo diag diag' (diagnostic program endings.WritingFailed)
 
 -- A text is shown, and no run is made.
-pub record Shows (text : List ℕ) (before after : Outside) (diag diag' : Received) (code : ℕ) : Type 0 where
+pub record Shows (text : List ℕ) (before after : Outside) (diag diag' : Received)
+    (code : ℕ) : Type 0 where
   pub only_output : after ≡ record before { output = after.output }
-  pub ends : IsShown text before.output after.output diag diag' code ⊎ IsCut text before.output after.output diag diag' code
+  pub ends : IsShown text before.output after.output diag diag' code
+      ⊎ IsCut text before.output after.output diag diag' code
 
--- Words that fit nothing are refused: the interface shows that to its user, and a reason stands in the diagnostic.
+-- Words that fit nothing are refused: the interface shows that to its user, and a reason
+-- stands in the diagnostic.
 pub record Refuses (before after : Outside) (diag diag' : Received) (code : ℕ) : Type 0 where
   pub only_output : after ≡ record before { output = after.output }
   pub shown : IsToldTo before.output after.output wrong_arguments
@@ -83,19 +88,27 @@ pub record Refuses (before after : Outside) (diag diag' : Received) (code : ℕ)
   pub reason : List ℕ
   pub told : IsToldTo diag diag' reason
 
--- A run is made that left this. If it could not start the engine, the interface shows that to its user.
-pub record Runs (words : List Text) (before after : Outside) (diag diag' : Received) (code : ℕ) : Type 0 where
+-- A run is made that left this. If it could not start the engine, the
+-- interface shows that to its user.
+pub record Runs (words : List Text) (before after : Outside) (diag diag' : Received)
+    (code : ℕ) : Type 0 where
   pub left : Outside
-  pub answers : Answers program (AreTaken words) (RunsAsAsked (AreAsked (values_found words)) (first_lines (values_found words)) before left) before left diag diag' code
+  pub answers : Answers program (AreTaken words)
+      (RunsAsAsked (AreAsked (values_found words)) (first_lines (values_found words)) before left)
+      before left diag diag' code
   pub only_output : after ≡ record left { output = after.output }
   pub unstarted : code ≡ 8 → IsToldTo left.output after.output (not_started (engine_named words))
   pub else_same : code ≢ 8 → after ≡ left
 
 -- what the program does, case by case
-pub record Does (words : List Text) (before after : Outside) (diag diag' : Received) (code : ℕ) : Type 0 where
-  pub help : AskForHelp words → Shows HELP.now before after diag diag' code ⊎ LacksMemory before after diag diag' code
-  pub version : AskForVersion words → Shows version_text before after diag diag' code ⊎ LacksMemory before after diag diag' code
-  pub wrong : AreWrong words → Refuses before after diag diag' code ⊎ LacksMemory before after diag diag' code
+pub record Does (words : List Text) (before after : Outside) (diag diag' : Received)
+    (code : ℕ) : Type 0 where
+  pub help : AskForHelp words
+      → Shows HELP.now before after diag diag' code ⊎ LacksMemory before after diag diag' code
+  pub version : AskForVersion words
+      → Shows version_text before after diag diag' code ⊎ LacksMemory before after diag diag' code
+  pub wrong : AreWrong words
+      → Refuses before after diag diag' code ⊎ LacksMemory before after diag diag' code
   pub run : AreTaken words → Runs words before after diag diag' code
 
 -- which case it was

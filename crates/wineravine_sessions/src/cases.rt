@@ -69,6 +69,10 @@ pub fn run_case<'a, R: Threads + Wait + Sync + Abort>(
         &mut host,
         &mut diag,
     );
+    assert!(rt;
+        interface.input.missed().is_none(),
+        "the interface of case {name} waits in vain"
+    );
     assert!(rt; status.code == case.code, "the status of case {name}");
     assert!(rt;
         interface.output.taken() == case.output.as_bytes(),

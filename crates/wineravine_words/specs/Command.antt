@@ -1,4 +1,5 @@
--- The command of the program, as clap sees it. It has clap's flags `-h`, `--help`, `-V` and `--version`.
+-- The command of the program, as clap sees it. It has clap's flags `-h`,
+-- `--help`, `-V` and `--version`.
 use Rattle.std.specs.Prelude.{true, Some, codes}
 use Rattle.clap.specs.Words.{App, Rule, new_app, new_rule, with_rule}
 use Rattle.clap.specs.Simple.{on_top}
@@ -24,7 +25,11 @@ strength_options_rule = flag_rule (codes "StrengthOptions") (codes "true")
 -- an option of the engine, any number of times
 abbrev pub set_option_rule : Rule
 set_option_rule =
-    record (new_rule (codes "Option")) { long = Some (codes "Option"); action = Some Append; value_names = 1 }
+    record (new_rule (codes "Option")) {
+      long = Some (codes "Option");
+      action = Some Append;
+      value_names = 1;
+    }
 
 -- the engine's program, and after it all words, whatever these are
 abbrev pub engine_rule : Rule
@@ -37,16 +42,20 @@ engine_rule =
     }
 
 abbrev pub bare : App
-bare = on_top (λ s. record s { no_binary_name = true; has_version = true }) (new_app (codes "wineravine"))
+bare =
+    on_top (λ s. record s { no_binary_name = true; has_version = true })
+    (new_app (codes "wineravine"))
 
 abbrev pub with_new_settings : App → App
 with_new_settings a =
-    with_rule (with_rule (with_rule (with_rule (with_rule a early_settings_rule) resign_when_gone_rule)
+    with_rule (with_rule (with_rule
+    (with_rule (with_rule a early_settings_rule) resign_when_gone_rule)
     handle_draws_rule) show_san_rule) strength_options_rule
 
 abbrev pub with_names : App → App
 with_names a =
-    with_rule (with_rule (with_rule a (log_file_rule (codes "wineravine.log"))) set_option_rule) engine_rule
+    with_rule (with_rule (with_rule a (log_file_rule (codes "wineravine.log"))) set_option_rule)
+    engine_rule
 
 abbrev pub wineravine : App
 wineravine = with_names (with_new_settings (with_policy_rules bare))

@@ -1,5 +1,6 @@
 -- What the words ask for.
-use Rattle.std.specs.Prelude.{◌≡◌, ◌≢◌, ◌<◌, ⊤, Bool, true, false, ◌||◌, string_bytes, List, [], ◌∷◌, ◌++◌, map, drop, length, codes}
+use Rattle.std.specs.Prelude.{◌≡◌, ◌≢◌, ◌<◌, ⊤, Bool, true, false, ◌||◌, string_bytes}
+use Rattle.std.specs.Prelude.{List, [], ◌∷◌, ◌++◌, map, drop, length, codes}
 use Rattle.std.specs.List.{list_any, flat_map}
 use Rattle.clap.specs.Words.{Kinds, Row, Text, fault_of, matches_of, first_of, all_of}
 use Rattle.clap.specs.declared.error.kind.ErrorKind.{ErrorKind}
@@ -80,7 +81,8 @@ first_lines rows = flat_map option_line (options_set rows)
 -- the words of the engine: its program and its arguments
 abbrev pub engine_words : List Row → List Text
 engine_words rows =
-    text_or_empty (first_of (codes "ENGINE") rows) ∷ drop 1 (all_values (all_of (codes "ENGINE") rows))
+    text_or_empty (first_of (codes "ENGINE") rows)
+    ∷ drop 1 (all_values (all_of (codes "ENGINE") rows))
 
 pub record IsAsked (rows : List Row) (request : WineravineRequest) : Type 0 where
   pub settings : AreAsked rows request.settings
