@@ -65,7 +65,7 @@ pub record WholeTold {T : Type 0} (means : Telling T) (ending : Ending) (least :
   pub faultless : script_fault (whole SCRIPT_LINE got) ≡ None
   pub text : WritesText (ended_text means ending) o before after (whole SCRIPT_LINE got)
 
--- The text is what is told of this session, or of its end too if the lines have no fault, for a
+-- The text is what is told of the session, or of its end too if the lines have no fault, for a
 -- reason why no more were read.
 abbrev pub IsToldOrEnded : {T : Type 0} → Telling T → Settings → Option (List ℕ) → List Piece
     → List Step → List ℕ → Type 0
