@@ -5,6 +5,7 @@ ghost use Rattle.std.specs.Option.{option_map};
 ghost use Rattle.line_io.specs.Out.{with};
 ghost use Rattle.peer_words.specs.Numbers.{seconds_text, three_digits};
 ghost use Rattle.cecp_lines.specs.Messages.{message_of};
+ghost use Rattle.cecp_lines.specs.Messages as says;
 ghost use Rattle.chess_board.specs.Text.{text_of};
 ghost use Rattle.cecp_lines.specs.Reading.{CanBeRead};
 ghost use Rattle.cecp_lines.specs.Replies.{IsWritable};
@@ -99,6 +100,43 @@ fn put_after_blank(text: &[u8], out: &mut Out)
     }
 }
 
+fn put_level(mps: u32, base_ms: u64, inc_ms: u64, out: &mut Out)
+    requires { length out.old.text + length (message_text (says.Level mps base_ms inc_ms))
+        ≤ out.old.room }
+    ensures { out.new ≡ with out.old (message_text (says.Level mps base_ms inc_ms)) }
+{
+    put_counted(b"level ", mps, out);
+    out.put(b" ");
+    put_base(base_ms, out);
+    out.put(b" ");
+    put_seconds(inc_ms, out);
+}
+
+fn put_setting(name: &[u8], value: Option<&[u8]>, out: &mut Out)
+    requires { length out.old.text + length (message_text
+        (says.SetOption name.now (option_map (λ v. v.now) value))) ≤ out.old.room }
+    ensures { out.new ≡ with out.old (message_text
+        (says.SetOption name.now (option_map (λ v. v.now) value.entry))) }
+{
+    out.put(b"option ");
+    out.put(name);
+    if let Some(text) = value {
+        out.put(b"=");
+        out.put(text);
+    }
+}
+
+fn put_egt_path(kind: &[u8], path: &[u8], out: &mut Out)
+    requires { length out.old.text + length (message_text (says.EgtPath kind.now path.now))
+        ≤ out.old.room }
+    ensures { out.new ≡ with out.old (message_text (says.EgtPath kind.now path.now)) }
+{
+    out.put(b"egtpath ");
+    out.put(kind);
+    out.put(b" ");
+    out.put(path);
+}
+
 /// The word of a message without arguments, and nothing for the others.
 fn bare_word(msg: &IfaceMsg) -> &'static [u8]
     ensures { result.now ≡ bare_text (message_of msg.now) }
@@ -146,13 +184,7 @@ pub fn write_iface(msg: &IfaceMsg, out: &mut Out)
             mps,
             base_ms,
             inc_ms,
-        } => {
-            put_counted(b"level ", *mps, out);
-            out.put(b" ");
-            put_base(*base_ms, out);
-            out.put(b" ");
-            put_seconds(*inc_ms, out);
-        }
+        } => put_level(*mps, *base_ms, *inc_ms, out),
         IfaceMsg::St(ms) => {
             out.put(b"st ");
             put_seconds(*ms, out);
@@ -160,22 +192,10 @@ pub fn write_iface(msg: &IfaceMsg, out: &mut Out)
         IfaceMsg::Sd(n) => put_counted(b"sd ", *n, out),
         IfaceMsg::Time(n) => put_clock(b"time ", *n, out),
         IfaceMsg::Otim(n) => put_clock(b"otim ", *n, out),
-        IfaceMsg::SetOption { name, value } => {
-            out.put(b"option ");
-            out.put(name);
-            if let Some(text) = value {
-                out.put(b"=");
-                out.put(text);
-            }
-        }
+        IfaceMsg::SetOption { name, value } => put_setting(name, *value, out),
         IfaceMsg::Memory(n) => put_counted(b"memory ", *n, out),
         IfaceMsg::Cores(n) => put_counted(b"cores ", *n, out),
-        IfaceMsg::EgtPath { kind, path } => {
-            out.put(b"egtpath ");
-            out.put(kind);
-            out.put(b" ");
-            out.put(path);
-        }
+        IfaceMsg::EgtPath { kind, path } => put_egt_path(kind, path, out),
         _ => out.put(bare_word(msg)),
     }
 }
