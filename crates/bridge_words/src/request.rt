@@ -34,7 +34,6 @@ fn refusal_of(kind: ErrorKind) -> WordsRefusal
 }
 
 // What the command finds in the words.
-#[tactic(auto)]
 fn find_in<'a>(alloc: Global, texts: &'a [&'a str]) -> Result<ArgMatches<'a>, WordsRefusal>
     ensures found { IfOk result (λ m. rows_of (found_of m)
         ≡ values_found (map (λ s. s.now) texts.now)) }
