@@ -18,11 +18,18 @@ def case(name, command, status, told=None, output=None, part=None, script=None, 
     return Case(name, command, status, told, output, part, script, log, memory, words)
 
 
+# Waits until the output has a line that begins so, or a minute.
+AWAIT = "await() { for _ in $(seq 600); do grep -q \"^$1\" out && return; sleep 0.1; done; }; "
+# Waits until nobody reads the output, which gets empty lines.
+UNREAD = "(trap '' PIPE; while echo; do sleep 0.1; done) 2>/dev/null; "
 # An interface that asks for a feature list and an answer, waits, and ends the session.
 ASKS = "{ printf 'xboard\\nprotover 2\\nping 1\\n'; sleep 0.3; echo quit; } | bridge --LogFile log "
 # What it gets while the engine says nothing, and from an engine that ended.
 SILENT = "feature done=0\npong 1\n"
 ENDED = "tellusererror Engine ended"
+# One that ends the session once it got the whole list, or once the engine ended.
+BOOTS = AWAIT + ASKS.replace("sleep 0.3", "await 'feature done=1'")
+OUTLIVES = AWAIT + ASKS.replace("sleep 0.3", f"await '{ENDED}'")
 FLOOD = "info depth 1"
 START = "rnbqkbnr/pppppppp/8/8/8/8/PPPPPPPP/RNBQKBNR w KQkq - 0 1"
 LISTENS = "sh -- -c 'cat >/dev/null'"
@@ -36,6 +43,12 @@ def bridge(name, command, status, **wanted):
 
 def unlogged(name, command, status, **wanted):
     return case("bridge: " + name, command, status, **wanted)
+
+
+def unblocked(command):
+    """The command with an input that does not block, and is open until the command ends."""
+    return ("rm -f ended; { until [ -e ended ]; do sleep 0.1; done; } | "
+            "{ ./unblocked 0; %s; status=$?; : >ended; exit $status; }" % command)
 
 
 def jailed(program, words, status):
@@ -67,7 +80,7 @@ REPLAY = [
     case("replay: diagnostics on a full disk", "replay nonsense 2>/dev/full", 5, told=""),
     case("replay: a reader that goes away", "replay replay <marks | head -n 1", 5,
          output="U uci\n"),
-    case("replay: a reader that is gone", "{ sleep 0.3; replay replay </dev/null; } | :", 5),
+    case("replay: a reader that is gone", "{ %sreplay replay </dev/null; } | :" % UNREAD, 5),
     case("replay: a folder as input", "replay replay <.", 4, output="U uci\n"),
     case("replay: 64 MiB without a line feed", "replay replay <letters", 2, UNMARKED, "U uci\n"),
     case("replay: 64 MiB behind a mark", "{ printf 'x '; cat letters; } | replay replay", 2,
@@ -112,7 +125,7 @@ SCRIPTED = [
     case("scripted: closed input, and no null device", jailed("scripted", "/toy <&-", 4), 4,
          output=""),
     case("scripted: a full disk", "echo uci | scripted toy >/dev/full", 5),
-    case("scripted: a reader that is gone", "{ sleep 0.3; echo uci | scripted toy; } | :", 5),
+    case("scripted: a reader that is gone", "{ %secho uci | scripted toy; } | :" % UNREAD, 5),
     case("scripted: a script that is missing", "scripted none </dev/null", 4, output=""),
     case("scripted: a folder as script", "scripted . </dev/null", 4, output=""),
     case("scripted: a name that is no text", "scripted $'\\xff' </dev/null", 4, output=""),
@@ -137,15 +150,15 @@ BRIDGE = [
     unlogged("an engine that is a folder", ASKS + "./folder", 8, output=""),
     unlogged("an engine without a name", ASKS + "''", 8, output=""),
     unlogged("an engine that is no program", ASKS + "./noprogram", (0, 7, 8)),
-    bridge("an engine that ends at once", ASKS + "true", (0, 7), part=ENDED),
-    bridge("an engine that is killed", ASKS + "sh -- -c 'kill -9 $$'", (0, 7), part=ENDED),
+    bridge("an engine that ends at once", OUTLIVES + "true", (0, 7), part=ENDED),
+    bridge("an engine that is killed", OUTLIVES + "sh -- -c 'kill -9 $$'", (0, 7), part=ENDED),
     bridge("an engine that never answers", ASKS + LISTENS, 0, output=SILENT),
-    bridge("an engine that never reads or answers", ASKS + "sleep 1", 0, output=SILENT),
+    bridge("an engine that never reads or answers", ASKS + "sleep 3", 0, output=SILENT),
     bridge("an engine that closes its input", ASKS + "sh -- -c 'exec <&-; sleep 1'", (0, 7)),
-    bridge("an engine that closes its output", ASKS + "sh -- -c 'exec >&-; cat >/dev/null'", 0,
-           part=ENDED),
+    bridge("an engine that closes its output",
+           OUTLIVES + "sh -- -c 'exec >&-; cat >/dev/null'", 0, part=ENDED),
     bridge("an engine that answers before it is asked",
-           ASKS + "sh -- -c 'printf \"bestmove e2e4\\nreadyok\\nuciok\\nuciok\\nreadyok\\n\";"
+           BOOTS + "sh -- -c 'printf \"bestmove e2e4\\nreadyok\\nuciok\\nuciok\\nreadyok\\n\";"
            " cat >/dev/null'", 0,
            part="feature done=1"),
     bridge("an engine that says only NUL bytes",
@@ -156,7 +169,7 @@ BRIDGE = [
     bridge("an engine that says the longest lines",
            ASKS + "sh -- -c 'cut -c 3- longest; cat >/dev/null'", 0,
            output=SILENT),
-    bridge("an engine of 300 options", ASKS + "sh -- -c 'cut -c 3- options; cat >/dev/null'", 0,
+    bridge("an engine of 300 options", BOOTS + "sh -- -c 'cut -c 3- options; cat >/dev/null'", 0,
            part="feature option=\"Option256 -string v\"\nfeature done=1"),
     unlogged("an engine that floods",
              "{ until grep -q '^u[.]$' log; do sleep 0.2; done; echo quit; } 2>/dev/null"
@@ -168,8 +181,8 @@ BRIDGE = [
            "printf 'ping 1\\nusermove e2' | bridge --LogFile log " + LISTENS,
            0, output="pong 1\nError (bad argument): usermove e2\n"),
     bridge("an interface that goes away on both sides",
-           "printf 'ping 1\\nusermove e2' | { sleep 0.3;"
-           " bridge --LogFile log sh -- -c 'cat >/dev/null'; } | :", 5),
+           "printf 'ping 1\\nusermove e2' | { %s"
+           "bridge --LogFile log sh -- -c 'cat >/dev/null'; } | :" % UNREAD, 5),
     bridge("a reader that goes away",
            ASKS.replace("sleep", "sleep 0.3; echo ping 2; sleep") + LISTENS + " | head -n 2",
            (0, 5),
@@ -182,7 +195,7 @@ BRIDGE = [
            output=SILENT),
     bridge("the same where the interface reads standard error", ASKS + WRITES + " 2>&1 | cat", 0,
            output=SILENT),
-    bridge("the engine's standard error if it was closed", ASKS + "sh -- -c 'read line; "
+    bridge("the engine's standard error if it was closed", BOOTS + "sh -- -c 'read line; "
            "echo \"id name $(readlink /proc/$$/fd/2)\"; echo uciok; cat >/dev/null' 2>&-", 0,
            told="",
            part='feature myname="/dev/null"'),
@@ -197,9 +210,8 @@ BRIDGE = [
     unlogged("a log in a folder that is missing",
              ASKS.replace("--LogFile log", "--LogFile none/log") + LISTENS, 9,
              output=SILENT),
-    bridge("an input that does not block",
-           "{ sleep 1; echo quit; } | { ./unblocked 0; bridge --LogFile log %s; }" % LISTENS,
-           4, output="", memory=None),
+    bridge("an input that does not block", unblocked("bridge --LogFile log " + LISTENS), 4,
+           output="", memory=None),
     bridge("an output that does not block",
            "cut -c 3- pings pings | { ./unblocked 1; bridge --LogFile log %s; } | { sleep 1; cat; }"
            % LISTENS, (0, 5),

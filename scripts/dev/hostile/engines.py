@@ -1,5 +1,5 @@
 """What is done to `driver`, `tap` and `reviver`: what they share, and what is their own."""
-from cases import case, jailed
+from cases import AWAIT, UNREAD, case, jailed, unblocked
 
 # What must be true of a log: it is what `replay` writes for its own events, or it is a log.
 OWN_LOG = {"driver": "replay drive <log | cmp -s - log",
@@ -13,11 +13,10 @@ ENGINE = {"driver": "scripted old", "tap": "scripted toy", "reviver": "scripted 
 MUTE = {"driver": "bestmove 0000\n", "tap": "", "reviver": "uciok\n"}
 ENDED = {"driver": "bestmove 0000\n", "tap": "", "reviver": "uciok\n"}
 # An interface that wants a move, waits a while, and ends the session; and one that waits for what
-# it wants, up to 20 seconds.
+# it wants.
 PLAYS = ("{ printf 'uci\\n'; sleep 0.3;"
          " printf 'position startpos moves e2e4\\ngo movetime 100\\n'; sleep 0.3;"
          " echo quit; } | ")
-AWAIT = "await() { for _ in $(seq 200); do grep -q \"^$1\" out && return; sleep 0.1; done; }; "
 WAITS = AWAIT + PLAYS.replace("sleep 0.3", "await uciok", 1).replace("sleep 0.3", "await bestmove")
 MOVE = "bestmove e7e5"
 # A reader that begins late.
@@ -63,7 +62,7 @@ class Table:
             self.logged("an engine that is killed", plays + "sh -c 'kill -9 $$'", (0, 7),
                         part=ended),
             self.logged("an engine that never answers", plays + LISTENS, 0, output=mute),
-            self.logged("an engine that never reads or answers", plays + "sleep 1", 0, output=mute),
+            self.logged("an engine that never reads or answers", plays + "sleep 3", 0, output=mute),
             self.logged("an engine that closes its input", plays + "sh -c 'exec <&-; sleep 1'",
                         (0, 7)),
             self.logged("an engine that closes its output",
@@ -80,7 +79,7 @@ class Table:
             self.logged("an interface that goes away within a line",
                         "printf 'uci\\nposition startpos moves e2e4\\ngo' | " + log + engine, 0),
             self.logged("a reader that goes away", plays + engine + " | head -n 1", (0, 5)),
-            self.logged("a reader that is gone", "{ sleep 0.3; %s; } | :" % (plays + engine), 5),
+            self.logged("a reader that is gone", "{ %s%s; } | :" % (UNREAD, plays + engine), 5),
             self.logged("closed input", log + engine + " <&-", 4, output=""),
             self.logged("closed output", plays + engine + " >&-", 5),
             self.logged("an engine that writes to standard error, where the interface reads it",
@@ -98,9 +97,8 @@ class Table:
                      part=MOVE),
             self.row("a log in a folder that is missing",
                      waits.replace(" log ", " none/log ") + engine, 9, part=MOVE),
-            self.logged("an input that does not block",
-                        "{ sleep 1; echo quit; } | { ./unblocked 0; %s; }" % (log + engine), 4,
-                        output="", memory=None),
+            self.logged("an input that does not block", unblocked(log + engine), 4, output="",
+                        memory=None),
         ]
 
     def floods(self):
@@ -135,8 +133,9 @@ DRIVER = [
     *Table("driver").engines(),
     *Table("driver").streams(),
     *Table("driver").floods(),
-    Table("driver").logged("an engine that answers before it is asked", PLAYS + "driver log sh -c"
-                           " 'printf \"move e2e4\\npong 7\\nfeature done=1\\n"
+    Table("driver").logged("an engine that answers before it is asked",
+                           AWAIT + PLAYS.replace("sleep", "await uciok; sleep", 1)
+                           + "driver log sh -c 'printf \"move e2e4\\npong 7\\nfeature done=1\\n"
                            "move e7e5\\nresign\\n\"; cat >/dev/null'", 0,
                            part="uciok\nbestmove 0000\n"),
     # 5,000 thinking lines are more than a pipe holds
@@ -157,7 +156,7 @@ TAP = [
     Table("tap").row("64 MiB there and back", "tap log cat <letters | cmp - letters && sort log", 0,
                      output="u!\nu.\nx!\nx.\n"),
     Table("tap").logged("an engine that floods without end, and a reader that is gone",
-                        "{ sleep 0.3; echo quit | tap log yes; } | :", 5),
+                        "{ %secho quit | tap log yes; } | :" % UNREAD, 5),
     Table("tap").logged("an output that does not block",
                         "cut -c 3- pings pings | { ./unblocked 1; tap log cat; } | " + LATE,
                         (0, 5), memory=None),

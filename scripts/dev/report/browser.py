@@ -3,6 +3,7 @@
 This is what Chromium's word --remote-debugging-pipe is for.
 """
 import base64
+import fcntl
 import json
 import os
 import pathlib
@@ -13,6 +14,8 @@ import tempfile
 import time
 
 NAMES = ("chromium", "chromium-browser", "google-chrome")
+# comes to its end when two more pictures of the page were made
+DRAWN = "new Promise(done => requestAnimationFrame(() => requestAnimationFrame(done)))"
 
 
 def found():
@@ -25,6 +28,10 @@ def thrown_in(answer):
     return answer["exceptionDetails"].get("exception", {}).get("description")
 
 
+class NoAnswer(RuntimeError):
+    """The browser cannot answer."""
+
+
 class Browser:
     """One browser with one page."""
 
@@ -34,13 +41,14 @@ class Browser:
         self.back, from_browser = os.pipe()
 
         def connect():
-            os.dup2(to_browser, 9)
-            os.dup2(from_browser, 4)
-            os.dup2(9, 3)
+            # (whatever numbers the pipes have)
+            ends = [fcntl.fcntl(end, fcntl.F_DUPFD, 10) for end in (to_browser, from_browser)]
+            os.dup2(ends[0], 3)
+            os.dup2(ends[1], 4)
 
         self.process = subprocess.Popen(
             [found(), "--headless=new", "--no-sandbox", "--disable-gpu", "--no-first-run",
-             "--remote-debugging-pipe",
+             "--remote-debugging-pipe", "--disable-dev-shm-usage",
              f"--user-data-dir={self.folder}", "about:blank"],
             pass_fds=(3, 4), preexec_fn=connect, stdout=subprocess.DEVNULL,
                                         stderr=subprocess.DEVNULL)
@@ -90,7 +98,7 @@ class Browser:
             answer = self.read(120)
             if answer.get("id") == self.number:
                 if "error" in answer:
-                    raise RuntimeError(f"{method}: {answer['error']['message']}")
+                    raise NoAnswer(f"{method}: {answer['error']['message']}")
                 return answer["result"]
             self.events.append(answer)
             if answer.get("method") == "Page.javascriptDialogOpening":
@@ -103,6 +111,15 @@ class Browser:
         if "exceptionDetails" in answer:
             raise RuntimeError(f"{text}: {thrown_in(answer)}")
         return answer["result"].get("value")
+
+    def comes_to(self, text, wanted):
+        """Whether an expression has this value, if not at once then within a minute."""
+        end = time.monotonic() + 60
+        while self.js(text) != wanted:
+            if time.monotonic() > end:
+                return False
+            time.sleep(0.02)
+        return True
 
     def size(self, width, height=900, dark=False):
         self.ask("Emulation.setDeviceMetricsOverride", width=width, height=height,
@@ -123,13 +140,20 @@ class Browser:
         self.ask("Page.navigate", url=address)
         self.wait_until_ready()
 
+    def is_ready(self):
+        try:
+            return self.js("document.body && document.body.dataset.ready === 'yes' || null")
+        except NoAnswer:
+            # (between two pages there is none)
+            return False
+
     def wait_until_ready(self):
-        end = time.monotonic() + 60
-        while not self.js("document.body && document.body.dataset.ready === 'yes' || null"):
+        end = time.monotonic() + 120
+        while not self.is_ready():
             if time.monotonic() > end:
                 raise TimeoutError("the page is not drawn")
             time.sleep(0.02)
-        self.js("new Promise(done => requestAnimationFrame(() => requestAnimationFrame(done)))")
+        self.js(DRAWN)
 
     def faults(self):
         """What the page's script threw, what the browser refused, and what it asked a net for."""
@@ -158,6 +182,8 @@ class Browser:
                        " e.scrollIntoView({ block: 'nearest' });"
                        " const r = e.getBoundingClientRect();"
                        " return [r.x + r.width / 2, r.y + r.height / 2]; })()")
+        # (a page that scrolled draws its rows anew, but not between press and release)
+        self.js(DRAWN)
         for kind in ("mousePressed", "mouseReleased"):
             self.ask("Input.dispatchMouseEvent", type=kind, x=x, y=y, button="left", clickCount=1)
 

@@ -5,7 +5,7 @@ import shutil
 
 from basics import TOP, ask, is_installed, is_quiet, measured, page_of, say, table_of, wants
 
-NEEDED = ("xboard", "xvfb-run", "stockfish", "toga2")
+NEEDED = ("xboard", "xvfb-run", "xauth", "stockfish", "toga2")
 
 
 def recipes(pattern):
@@ -30,16 +30,16 @@ def check_times(page, work, wineravine, scripted, replay):
     command = command.replace("stockfish", engine) + "; wait"
     talk = "xboard\nprotover 2\nnew\npost\nusermove e2e4\n"
     # (on a busy machine `ts` may begin after half a second)
-    begun = "for _ in $(seq 200); do [ ! -s timed.log ] || break; sleep 0.1; done"
+    begun = "for _ in $(seq 1200); do [ ! -s timed.log ] || break; sleep 0.1; done"
     talking = f"(printf '{talk}'; {begun}; sleep 0.5; echo quit)"
-    ran = ask("bash", "-c", f"{talking} | ({command})", cwd=work, timeout=60)
+    ran = ask("bash", "-c", f"{talking} | ({command})", cwd=work, timeout=300)
     log = work / "timed.log"
     wants(log.exists() and log.stat().st_size > 0, f"times: {ran.stderr.decode()}")
     page.open(page_of(log))
     is_quiet(page, "a log with times")
     has_times(page)
     span = page.js("D.times[D.times.length - 1] - D.times[0]")
-    wants(0.3 < span < 20, f"a session of half a second takes {span} s by its log")
+    wants(0.3 < span < 120, f"a session of half a second takes {span} s by its log")
     bare = re.search("`(cut .*)replay check`", (TOP / "docs/REPORT.md").read_text())[1]
     answer = ask("bash", "-c", f"{bare} {replay} check", cwd=work).stdout
     wants(answer == b"lawful\n", f"a log without its times: {answer}")
@@ -57,12 +57,13 @@ def results_in(pgn):
 def play_match(folder, wineravine, games):
     """Plays a match with two logs, of which the first has times; answers the results."""
     os.mkfifo(folder / "first.fifo")
-    command = ("ts %.s <first.fifo >first.log & timeout -k 5 300 xvfb-run -a xboard -noGUI -xexit "
-               "-soundProgram true -mode TwoMachines -depth 4 -sgf match.pgn "
+    # (XBoard waits for its engines, so that their logs are whole)
+    command = ("ts %.s <first.fifo >first.log & timeout -k 5 600 xvfb-run -a xboard -noGUI -xexit "
+               "-soundProgram true -mode TwoMachines -depth 4 -delayAfterQuit 60 -sgf match.pgn "
                f"-mg {games} -fcp '{wineravine} --LogFile first.fifo stockfish' "
                f"-scp '{wineravine} --LogFile second.log toga2'; wait")
     ran = ask("bash", "-c", command, cwd=folder, env={**os.environ, "HOME": str(folder)},
-              timeout=360)
+              timeout=900)
     results = results_in(folder / "match.pgn") if (folder / "match.pgn").exists() else []
     wants(len(results) == games,
           f"a match: {len(results)} games, not {games}: {ran.stderr.decode()[-300:]}")

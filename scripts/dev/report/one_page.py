@@ -52,7 +52,7 @@ def check_late(page, log):
     wants(log.read_text().splitlines()[late[0] - 1] == "u bestmove b8c6",
           f"line {late} is another line")
     page.click("#late a")
-    wants(chosen(page) == late[0], "the link in the head leads elsewhere")
+    wants(page.comes_to("chosen + 1", late[0]), "the link in the head leads elsewhere")
     wants(page.js("document.querySelector('.row.late').textContent").count("not shown") == 1,
           "the row does not say: not shown")
     red = page.js("getComputedStyle(document.querySelector('.row.late .says')).color")

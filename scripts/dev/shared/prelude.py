@@ -7,6 +7,9 @@ import shutil
 TOP = pathlib.Path(__file__).resolve().parents[3]
 # where Debian has games, and the server of ssh
 os.environ["PATH"] += ":/usr/games:/usr/sbin"
+# programs speak English
+os.environ["LC_ALL"] = "C.UTF-8"
+os.environ.pop("LANGUAGE", None)
 
 
 def words_of(text):

@@ -3,10 +3,13 @@
 #   $top     the top of the repository
 #   $work    a folder that is taken away at the end, as are programs that still run
 #   PATH     with the folder in which Debian has games
-# and the functions below. With --help a check prints the comment at its head.
+# and the functions below; programs speak English. With --help a check prints the comment at its
+# head.
 # shellcheck disable=SC2034
 top=$(cd "${BASH_SOURCE[0]%/*}/../../.." && pwd)
 PATH=$PATH:/usr/games
+export LC_ALL=C.UTF-8
+unset LANGUAGE
 failed=0
 missing=
 
@@ -80,13 +83,18 @@ is_its_own() { # of what, the log, the command
     fail "$1: its log is not what is written for its events: $(head -n 1 "$work/told")"
 }
 
-# waits until a file has a line with this pattern, or 20 seconds
-await() { # the pattern, the file
-  for _ in $(seq 200); do
-    grep -q -- "$1" "$2" 2>/dev/null && return
+# how many lines of a file have this pattern
+lines_with() { # the pattern, the file
+  cat "$2" 2>/dev/null | grep -c -- "$1"
+}
+
+# waits until a file has a line with this pattern, or so many, or two minutes: a machine may be busy
+await() { # the pattern, the file, how many lines
+  local end=$((SECONDS + 120))
+  until [ "$(lines_with "$1" "$2")" -ge "${3:-1}" ]; do
+    [ "$SECONDS" -lt "$end" ] || return 1
     sleep 0.1
   done
-  return 1
 }
 
 # a screen in memory, which is then $DISPLAY

@@ -23,7 +23,7 @@ class UciProgram:
         self.process.stdin.write(line + "\n")
         self.process.stdin.flush()
 
-    def wait_for(self, word, what, seconds=60):
+    def wait_for(self, word, what, seconds=120):
         """The next line that begins with the word, which belongs to what is named so."""
         while True:
             try:
@@ -38,5 +38,5 @@ class UciProgram:
     def quit(self):
         """Orders its end, which must be one without a fault."""
         self.order("quit")
-        if (status := self.process.wait(timeout=20)) != 0:
+        if (status := self.process.wait(timeout=120)) != 0:
             sys.exit(f"the program ended with status {status}")
