@@ -197,8 +197,11 @@ def check_long(page, work, replay):
     took, worked = open_long(page, made)
     count, rows = page.js("[LINES.length, document.querySelectorAll('#rows .row').length]")
     wants(count >= 100000 and rows < 200, f"a long log: {count} lines, {rows} rows drawn")
-    wants(min(took, worked) < 3,
-          f"a long log: drawn after {took:.2f} s, in which the browser worked for {worked:.2f} s")
+    # (a slow machine has as much longer as a fixed work takes it)
+    most = max(3, 4 * fixed_work(page))
+    wants(min(took, worked) < most,
+          f"a long log: drawn after {took:.2f} s, in which the browser worked for {worked:.2f} s, "
+          f"not less than {most:.2f} s")
     paint = page.js("performance.getEntriesByType('paint').map(it => it.startTime).pop() / 1000")
     step = page.js("(() => { const a = performance.now(); for (let k = 0; k < 50; k++) byRow(1);"
                    " return (performance.now() - a) / 50; })()")
@@ -213,6 +216,14 @@ def check_long(page, work, replay):
     say(f"{count} lines, {made.stat().st_size // 1000} KB: written in {writing}, "
         f"drawn in {took:.2f} s (first paint {paint:.2f} s, processor {worked:.2f} s), "
         f"a key takes {step:.1f} ms; load {load:.1f}")
+
+
+def fixed_work(page):
+    """The browser's processor time for a loop."""
+    before = page.processor_seconds()
+    page.js("(() => { let sum = 0; for (let k = 0; k < 1e8; k++) sum = (sum * 31 + k) | 0;"
+            " return sum; })()")
+    return page.processor_seconds() - before
 
 
 def open_long(page, made):
