@@ -23,5 +23,8 @@ function draw(to, tag, set = {}, text) {
   to.append(e);
   return e;
 }
+// Lines that a page leads to: the number of each, and what stands in its link.
+const latePlaces = summary => summary.late.map(n => [n, "line " + n]);
+const faultPlaces = summary => summary.engineFaults.map(it => [it.line, it.what + ", line " + it.line]);
 const plural = (n, one, many) => n + " " + (n === 1 ? one : many || one + "s");
 

@@ -33,14 +33,19 @@ if (!isTap) fact("moves shown", S.shown);
 if (isBridge || isTap) fact("searches", Object.keys(kinds).map(kind => S.searches[kind] + " " + kinds[kind]).join(", "));
 if (isBridge) fact("late answers, not shown", S.late.length, S.late.length ? "bad" : "").id = "late-count";
 else fact("late answers", "not told by the log of a " + S.kind);
+if (isBridge) fact("engine faults", S.engineFaults.length, S.engineFaults.length ? "bad" : "").id = "fault-count";
 if (isBridge) fact("given up by pondering or analysis", S.givenUp);
 fact("lines", S.count);
 if (S.settings) fact("settings", S.settings);
-if (S.late.length) put($("late"), "span", { class: "bad" }, "Came late and was not shown: ");
-for (const n of S.late.slice(0, 200)) {
-  put($("late"), "a", { href: "#" + n }, "line " + n);
-  $("late").append(" ");
+function putLinks(id, title, places) {
+  if (places.length) put($(id), "span", { class: "bad" }, title);
+  for (const [n, text] of places.slice(0, 200)) {
+    put($(id), "a", { href: "#" + n }, text);
+    $(id).append(" ");
+  }
 }
+putLinks("late", "Came late and was not shown: ", latePlaces(S));
+putLinks("engine-faults", "Engine faults: ", faultPlaces(S));
 
 // SEARCHES, as the judge tells of them; where one was stopped stands in the log
 

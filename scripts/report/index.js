@@ -4,7 +4,8 @@ const saidBy = (row, word) => (of(row, "verdicts") || []).find(v => v.program.st
 const results = row => gamesIn(row).map(game => game.told || game.result).join(", ");
 const sum = get => LOGS.reduce((n, row) => n + (get(row) || 0), 0);
 
-const lateIn = row => of(row, "late") || [];
+const lateIn = row => of(row, "late") ? latePlaces(row.summary) : [];
+const faultsIn = row => of(row, "engineFaults") ? faultPlaces(row.summary) : [];
 const gamesIn = row => of(row, "games") || [];
 // The verdict on the log as such, and that on its talk.
 const words = { check: ["check", "drive", "revive"], talk: ["judge"] };
@@ -21,7 +22,7 @@ function isGood(row, name) {
 // What only the log of a bridge tells.
 const toldBy = (row, n) => of(row, "kind") === "bridge" ? n : "";
 
-// A column: its head, its text, by which it is sorted, and its sort of cell.
+// A column: its head, its text, by which it is sorted, its sort of cell, and the lines that it leads to.
 const columns = [
   ["log", row => row.log],
   ["of", row => of(row, "kind") || ""],
@@ -31,7 +32,8 @@ const columns = [
   ["games", row => toldBy(row, gamesIn(row).length), "number"],
   ["results", results],
   ["moves shown", row => of(row, "kind") === "tap" ? "" : of(row, "shown") ?? "", "number"],
-  ["late answers", row => toldBy(row, lateIn(row).length), "number"],
+  ["late answers", row => toldBy(row, lateIn(row).length), "number", lateIn],
+  ["engine faults", row => toldBy(row, of(row, "engineFaults")?.length ?? ""), "number", faultsIn],
   ["lines", row => of(row, "count") ?? "", "number"],
 ];
 
@@ -44,18 +46,19 @@ fact("games", sum(row => gamesIn(row).length));
 fact("moves shown", sum(row => of(row, "shown")));
 const late = sum(row => lateIn(row).length);
 fact("late answers, not shown", late, late ? "bad" : "");
+const faults = sum(row => faultsIn(row).length);
+fact("engine faults", faults, faults ? "bad" : "");
 
 let sorted = 0, down = false, wanted = "";
-function putCell(e, row, [name, text, sort]) {
+function putCell(e, row, [name, text, sort, placesIn]) {
   const head = name === "log", cell = put(e, head ? "th" : "td", { class: sort === "number" ? "number" : "" });
   if (head) cell.setAttribute("scope", "row");
   if (head && row.link) return put(cell, "a", { href: row.link }, text(row));
   cell.textContent = visible(String(text(row)));
   if (sort === "verdict" && cell.textContent) cell.classList.add(isGood(row, name) ? "good" : "bad");
-  if (name !== "late answers") return cell;
-  for (const n of lateIn(row).slice(0, 20)) {
+  for (const [n, place] of placesIn ? placesIn(row).slice(0, 20) : []) {
     cell.append(" ");
-    put(cell, "a", { href: row.link + "#" + n, class: "bad" }, "line " + n);
+    put(cell, "a", { href: row.link + "#" + n, class: "bad" }, place);
   }
   return cell;
 }

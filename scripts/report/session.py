@@ -13,6 +13,8 @@ HEADER = re.compile(rb"#[23] ")
 SEARCH = re.compile(r"search \d+: (\w+), from line (\d+), (?:to line (\d+)|open), "
                     r"(not )?stopped, (\S+)")
 ILLEGAL = "X tellusererror Illegal position"
+FAULTS = {"X tellusererror Illegal move by engine": "illegal move",
+          "X tellusererror Engine ended": "engine ended"}
 
 
 class Missing(Exception):
@@ -130,6 +132,12 @@ def is_given_up(search):
     return search["kind"] != "move" and search["to"] is not None and not search["shown"]
 
 
+def faults_in(lines):
+    """What the engine did wrong, where the bridge tells the interface so."""
+    return [{"line": number, "what": FAULTS[line]} for number, line in enumerate(lines, 1)
+            if line in FAULTS]
+
+
 def games_in(answer):
     """The games that `replay games` writes: where each began, its moves and its result."""
     start = None
@@ -143,44 +151,61 @@ def games_in(answer):
         start = None
 
 
-def courses(lines, positions):
-    """For each game the lines that left its positions, and the result that the interface told.
+def calls_for_moves(lines, searches):
+    """The lines at which the engine was to move: a search for a move began, or the bridge resigned.
+
+    At a `resign` after a shown move, and where a search began as pondering, the other side is on
+    move; but the engine was to move in that game before, so neither side is then taken for its own.
+    """
+    resigned = {number for number, line in enumerate(lines, 1) if line == "X resign"}
+    return resigned | {it["from"] for it in searches if it["kind"] == "move"}
+
+
+def courses(lines, positions, calls):
+    """For each game the lines that left its positions, the result that the interface told, and who
+    was on move at these calls.
 
     A game goes on by each line that leaves a position, back by `undo` and `remove`, and is over at
     a `new` or `setboard` that is not refused.
     """
-    left, course, told = {number for number, _ in positions}, [], None
+    left = {number: fen.split(" ")[1] for number, fen in positions}
+    course, told, called, on_move = [], None, set(), left.get(0)
     for number, line in enumerate(lines, 1):
+        on_move = left.get(number, on_move)
         word = line[2:].split()[:1] if line.startswith("x ") else []
         if word == ["result"]:
             told = line[2:].strip()[7:] or told
         elif word in (["new"],
                       ["setboard"]) and (number in left or ILLEGAL not in lines[number:number + 1]):
             if course:
-                yield course, told
-            course, told = [], None
+                yield course, told, called
+            course, told, called = [], None, set()
         elif number in left:
             if word in (["undo"], ["remove"]):
                 del course[-1 if word == ["undo"] else -2:]
             else:
                 course.append(number)
+        elif number in calls:
+            called.add(on_move)
     if course:
-        yield course, told
+        yield course, told, called
 
 
-def side_of(course, start, lines):
-    """Which side the engine had, by the moves that it showed."""
+def side_of(course, start, lines, called):
+    """Which side the engine had, by the moves that it showed, else by when it was to move."""
     first = (start or " w").split(" ")[1] == "b"
-    sides = {(n + first) % 2 for n,
+    sides = {"wb"[(n + first) % 2] for n,
              number in enumerate(course) if lines[number - 1].startswith("u ")}
-    return {frozenset({0}): "white", frozenset({1}): "black"}.get(frozenset(sides), "")
+    return {frozenset("w"): "white", frozenset("b"): "black"}.get(frozenset(sides or called), "")
 
 
-def with_courses(games, lines, positions):
+def with_courses(games, log, positions, searches):
     """The games with the lines of their moves, if both are told of alike."""
-    for game, (course, told) in zip(games, courses(lines, positions)):
+    found = courses(log.lines, positions, calls_for_moves(log.lines, searches))
+    for game, (course, told, called) in zip(games, found):
         if len(course) == len(game["moves"]):
-            game.update(lines=course, told=told, side=side_of(course, game["start"], lines))
+            side = side_of(course, game["start"], log.lines, called)
+            game.update(lines=course, told=told, side=side)
     return games
 
 
@@ -201,11 +226,12 @@ def session_of(log, name):
         verdicts.append(Answer(["check"], log).verdict())
         told = (line.partition(" ") for line in Answer(["positions"], log).lines)
         positions = [[int(number), fen] for number, _, fen in told]
-        games = with_courses(list(games_in(Answer(["games"], log))), log.lines, positions)
     if kind in ("bridge", "tap"):
         talk = judged(log, kind)
         verdicts.append(talk.verdict())
         searches = list(searches_in(talk))
+    if kind == "bridge":
+        games = with_courses(list(games_in(Answer(["games"], log))), log, positions, searches)
     if kind == "driver":
         verdicts.append(written_again(log, ["drive"]))
     if kind == "reviver":
@@ -219,6 +245,7 @@ def session_of(log, name):
         "verdicts": verdicts, "count": len(log.lines), "games": games,
         "shown": sum(line.startswith(shown) for line in log.lines),
         "late": [it["to"] for it in tells if is_late(it)],
+        "engineFaults": faults_in(log.lines) if kind == "bridge" else [],
         "givenUp": sum(is_given_up(it) for it in tells),
         "searches": {kind: sum(it["kind"] == kind for it in searches) for kind in ("move", "ponder",
                                                                                    "analyse")},

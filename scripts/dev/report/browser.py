@@ -180,7 +180,7 @@ class Browser:
     def click(self, selector):
         x, y = self.js(f"(() => {{ const e = document.querySelector({json.dumps(selector)});"
                        " e.scrollIntoView({ block: 'nearest' });"
-                       " const r = e.getBoundingClientRect();"
+                       " const r = e.getClientRects()[0];"
                        " return [r.x + r.width / 2, r.y + r.height / 2]; })()")
         # (a page that scrolled draws its rows anew, but not between press and release)
         self.js(DRAWN)

@@ -3,6 +3,7 @@ import functools
 import os
 import shutil
 
+import faults
 from basics import REPORT, TOP, ask, is_quiet, late_log, measured, say, table_of, wants
 
 # a search that was stopped, of which a tap cannot tell whether its move was shown
@@ -21,6 +22,7 @@ def folder_of(work, name, count, replay):
              "driver.log": (TOP / "samples/driver.script").read_bytes(),
              "reviver.log": (TOP / "samples/reviver.script").read_bytes(),
              "no mark.log": b"hello\n"}
+    kinds.update((f"{it}.log", content) for it, content in faults.logs_of(replay).items())
     folder.mkdir()
     for kind, content in kinds.items():
         (folder / kind).write_bytes(content)
@@ -63,22 +65,55 @@ def texts_in(page, selector):
                    ".map(e => [...e.children].map(c => c.textContent))")
 
 
+def column_of(page, head):
+    """The number of the column with this head."""
+    heads = texts_in(page, "#heads")[0]
+    wants(head in heads, f"no column {head}: {heads}")
+    return heads.index(head) if head in heads else 0
+
+
+def links_in(page, head):
+    """The links in the column with this head: text and target."""
+    cells = f"#logs tr > :nth-child({column_of(page, head) + 1}) a"
+    return page.js(f"[...document.querySelectorAll('{cells}')]"
+                   ".map(a => [a.textContent, a.getAttribute('href')])")
+
+
+def seen_after(page, text):
+    """The logs that are seen once this text was looked for."""
+    page.js("(e => { e.value = '%s'; e.dispatchEvent(new Event('input')); })"
+            "(document.getElementById('find'))" % text)
+    return page.js("[...document.querySelectorAll('#logs tr')].filter(e => !e.hidden)"
+                   ".map(e => e.firstChild.textContent)")
+
+
+def check_orders(page):
+    """A second click on a head puts those logs first that have most of it; a search finds rows."""
+    for head, first in (("late answers", "late.log"), ("engine faults", "illegal.log")):
+        for _ in "ab":
+            page.js(f"document.querySelectorAll('#heads button')[{column_of(page, head)}].click()")
+        wants(page.js("document.querySelector('#logs th').textContent") == first,
+              f"the table is not sorted by {head}")
+    for text, logs in (("faulty", ["faulty.log"]), ("ILLEGAL MOVE", ["illegal.log"]),
+                       ("engine ended", ["ended.log", "lost.log"])):
+        seen = seen_after(page, text)
+        wants(sorted(seen) == logs, f"a search for {text} finds {seen}")
+
+
 def check_table(page, folder, count):
     with measured() as took:
         table_of(page, folder)
     rows = {row[0]: row[1:] for row in texts_in(page, "#logs tr")}
     wants(len(rows) == count, f"a table: {len(rows)} rows, not {count}")
     check_rows(rows)
-    late = page.js("[...document.querySelectorAll('#logs a.bad')].map(a => a.getAttribute('href'))")
-    wants(len(late) == 1 and late[0].startswith("./late.log.html#"), f"late answers lead to {late}")
-    for _ in "ab":
-        page.js("document.querySelectorAll('#heads button')[8].click()")
-    wants(page.js("document.querySelector('#logs th').textContent") == "late.log",
-          "the table is not sorted by late answers")
-    page.js("(e => { e.value = 'faulty'; e.dispatchEvent(new Event('input')); })"
-            "(document.getElementById('find'))")
-    wants(page.js("[...document.querySelectorAll('#logs tr')].filter(e => !e.hidden).length") == 1,
-          "the search finds another number of logs")
+    late = links_in(page, "late answers")
+    wants(len(late) == 1 and late[0][1].startswith("./late.log.html#"),
+          f"late answers lead to {late}")
+    found = links_in(page, "engine faults")
+    wanted = [[text, f"./{name}.log.html#{text.rpartition(' ')[2]}"]
+              for name in sorted(faults.TEXTS) for text in faults.TEXTS[name]]
+    wants(found == wanted, f"engine faults lead to {found}")
+    check_orders(page)
     games = sum(name.endswith("first.log") for name in rows)
     check_cross(page, games)
     check_link(page, folder)
@@ -98,6 +133,8 @@ def check_rows(rows):
           f"late.log: {rows['late.log']}")
     wants(rows["tap.log"][2] == "replay judge tap: lawful talk" and rows["tap.log"][7] == "",
           f"tap.log: {rows['tap.log']}")
+    told = [rows[f"{it}.log"][8][:1] for it in ("illegal", "right", "tap", "driver", "reviver")]
+    wants(told == ["2", "0", "", "", ""], f"engine faults: {told}")
     wants("unlawful at line 16" in rows["faulty.log"][2], f"faulty.log: {rows['faulty.log']}")
     for name in ("driver.log", "reviver.log"):
         wants("writes this log again" in rows[name][1], f"{name}: {rows[name]}")
