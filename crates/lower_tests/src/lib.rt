@@ -8,4 +8,6 @@ mod expect;
 #[cfg(test)]
 mod grammar;
 #[cfg(test)]
+mod rows;
+#[cfg(test)]
 mod tables;

@@ -1,5 +1,5 @@
 // Positions as texts: how each is written, and the first fault of texts that are none.
-use crate::expect::expect_text;
+use crate::expect::{expect, expect_text};
 use chess_board::Position;
 use fen_text::{FenFault, read_fen, write_fen};
 
@@ -104,7 +104,7 @@ fn reads_and_writes(rt: HostRuntime) {
         expect_text(&rt, write_fen(&position).as_slice(), want);
     }
     for (text, want) in &FAULTY {
-        assert!(rt; read_fen(text.as_bytes()).err() == Some(*want), "{text}");
+        expect(&rt, read_fen(text.as_bytes()).err() == Some(*want), text);
     }
     expect_text(&rt, write_fen(&Position::start()).as_slice(), START);
 }

@@ -3,7 +3,7 @@ ghost use Rattle.std.specs.Prelude.{◌≡◌, ◌+◌, ◌≤◌, length, IfSom
 ghost use Rattle.game_record.specs.Game.{ply_of, IsPlayable, now_of};
 
 use super::positions::move_of;
-use crate::expect::expect_text;
+use crate::expect::{expect, expect_text};
 use chess_board::{Move, Position, equal_positions};
 use fen_text::read_fen;
 use game_record::{Game, GameEnd, NoMove, PlayFault};
@@ -22,19 +22,16 @@ pub fn position_of(rt: &impl Abort, text: &str) -> Position {
 
 pub fn play_all(rt: &impl Abort, game: &mut Game, moves: &[&str]) {
     for text in moves {
-        assert!(rt; game.try_play(move_of(rt, text)) == Ok(()), "{text}");
+        expect(rt, game.try_play(move_of(rt, text)) == Ok(()), text);
     }
 }
 
 /// Checks how a game will have ended after a move, and plays it.
 fn ends(rt: &impl Abort, game: &mut Game, text: &str, want: Option<GameEnd>) {
     let m = move_of(rt, text);
-    assert!(rt; game.now().legal(m), "{text}");
-    assert!(rt; game.ended_after(m) == want, "{text}");
-    assert!(rt;
-        game.try_play(m) == Ok(()) && game.ended() == want,
-        "{text}"
-    );
+    expect(rt, game.now().legal(m), text);
+    expect(rt, game.ended_after(m) == want, text);
+    expect(rt, game.try_play(m) == Ok(()) && game.ended() == want, text);
 }
 
 fn check_line(rt: &impl Abort, game: &Game, hint: Option<Move>, out: &mut Out, want: &str)
@@ -49,31 +46,33 @@ fn check_line(rt: &impl Abort, game: &Game, hint: Option<Move>, out: &mut Out, w
 
 fn check_hinted(rt: &impl Abort, game: &Game, text: &str, out: &mut Out, want: &str) {
     let m = move_of(rt, text);
-    assert!(rt; game.now().legal(m), "{text}");
+    expect(rt, game.now().legal(m), text);
     check_line(rt, game, Some(m), out, want);
 }
 
 fn repeats(rt: &impl Abort, game: &mut Game) {
     play_all(rt, game, &SHUFFLE);
     play_all(rt, game, &SHUFFLE[..3]);
-    assert!(rt;
+    expect(
+        rt,
         game.plies() == 7 && game.repeats() == 2 && game.ended().is_none(),
-        "twice"
+        "twice",
     );
     ends(rt, game, "f6g8", Some(GameEnd::Repetition));
-    assert!(rt; game.plies() == 8 && game.repeats() == 3, "three times");
+    expect(rt, game.plies() == 8 && game.repeats() == 3, "three times");
 
     // The rook's first move loses the right, so the start does not come again.
     game.reset(position_of(rt, "4k3/8/8/8/8/8/8/4K2R w K - 0 1"));
     play_all(rt, game, &ROOK_SHUFFLE);
     play_all(rt, game, &ROOK_SHUFFLE);
-    assert!(rt;
+    expect(
+        rt,
         game.plies() == 8 && game.repeats() == 2 && game.ended().is_none(),
-        "twice"
+        "twice",
     );
     play_all(rt, game, &ROOK_SHUFFLE[..3]);
     ends(rt, game, "e7e8", Some(GameEnd::Repetition));
-    assert!(rt; game.plies() == 12 && game.repeats() == 3, "three times");
+    expect(rt, game.plies() == 12 && game.repeats() == 3, "three times");
 }
 
 fn ends_by_moves(rt: &impl Abort, game: &mut Game) {
@@ -101,7 +100,7 @@ fn counts_repetitions_and_ends(rt: HostRuntime) {
     ends_by_moves(&rt, &mut game);
     for (text, want) in &ENDED {
         game.reset(position_of(&rt, text));
-        assert!(rt; game.ended() == *want, "{text}");
+        expect(&rt, game.ended() == *want, text);
     }
 }
 
@@ -110,18 +109,20 @@ const OPENED: &str = "position startpos moves e2e4 e7e5";
 fn plays_and_writes(rt: &impl Abort, game: &mut Game, out: &mut Out) {
     check_line(rt, game, None, out, "position startpos");
     check_hinted(rt, game, "e2e4", out, "position startpos moves e2e4");
-    assert!(rt;
+    expect(
+        rt,
         game.try_play(move_of(rt, "e2e5")) == Err(PlayFault::Illegal),
-        "e2e5"
+        "e2e5",
     );
     play_all(rt, game, &["e2e4", "e7e5"]);
     check_line(rt, game, None, out, OPENED);
     let hinted = "position startpos moves e2e4 e7e5 g1f3";
     check_hinted(rt, game, "g1f3", out, hinted);
     // the second of two moves is taken back
-    assert!(rt;
+    expect(
+        rt,
         game.undo(3) == Err(NoMove) && game.undo(1) == Ok(()),
-        "taken back"
+        "taken back",
     );
     assert!(rt; game.plies() == 1 && game.moves() == [move_of(rt, "e2e4")].as_slice());
     assert!(rt; equal_positions(game.start(), &Position::start()));
@@ -157,7 +158,11 @@ fn takes_the_longest_game(rt: HostRuntime) {
         assert!(rt; game.repeats() == round + 2);
     }
     assert!(rt; game.plies() == 12_000 && game.repeats() == 3_001);
-    assert!(rt; game.ended() == Some(GameEnd::Repetition), "the longest");
+    expect(
+        &rt,
+        game.ended() == Some(GameEnd::Repetition),
+        "the longest",
+    );
     assert!(rt; game.try_play(move_of(&rt, "e2e5")) == Err(PlayFault::Illegal));
     assert!(rt; game.try_play(move_of(&rt, "e2e4")) == Err(PlayFault::TooLong));
     assert!(rt; game.undo(12_001) == Err(NoMove) && game.undo(12_000) == Ok(()));

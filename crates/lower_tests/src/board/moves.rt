@@ -1,6 +1,6 @@
 //! Move counts that are known of the rules, and each public function once.
 use super::positions::{board_of, build_of, move_of, position_of};
-use crate::expect::expect_text;
+use crate::expect::{expect, expect_text};
 use chess_board::{
     BuildFault, Kind, Move, Position, Side, Square, State, equal_moves, equal_positions, read_move,
     write_move,
@@ -48,7 +48,7 @@ const COUNTS: [Count; 4] = [
 fn counts_lines_of_play(rt: HostRuntime) {
     for (field, rights, depth, lines) in &COUNTS {
         let position = position_of(&rt, field, Side::White, rights, None);
-        assert!(rt; count_lines(position, *depth) == *lines, "{field}");
+        expect(&rt, count_lines(position, *depth) == *lines, field);
     }
 }
 
@@ -113,7 +113,7 @@ fn expect_states(rt: &impl Abort, rows: &[Stated]) {
             Ok(position) => Ok(position.state()),
             Err(fault) => Err(fault),
         };
-        assert!(rt; found == *want, "{field}");
+        expect(rt, found == *want, field);
     }
 }
 

@@ -1,6 +1,6 @@
 //! Moves whose texts were worked out by hand.
 use super::positions::{move_of, position_of};
-use crate::expect::expect_text;
+use crate::expect::{expect, expect_text};
 use chess_board::{Position, Side, Square};
 use san_text::{SanFault, read_long_form, read_san, write_san};
 use std::process::Abort;
@@ -15,7 +15,7 @@ fn writes(rt: &impl Abort, at: &Position, m: &str, text: &str) {
     let m = move_of(rt, m);
     assert!(rt; at.legal(m));
     expect_text(rt, write_san(at, m).as_slice(), text);
-    assert!(rt; read_san(at, text.as_bytes()) == Ok(m), "{text}");
+    expect(rt, read_san(at, text.as_bytes()) == Ok(m), text);
 }
 
 // A board with White on move, a move, and its text.
@@ -90,15 +90,16 @@ const READ: [Read; 6] = [
 
 fn refuses(rt: &impl Abort, at: &Position, rows: &[Refused]) {
     for (text, fault) in rows {
-        assert!(rt; read_san(at, text.as_bytes()) == Err(*fault), "{text}");
+        expect(rt, read_san(at, text.as_bytes()) == Err(*fault), text);
     }
 }
 
 fn reads(rt: &impl Abort, at: &Position, rows: &[Read]) {
     for (text, m) in rows {
-        assert!(rt;
+        expect(
+            rt,
             read_san(at, text.as_bytes()) == Ok(move_of(rt, m)),
-            "{text}"
+            text,
         );
     }
 }
@@ -144,16 +145,17 @@ const NO_PROMOTIONS: [&str; 3] = ["e7-e8", "e7-e8=K", "e7-e8="];
 /// Reads each text as the move beside it, by its squares.
 fn reads_long_forms(rt: &impl Abort, at: &Position, rows: &[Read]) {
     for (text, m) in rows {
-        assert!(rt;
+        expect(
+            rt,
             read_long_form(at, text.as_bytes()) == Some(move_of(rt, m)),
-            "{text}"
+            text,
         );
     }
 }
 
 fn refuses_long_forms(rt: &impl Abort, at: &Position, texts: &[&'static str]) {
     for text in texts {
-        assert!(rt; read_long_form(at, text.as_bytes()).is_none(), "{text}");
+        expect(rt, read_long_form(at, text.as_bytes()).is_none(), text);
     }
 }
 

@@ -1,143 +1,122 @@
 // What no clause says: that the definitions mean the lines that real interfaces and engines write.
-use crate::expect::expect_text;
+use crate::expect::{expect, expect_text};
+use crate::rows::{bytes_in, bytes_of, cut, move_of, number_of, signed_of, small_of};
 use cecp_lines::{
     IfaceFault, IfaceMsg, Outcome, Reply, lines_are_unambiguous, read_iface, replies_are_short,
     write_reply,
 };
-use chess_board::{Kind, Move, Square};
 use line_io::Out;
+use std::process::Abort;
 
-const E2E4: Move = Move {
-    from: Square { index: 12 },
-    to: Square { index: 28 },
-    promotion: None,
-};
+// A line, the kind of the message, and the message.
+const READ: &str = "xboard|ignored|text=xboard
+protover 2|protover|number=2
+accepted analyze|ignored|text=accepted analyze
+ics -|ignored|text=ics -
+name Fairy-Max 5.0b|ignored|text=name Fairy-Max 5.0b
+level 0 5 0|level|moves=0|base=300000|increment=0
+level 0 0:08 0.042|level|moves=0|base=8000|increment=42
+level 0 1:40 1.666|level|moves=0|base=100000|increment=1666
+level 4 0:02 0|level|moves=4|base=2000|increment=0
+st 4|st|number=4000
+time 1417|time|number=1417
+otim 151|otim|number=151
+memory 68|memory|number=68
+cores 1|cores|number=1
+egtpath syzygy /EGT/Syzygy|egtpath|kind=syzygy|path=/EGT/Syzygy
+option Clear Hash|option|name=Clear Hash
+option Skill Level=5|option|name=Skill Level|value=5
+usermove a7a8n|usermove|move=a7a8n
+setboard 4k3/8/8/8/8/8/4P3/4K3 b - - 0 1|setboard|text=4k3/8/8/8/8/8/4P3/4K3 b - - 0 1
+result 1-0 {Xboard adjudication: Checkmate}|result
+.|dot
+?|move now
+ \t\r|blank
+\tping  007 \r|ping|number=7
+e1g1|usermove|move=e1g1
+a7a8N\r|usermove|move=a7a8n
+st 0.5|st|number=500
+time -12|time|number=-12
+option A=b = c |option|name=A|value=b = c";
 
-const E1G1: Move = Move {
-    from: Square { index: 4 },
-    to: Square { index: 6 },
-    promotion: None,
-};
+// The first of these is what XBoard 4.9.1 sends.
+const REFUSED: &str = "nps 100000|unknown command
+e2e4 e7e5|unknown command
+E2E4|unknown command
+New|unknown command
+level 40 5:60 0|bad argument
+level 40 5|bad argument
+ping 1234567890|bad argument
+ping 1 2|bad argument
+protover 1|bad argument
+option =5|bad argument
+egtpath nalimov|bad argument";
 
-const A7A8N: Move = Move {
-    from: Square { index: 48 },
-    to: Square { index: 56 },
-    promotion: Some(Kind::Knight),
-};
+/// The message of a row whose message has no more than its kind.
+fn plain(rt: &impl Abort, kind: &str) -> Result<IfaceMsg<'static>, IfaceFault> {
+    match kind {
+        "result" => Ok(IfaceMsg::Result),
+        "dot" => Ok(IfaceMsg::Dot),
+        "move now" => Ok(IfaceMsg::MoveNow),
+        "blank" => Ok(IfaceMsg::Blank),
+        "unknown command" => Err(IfaceFault::UnknownCommand),
+        "bad argument" => Err(IfaceFault::BadArgument),
+        _ => panic!(rt; "no message: {kind}"),
+    }
+}
 
-const READ: [(&str, Result<IfaceMsg, IfaceFault>); 40] = [
-    ("xboard", Ok(IfaceMsg::Ignored(b"xboard"))),
-    ("protover 2", Ok(IfaceMsg::Protover(2))),
-    (
-        "accepted analyze",
-        Ok(IfaceMsg::Ignored(b"accepted analyze")),
-    ),
-    ("ics -", Ok(IfaceMsg::Ignored(b"ics -"))),
-    (
-        "name Fairy-Max 5.0b",
-        Ok(IfaceMsg::Ignored(b"name Fairy-Max 5.0b")),
-    ),
-    (
-        "level 0 5 0",
-        Ok(IfaceMsg::Level {
-            mps: 0,
-            base_ms: 300_000,
-            inc_ms: 0,
-        }),
-    ),
-    (
-        "level 0 0:08 0.042",
-        Ok(IfaceMsg::Level {
-            mps: 0,
-            base_ms: 8_000,
-            inc_ms: 42,
-        }),
-    ),
-    (
-        "level 0 1:40 1.666",
-        Ok(IfaceMsg::Level {
-            mps: 0,
-            base_ms: 100_000,
-            inc_ms: 1_666,
-        }),
-    ),
-    (
-        "level 4 0:02 0",
-        Ok(IfaceMsg::Level {
-            mps: 4,
-            base_ms: 2_000,
-            inc_ms: 0,
-        }),
-    ),
-    ("st 4", Ok(IfaceMsg::St(4_000))),
-    ("time 1417", Ok(IfaceMsg::Time(1417))),
-    ("otim 151", Ok(IfaceMsg::Otim(151))),
-    ("memory 68", Ok(IfaceMsg::Memory(68))),
-    ("cores 1", Ok(IfaceMsg::Cores(1))),
-    (
-        "egtpath syzygy /EGT/Syzygy",
-        Ok(IfaceMsg::EgtPath {
-            kind: b"syzygy",
-            path: b"/EGT/Syzygy",
-        }),
-    ),
-    (
-        "option Clear Hash",
-        Ok(IfaceMsg::SetOption {
-            name: b"Clear Hash",
-            value: None,
-        }),
-    ),
-    (
-        "option Skill Level=5",
-        Ok(IfaceMsg::SetOption {
-            name: b"Skill Level",
-            value: Some(b"5"),
-        }),
-    ),
-    ("usermove a7a8n", Ok(IfaceMsg::UserMove(A7A8N))),
-    (
-        "setboard 4k3/8/8/8/8/8/4P3/4K3 b - - 0 1",
-        Ok(IfaceMsg::SetBoard(b"4k3/8/8/8/8/8/4P3/4K3 b - - 0 1")),
-    ),
-    (
-        "result 1-0 {Xboard adjudication: Checkmate}",
-        Ok(IfaceMsg::Result),
-    ),
-    (".", Ok(IfaceMsg::Dot)),
-    ("?", Ok(IfaceMsg::MoveNow)),
-    (" \t\r", Ok(IfaceMsg::Blank)),
-    ("\tping  007 \r", Ok(IfaceMsg::Ping(7))),
-    ("e1g1", Ok(IfaceMsg::UserMove(E1G1))),
-    ("a7a8N\r", Ok(IfaceMsg::UserMove(A7A8N))),
-    ("st 0.5", Ok(IfaceMsg::St(500))),
-    ("time -12", Ok(IfaceMsg::Time(-12))),
-    (
-        "option A=b = c ",
-        Ok(IfaceMsg::SetOption {
-            name: b"A",
-            value: Some(b"b = c"),
-        }),
-    ),
-    // the first of these is what XBoard 4.9.1 sends
-    ("nps 100000", Err(IfaceFault::UnknownCommand)),
-    ("e2e4 e7e5", Err(IfaceFault::UnknownCommand)),
-    ("E2E4", Err(IfaceFault::UnknownCommand)),
-    ("New", Err(IfaceFault::UnknownCommand)),
-    ("level 40 5:60 0", Err(IfaceFault::BadArgument)),
-    ("level 40 5", Err(IfaceFault::BadArgument)),
-    ("ping 1234567890", Err(IfaceFault::BadArgument)),
-    ("ping 1 2", Err(IfaceFault::BadArgument)),
-    ("protover 1", Err(IfaceFault::BadArgument)),
-    ("option =5", Err(IfaceFault::BadArgument)),
-    ("egtpath nalimov", Err(IfaceFault::BadArgument)),
-];
+/// The message of a row whose message has a number alone.
+fn numbered<'a>(rt: &impl Abort, kind: &str, fields: &str) -> IfaceMsg<'a> {
+    match kind {
+        "protover" => IfaceMsg::Protover(small_of(rt, fields, "number")),
+        "ping" => IfaceMsg::Ping(small_of(rt, fields, "number")),
+        "memory" => IfaceMsg::Memory(small_of(rt, fields, "number")),
+        "cores" => IfaceMsg::Cores(small_of(rt, fields, "number")),
+        "st" => IfaceMsg::St(number_of(rt, fields, "number")),
+        "time" => IfaceMsg::Time(signed_of(rt, fields, "number")),
+        "otim" => IfaceMsg::Otim(signed_of(rt, fields, "number")),
+        _ => panic!(rt; "no message: {kind}"),
+    }
+}
+
+/// What a row says that a line means.
+fn meant<'a>(rt: &impl Abort, want: &'a str) -> Result<IfaceMsg<'a>, IfaceFault> {
+    let (kind, fields) = cut(want);
+    if fields.is_empty() {
+        return plain(rt, kind);
+    }
+    Ok(match kind {
+        "ignored" => IfaceMsg::Ignored(bytes_of(rt, fields, "text")),
+        "setboard" => IfaceMsg::SetBoard(bytes_of(rt, fields, "text")),
+        "usermove" => IfaceMsg::UserMove(move_of(rt, fields, "move")),
+        "level" => IfaceMsg::Level {
+            mps: small_of(rt, fields, "moves"),
+            base_ms: number_of(rt, fields, "base"),
+            inc_ms: number_of(rt, fields, "increment"),
+        },
+        "option" => IfaceMsg::SetOption {
+            name: bytes_of(rt, fields, "name"),
+            value: bytes_in(fields, "value"),
+        },
+        "egtpath" => IfaceMsg::EgtPath {
+            kind: bytes_of(rt, fields, "kind"),
+            path: bytes_of(rt, fields, "path"),
+        },
+        _ => numbered(rt, kind, fields),
+    })
+}
+
+fn expect_read(rt: &impl Abort, rows: &str) {
+    for row in rows.split('\n') {
+        let (line, want) = cut(row);
+        expect(rt, read_iface(line.as_bytes()) == meant(rt, want), row);
+    }
+}
 
 #[test]
 fn lines_of_interfaces(rt: HostRuntime) {
-    for (line, want) in &READ {
-        assert!(rt; read_iface(line.as_bytes()) == *want, "{line}");
-    }
+    expect_read(&rt, READ);
+    expect_read(&rt, REFUSED);
     lines_are_unambiguous();
     replies_are_short();
 }
@@ -145,7 +124,7 @@ fn lines_of_interfaces(rt: HostRuntime) {
 #[test]
 fn writes(rt: HostRuntime) {
     let mut out = Out::make(rt.alloc(), 256).expect(&rt, "memory");
-    write_reply(&Reply::Move(A7A8N), &mut out);
+    write_reply(&Reply::Move(move_of(&rt, "move=a7a8n", "move")), &mut out);
     write_reply(&Reply::Result(Outcome::Stalemate), &mut out);
     write_reply(&Reply::OfferDraw, &mut out);
     let want = "move a7a8n1/2-1/2 {Stalemate}offer draw";

@@ -1,219 +1,131 @@
 // What no clause says: that the definitions mean the lines that real engines write.
-use crate::expect::expect_text;
+use crate::expect::{expect, expect_text};
+use crate::rows::{bytes_in, bytes_of, cut, move_in, move_of, number_of, signed_of, small_of};
 use cecp_iface_side::{read_reply, write_iface, written_messages_are_read_again};
 use cecp_lines::{IfaceMsg, Outcome, Reason, Reply, Spelling, UserError};
-use chess_board::{Kind, Move, Square};
 use line_io::Out;
+use std::process::Abort;
 
-const E2E4: Move = Move {
-    from: Square { index: 12 },
-    to: Square { index: 28 },
-    promotion: None,
-};
+// A line, the kind of the reply, and the reply.
+const REPLIES: &str =
+    "feature option=\"Resign -check 0\"|feature|name=option|value=\"Resign -check 0\"
+feature done=1|feature|name=done|value=1
+pong 1|pong|number=1
+move e2e4|move|move=e2e4
+move a7a8n|move|move=a7a8n
+Illegal move: e2e4|illegal|move=e2e4
+Illegal move (game too long): e2e4|illegal long|move=e2e4
+Error (unknown command): foo|unknown command|line=foo
+Error (line too long): ...|line too long|line=...
+tellusererror Illegal position|illegal position
+1/2-1/2 {Draw by repetition}|repetition
+Hint: e1g1|hint|move=e1g1";
 
-const E1G1: Move = Move {
-    from: Square { index: 4 },
-    to: Square { index: 6 },
-    promotion: None,
-};
+const THINKING: &str =
+    "12 -35 1518 456789 e2e4 a7a8n|coordinates|depth=12|score=-35|time=1518|nodes=456789|pv=e2e4 a7a8n
+1 0 0 20 (e2e4) e1g1|coordinates|depth=1|score=0|time=0|nodes=20|hint=e2e4|pv=e1g1
+stat01: 1234 30000 7 5 30|stat01|time=1234|nodes=30000|depth=7|left=5|all=30
+stat01: 1234 30000 7 5 30 e2e4|stat01|time=1234|nodes=30000|depth=7|left=5|all=30|move=e2e4";
 
-const A7A8N: Move = Move {
-    from: Square { index: 48 },
-    to: Square { index: 56 },
-    promotion: Some(Kind::Knight),
-};
+// Thinking lines in standard algebraic notation.
+const SANS: &str = "1 0 0 20 O-O O-O-O Rf8|san|depth=1|score=0|time=0|nodes=20|pv=O-O O-O-O Rf8
+1 0 0 20 (Nf3) Nc6 Bb5|san|depth=1|score=0|time=0|nodes=20|hint=Nf3|pv=Nc6 Bb5
+1 0 0 20 a8=Q+ Ke7 h8=N axb1=B|san|depth=1|score=0|time=0|nodes=20|pv=a8=Q+ Ke7 h8=N axb1=B
+1 0 0 20 Qh5d5 Qad5 Q1d5 Qhe5+|san|depth=1|score=0|time=0|nodes=20|pv=Qh5d5 Qad5 Q1d5 Qhe5+
+1 0 0 20 (exd5) Qf6+ Kg8 Qd8#|san|depth=1|score=0|time=0|nodes=20|hint=exd5|pv=Qf6+ Kg8 Qd8#
+1 0 0 20 Rxa8+ R1xh8 Qa1xb2+ O-O-O#|san|depth=1|score=0|time=0|nodes=20|pv=Rxa8+ R1xh8 Qa1xb2+ O-O-O#";
 
-const READ: [(&str, Option<Reply>); 40] = [
-    (
-        "feature option=\"Resign -check 0\"",
-        Some(Reply::Feature {
-            name: b"option",
-            value: b"\"Resign -check 0\"",
-        }),
-    ),
-    (
-        "feature done=1",
-        Some(Reply::Feature {
-            name: b"done",
-            value: b"1",
-        }),
-    ),
-    ("pong 1", Some(Reply::Pong(1))),
-    ("move e2e4", Some(Reply::Move(E2E4))),
-    ("move a7a8n", Some(Reply::Move(A7A8N))),
-    ("Illegal move: e2e4", Some(Reply::Illegal(E2E4))),
-    (
-        "Illegal move (game too long): e2e4",
-        Some(Reply::IllegalLong(E2E4)),
-    ),
-    (
-        "Error (unknown command): foo",
-        Some(Reply::Error {
-            reason: Reason::UnknownCommand,
-            line: b"foo",
-        }),
-    ),
-    (
-        "Error (line too long): ...",
-        Some(Reply::Error {
-            reason: Reason::LineTooLong,
-            line: b"...",
-        }),
-    ),
-    (
-        "tellusererror Illegal position",
-        Some(Reply::TellError(UserError::Position)),
-    ),
-    (
-        "1/2-1/2 {Draw by repetition}",
-        Some(Reply::Result(Outcome::Repetition)),
-    ),
-    ("Hint: e1g1", Some(Reply::Hint(E1G1))),
-    (
-        "12 -35 1518 456789 e2e4 a7a8n",
-        Some(Reply::Thinking {
-            depth: 12,
-            score: -35,
-            time: 1518,
-            nodes: 456_789,
-            spelling: Spelling::Coordinates,
-            hint: None,
-            pv: b"e2e4 a7a8n",
-        }),
-    ),
-    (
-        "1 0 0 20 (e2e4) e1g1",
-        Some(Reply::Thinking {
-            depth: 1,
-            score: 0,
-            time: 0,
-            nodes: 20,
-            spelling: Spelling::Coordinates,
-            hint: Some(b"e2e4"),
-            pv: b"e1g1",
-        }),
-    ),
-    (
-        "stat01: 1234 30000 7 5 30",
-        Some(Reply::Stat01 {
-            time: 1234,
-            nodes: 30_000,
-            depth: 7,
-            left: 5,
-            all: 30,
-            current: None,
-        }),
-    ),
-    (
-        "stat01: 1234 30000 7 5 30 e2e4",
-        Some(Reply::Stat01 {
-            time: 1234,
-            nodes: 30_000,
-            depth: 7,
-            left: 5,
-            all: 30,
-            current: Some(E2E4),
-        }),
-    ),
-    // thinking lines in standard algebraic notation
-    (
-        "1 0 0 20 O-O O-O-O Rf8",
-        Some(Reply::Thinking {
-            depth: 1,
-            score: 0,
-            time: 0,
-            nodes: 20,
-            spelling: Spelling::San,
-            hint: None,
-            pv: b"O-O O-O-O Rf8",
-        }),
-    ),
-    (
-        "1 0 0 20 (Nf3) Nc6 Bb5",
-        Some(Reply::Thinking {
-            depth: 1,
-            score: 0,
-            time: 0,
-            nodes: 20,
-            spelling: Spelling::San,
-            hint: Some(b"Nf3"),
-            pv: b"Nc6 Bb5",
-        }),
-    ),
-    (
-        "1 0 0 20 a8=Q+ Ke7 h8=N axb1=B",
-        Some(Reply::Thinking {
-            depth: 1,
-            score: 0,
-            time: 0,
-            nodes: 20,
-            spelling: Spelling::San,
-            hint: None,
-            pv: b"a8=Q+ Ke7 h8=N axb1=B",
-        }),
-    ),
-    (
-        "1 0 0 20 Qh5d5 Qad5 Q1d5 Qhe5+",
-        Some(Reply::Thinking {
-            depth: 1,
-            score: 0,
-            time: 0,
-            nodes: 20,
-            spelling: Spelling::San,
-            hint: None,
-            pv: b"Qh5d5 Qad5 Q1d5 Qhe5+",
-        }),
-    ),
-    (
-        "1 0 0 20 (exd5) Qf6+ Kg8 Qd8#",
-        Some(Reply::Thinking {
-            depth: 1,
-            score: 0,
-            time: 0,
-            nodes: 20,
-            spelling: Spelling::San,
-            hint: Some(b"exd5"),
-            pv: b"Qf6+ Kg8 Qd8#",
-        }),
-    ),
-    (
-        "1 0 0 20 Rxa8+ R1xh8 Qa1xb2+ O-O-O#",
-        Some(Reply::Thinking {
-            depth: 1,
-            score: 0,
-            time: 0,
-            nodes: 20,
-            spelling: Spelling::San,
-            hint: None,
-            pv: b"Rxa8+ R1xh8 Qa1xb2+ O-O-O#",
-        }),
-    ),
-    // lines that are no replies
-    ("pong 01", None),
-    ("pong 4294967296", None),
-    ("move a7a8N", None),
-    ("Illegal move:e2e4", None),
-    ("Error (bad value): x ", None),
-    ("12 -35 1518 456789 ", None),
-    // thinking lines in neither spelling: both are mixed, or a text is not as it is written
-    ("1 0 0 20 e2e4 Nf6", None),
-    ("1 0 0 20 (e2e4) Nf6", None),
-    ("1 0 0 20 (e4) g8f6", None),
-    ("1 0 0 20 0-0", None),
-    ("1 0 0 20 Nf3!", None),
-    ("1 0 0 20 Nf3+#", None),
-    ("1 0 0 20 e8Q", None),
-    ("1 0 0 20 e8", None),
-    ("1 0 0 20 e5=Q", None),
-    ("1 0 0 20 ed5", None),
-    ("1 0 0 20 Kfg1", None),
-    ("1 0 0 20 Nf3  Nc6", None),
-];
+// Lines that are no replies.
+const NONE: &str = "pong 01|none
+pong 4294967296|none
+move a7a8N|none
+Illegal move:e2e4|none
+Error (bad value): x |none
+12 -35 1518 456789 |none";
+
+// Thinking lines in neither spelling: both are mixed, or a text is not as it is written.
+const UNSPELLED: &str = "1 0 0 20 e2e4 Nf6|none
+1 0 0 20 (e2e4) Nf6|none
+1 0 0 20 (e4) g8f6|none
+1 0 0 20 0-0|none
+1 0 0 20 Nf3!|none
+1 0 0 20 Nf3+#|none
+1 0 0 20 e8Q|none
+1 0 0 20 e8|none
+1 0 0 20 e5=Q|none
+1 0 0 20 ed5|none
+1 0 0 20 Kfg1|none
+1 0 0 20 Nf3  Nc6|none";
+
+fn thinking<'a>(rt: &impl Abort, spelling: Spelling, fields: &'a str) -> Reply<'a> {
+    Reply::Thinking {
+        depth: number_of(rt, fields, "depth"),
+        score: signed_of(rt, fields, "score"),
+        time: number_of(rt, fields, "time"),
+        nodes: number_of(rt, fields, "nodes"),
+        spelling,
+        hint: bytes_in(fields, "hint"),
+        pv: bytes_of(rt, fields, "pv"),
+    }
+}
+
+fn refusal<'a>(rt: &impl Abort, reason: Reason, fields: &'a str) -> Reply<'a> {
+    Reply::Error {
+        reason,
+        line: bytes_of(rt, fields, "line"),
+    }
+}
+
+/// The reply of a row whose reply has a move, or a search.
+fn moved<'a>(rt: &impl Abort, kind: &str, fields: &str) -> Reply<'a> {
+    match kind {
+        "move" => Reply::Move(move_of(rt, fields, "move")),
+        "illegal" => Reply::Illegal(move_of(rt, fields, "move")),
+        "illegal long" => Reply::IllegalLong(move_of(rt, fields, "move")),
+        "hint" => Reply::Hint(move_of(rt, fields, "move")),
+        "stat01" => Reply::Stat01 {
+            time: number_of(rt, fields, "time"),
+            nodes: number_of(rt, fields, "nodes"),
+            depth: number_of(rt, fields, "depth"),
+            left: number_of(rt, fields, "left"),
+            all: number_of(rt, fields, "all"),
+            current: move_in(rt, fields, "move"),
+        },
+        _ => panic!(rt; "no reply: {kind}"),
+    }
+}
+
+/// What a row says that a line means.
+fn meant<'a>(rt: &impl Abort, want: &'a str) -> Option<Reply<'a>> {
+    let (kind, fields) = cut(want);
+    Some(match kind {
+        "none" => return None,
+        "feature" => Reply::Feature {
+            name: bytes_of(rt, fields, "name"),
+            value: bytes_of(rt, fields, "value"),
+        },
+        "pong" => Reply::Pong(small_of(rt, fields, "number")),
+        "unknown command" => refusal(rt, Reason::UnknownCommand, fields),
+        "line too long" => refusal(rt, Reason::LineTooLong, fields),
+        "illegal position" => Reply::TellError(UserError::Position),
+        "repetition" => Reply::Result(Outcome::Repetition),
+        "coordinates" => thinking(rt, Spelling::Coordinates, fields),
+        "san" => thinking(rt, Spelling::San, fields),
+        _ => moved(rt, kind, fields),
+    })
+}
+
+fn expect_read(rt: &impl Abort, rows: &str) {
+    for row in rows.split('\n') {
+        let (line, want) = cut(row);
+        expect(rt, read_reply(line.as_bytes()) == meant(rt, want), row);
+    }
+}
 
 #[test]
 fn lines_of_engines(rt: HostRuntime) {
-    for (line, want) in &READ {
-        assert!(rt; read_reply(line.as_bytes()) == *want, "{line}");
+    for rows in [REPLIES, THINKING, SANS, NONE, UNSPELLED] {
+        expect_read(&rt, rows);
     }
 }
 

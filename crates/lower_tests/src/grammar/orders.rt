@@ -1,5 +1,6 @@
 // Orders spelled out by hand, with what each means, and the lists in texts.
-use crate::expect::expect_text;
+use crate::expect::{expect, expect_text};
+use crate::rows::{bytes_in, bytes_of, cut, number_in, number_of, text_of};
 use chess_board::read_move;
 use line_io::Out;
 use std::alloc::Global;
@@ -8,129 +9,100 @@ use uci_lines::{
     BadOrder, GoControl, Order, next_move, next_value, positions_may_stand, read_order, write_order,
 };
 
-const ORDERS: [(&str, Result<Order, BadOrder>); 35] = [
-    ("uci", Ok(Order::Uci)),
-    ("isready", Ok(Order::IsReady)),
-    ("ucinewgame", Ok(Order::NewGame)),
-    ("stop", Ok(Order::Stop)),
-    ("ponderhit", Ok(Order::PonderHit)),
-    ("quit", Ok(Order::Quit)),
-    (
-        "setoption name Clear Hash",
-        Ok(Order::SetOption {
-            name: b"Clear Hash",
-            value: None,
-        }),
-    ),
-    (
-        "setoption name Hash value 32",
-        Ok(Order::SetOption {
-            name: b"Hash",
-            value: Some(b"32"),
-        }),
-    ),
-    (
-        "setoption name value 5",
-        Ok(Order::SetOption {
-            name: b"value 5",
-            value: None,
-        }),
-    ),
-    (
-        "setoption name A value b value c",
-        Ok(Order::SetOption {
-            name: b"A",
-            value: Some(b"b value c"),
-        }),
-    ),
-    (
-        "position startpos",
-        Ok(Order::Position {
-            fen: None,
-            moves: b"",
-        }),
-    ),
-    (
-        "position startpos moves e2e4 e7e8q",
-        Ok(Order::Position {
-            fen: None,
-            moves: b"e2e4 e7e8q",
-        }),
-    ),
-    (
-        "position fen 4k3/8/8/8/8/8/8/4K2R w K - 0 1 moves h1h8",
-        Ok(Order::Position {
-            fen: Some(b"4k3/8/8/8/8/8/8/4K2R w K - 0 1"),
-            moves: b"h1h8",
-        }),
-    ),
-    (
-        "go infinite",
-        Ok(Order::Go {
-            ponder: false,
-            control: GoControl::Infinite,
-            depth: None,
-        }),
-    ),
-    (
-        "go ponder movetime 500 depth 8",
-        Ok(Order::Go {
-            ponder: true,
-            control: GoControl::MoveTime(500),
-            depth: Some(8),
-        }),
-    ),
-    (
-        "go wtime 300000 btime 1 winc 0 binc 0",
-        Ok(Order::Go {
-            ponder: false,
-            control: GoControl::Clock {
-                wtime: 300000,
-                btime: 1,
-                winc: 0,
-                binc: 0,
-                movestogo: None,
-            },
-            depth: None,
-        }),
-    ),
-    (
-        "go ponder wtime 1 btime 2 winc 3 binc 4 movestogo 5 depth 6",
-        Ok(Order::Go {
-            ponder: true,
-            control: GoControl::Clock {
-                wtime: 1,
-                btime: 2,
-                winc: 3,
-                binc: 4,
-                movestogo: Some(5),
-            },
-            depth: Some(6),
-        }),
-    ),
-    // lines that spell no order
-    ("", Err(BadOrder)),
-    ("uci ", Err(BadOrder)),
-    ("Uci", Err(BadOrder)),
-    ("setoption name ", Err(BadOrder)),
-    ("setoption name Hash value ", Err(BadOrder)),
-    ("setoption name  Hash", Err(BadOrder)),
-    ("position", Err(BadOrder)),
-    ("position startpos moves", Err(BadOrder)),
-    ("position startpos moves ", Err(BadOrder)),
-    ("position startpos moves e2e4  e7e5", Err(BadOrder)),
-    ("position startpos moves e7e8Q", Err(BadOrder)),
-    ("position fen 4k3/8/8/8/8/8/8/4K2R w K - 0", Err(BadOrder)),
-    ("go", Err(BadOrder)),
-    ("go ponder infinite", Err(BadOrder)),
-    ("go infinite depth 3", Err(BadOrder)),
-    ("go movetime 05", Err(BadOrder)),
-    ("go movetime 0", Err(BadOrder)),
-    (
-        "go wtime 1 btime 1 winc 0 binc 0 movestogo 0",
-        Err(BadOrder),
-    ),
+// A line, the kind of the order, and the order.
+const ORDERS: &str = "uci|uci
+isready|isready
+ucinewgame|ucinewgame
+stop|stop
+ponderhit|ponderhit
+quit|quit
+setoption name Clear Hash|setoption|name=Clear Hash
+setoption name Hash value 32|setoption|name=Hash|value=32
+setoption name value 5|setoption|name=value 5
+setoption name A value b value c|setoption|name=A|value=b value c
+position startpos|position|moves=
+position startpos moves e2e4 e7e8q|position|moves=e2e4 e7e8q
+position fen 4k3/8/8/8/8/8/8/4K2R w K - 0 1 moves h1h8|position|fen=4k3/8/8/8/8/8/8/4K2R w K - 0 1|moves=h1h8
+go infinite|go|ponder=false|control=infinite
+go ponder movetime 500 depth 8|go|ponder=true|control=movetime|time=500|depth=8
+go wtime 300000 btime 1 winc 0 binc 0|go|ponder=false|control=clock|wtime=300000|btime=1|winc=0|binc=0
+go ponder wtime 1 btime 2 winc 3 binc 4 movestogo 5 depth 6|go|ponder=true|control=clock|wtime=1|btime=2|winc=3|binc=4|movestogo=5|depth=6";
+
+// Lines that spell no order.
+const NO_ORDERS: [&str; 18] = [
+    "",
+    "uci ",
+    "Uci",
+    "setoption name ",
+    "setoption name Hash value ",
+    "setoption name  Hash",
+    "position",
+    "position startpos moves",
+    "position startpos moves ",
+    "position startpos moves e2e4  e7e5",
+    "position startpos moves e7e8Q",
+    "position fen 4k3/8/8/8/8/8/8/4K2R w K - 0",
+    "go",
+    "go ponder infinite",
+    "go infinite depth 3",
+    "go movetime 05",
+    "go movetime 0",
+    "go wtime 1 btime 1 winc 0 binc 0 movestogo 0",
 ];
+
+fn control_of(rt: &impl Abort, fields: &str) -> GoControl {
+    match text_of(rt, fields, "control") {
+        "infinite" => GoControl::Infinite,
+        "movetime" => GoControl::MoveTime(number_of(rt, fields, "time")),
+        _ => GoControl::Clock {
+            wtime: number_of(rt, fields, "wtime"),
+            btime: number_of(rt, fields, "btime"),
+            winc: number_of(rt, fields, "winc"),
+            binc: number_of(rt, fields, "binc"),
+            movestogo: number_in(rt, fields, "movestogo"),
+        },
+    }
+}
+
+/// What a row says that a line means.
+fn meant<'a>(rt: &impl Abort, want: &'a str) -> Order<'a> {
+    let (kind, fields) = cut(want);
+    match kind {
+        "uci" => Order::Uci,
+        "isready" => Order::IsReady,
+        "ucinewgame" => Order::NewGame,
+        "stop" => Order::Stop,
+        "ponderhit" => Order::PonderHit,
+        "quit" => Order::Quit,
+        "setoption" => Order::SetOption {
+            name: bytes_of(rt, fields, "name"),
+            value: bytes_in(fields, "value"),
+        },
+        "position" => Order::Position {
+            fen: bytes_in(fields, "fen"),
+            moves: bytes_of(rt, fields, "moves"),
+        },
+        "go" => Order::Go {
+            ponder: text_of(rt, fields, "ponder") == "true",
+            control: control_of(rt, fields),
+            depth: number_in(rt, fields, "depth"),
+        },
+        _ => panic!(rt; "no order: {kind}"),
+    }
+}
+
+fn expect_orders(rt: &impl Abort, rows: &str) {
+    for row in rows.split('\n') {
+        let (line, want) = cut(row);
+        expect(rt, read_order(line.as_bytes()) == Ok(meant(rt, want)), row);
+    }
+}
+
+fn expect_no_orders(rt: &impl Abort, lines: &[&str]) {
+    for line in lines {
+        expect(rt, read_order(line.as_bytes()) == Err(BadOrder), line);
+    }
+}
 
 /// Expects the first value of a text, and returns what is after it.
 fn expect_value<'a>(rt: &impl Abort, text: &'a [u8], want: &str) -> &'a [u8] {
@@ -142,7 +114,7 @@ fn expect_value<'a>(rt: &impl Abort, text: &'a [u8], want: &str) -> &'a [u8] {
 /// Expects the first move of a text, and returns what is after it.
 fn expect_move<'a>(rt: &impl Abort, text: &'a [u8], want: &str) -> &'a [u8] {
     let (m, others) = next_move(text).expect(rt, "a move");
-    assert!(rt; Some(m) == read_move(want.as_bytes()), "{want}");
+    expect(rt, Some(m) == read_move(want.as_bytes()), want);
     others
 }
 
@@ -151,10 +123,10 @@ fn expect_lists(rt: &impl Abort) {
     let others = expect_value(rt, combo, "Always");
     let others = expect_value(rt, others, "Fail  High");
     let others = expect_value(rt, others, "");
-    assert!(rt; next_value(others).is_none(), "no fourth value");
+    expect(rt, next_value(others).is_none(), "no fourth value");
     let others = expect_move(rt, b"e2e4 e7e5 x", "e2e4");
     let others = expect_move(rt, others, "e7e5");
-    assert!(rt; next_move(others).is_none(), "no third move");
+    expect(rt, next_move(others).is_none(), "no third move");
 }
 
 #[tactic(auto, unfolding(uci_lines::specs::Orders::order_text))]
@@ -167,9 +139,8 @@ fn expect_written(rt: &impl Abort, alloc: Global) {
 #[test]
 fn orders(rt: HostRuntime) {
     positions_may_stand();
-    for (line, want) in &ORDERS {
-        assert!(rt; read_order(line.as_bytes()) == *want, "{line}");
-    }
+    expect_orders(&rt, ORDERS);
+    expect_no_orders(&rt, &NO_ORDERS);
     expect_lists(&rt);
     expect_written(&rt, rt.alloc());
 }

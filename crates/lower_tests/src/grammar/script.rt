@@ -1,7 +1,10 @@
 // Marks, headers, step lines and the texts of steps.
+ghost use Rattle.std.specs.Prelude.{◌≤◌, length};
+ghost use Rattle.line_io.specs.Event.{event_of};
 ghost use Rattle.policy_rules.specs.Policy.{IsProper};
+ghost use Rattle.script_lines.specs.Marks.{event_marked};
 
-use crate::expect::expect_text;
+use crate::expect::{expect, expect_text};
 use line_io::{Event, Out};
 use policy_rules::Settings;
 use script_lines::{
@@ -12,22 +15,21 @@ use script_lines::{
 use std::alloc::Global;
 use std::process::Abort;
 
+/// Puts a step of a script without a header, and expects its marks.
+fn expect_step(rt: &impl Abort, event: &Event, told: &[u8], sent: &[u8], want: &str, out: &mut Out)
+    requires { length (event_marked (event_of event.now)) ≤ 99 }
+{
+    out.clear();
+    if out.spare() >= STEP_ROOM && told.len() < 99 && sent.len() < 99 {
+        put_step(event, told, sent, out);
+    }
+    expect_text(rt, out.bytes(), want);
+}
+
 #[test]
 fn steps_are_marked(rt: HostRuntime) {
     let mut out = Out::make(rt.alloc(), STEP_ROOM).expect(&rt, "memory");
-    let event = Event::Iface(b"ping 1");
-    put_step(&event, b"pong 1\n", b"", &mut out);
-    expect_text(&rt, out.bytes(), "x ping 1\nX pong 1\n");
-    out.clear();
-    put_step(&Event::Open, b"", b"uci\n", &mut out);
-    expect_text(&rt, out.bytes(), "U uci\n");
-    out.clear();
-    let told = b"tellusererror Engine ended\nresign\n";
-    put_step(&Event::EngineEnd, told, b"", &mut out);
-    let want = "u.\nX tellusererror Engine ended\nX resign\n";
-    expect_text(&rt, out.bytes(), want);
     // lines to the interface come first
-    out.clear();
     put_written(b"move e7e5\n", b"position startpos\ngo ponder\n", &mut out);
     let want = "X move e7e5\nU position startpos\nU go ponder\n";
     expect_text(&rt, out.bytes(), want);
@@ -39,6 +41,19 @@ fn steps_are_marked(rt: HostRuntime) {
     let told = b"tellusererror Engine ended\n";
     put_numbered_step(2, &Event::EngineLost, told, b"", &mut out);
     expect_text(&rt, out.bytes(), "# 2\nu?\nX tellusererror Engine ended\n");
+    let want = "x ping 1\nX pong 1\n";
+    expect_step(
+        &rt,
+        &Event::Iface(b"ping 1"),
+        b"pong 1\n",
+        b"",
+        want,
+        &mut out,
+    );
+    expect_step(&rt, &Event::Open, b"", b"uci\n", "U uci\n", &mut out);
+    let told = b"tellusererror Engine ended\nresign\n";
+    let want = "u.\nX tellusererror Engine ended\nX resign\n";
+    expect_step(&rt, &Event::EngineEnd, told, b"", want, &mut out);
 }
 
 const MARKS: [&str; 12] = [
@@ -93,7 +108,7 @@ fn reads_what_marks_spell(rt: HostRuntime) {
     let mut out = Out::make(rt.alloc(), 99).expect(&rt, "memory");
     expect_marks(&rt, &MARKS, &mut out);
     for text in &NO_MARKS {
-        assert!(rt; read_mark(text.as_bytes()).is_err(), "{text}");
+        expect(&rt, read_mark(text.as_bytes()).is_err(), text);
     }
     for (letter, length, want) in &LENGTHS {
         let found = is_mark(&rt, rt.alloc(), *letter, *length);
@@ -206,9 +221,10 @@ fn expect_header(rt: &impl Abort, settings: &Settings, text: &str, out: &mut Out
 {
     write(settings, out);
     let written = out.bytes() == text.as_bytes();
-    assert!(rt;
+    expect(
+        rt,
         written && read_header(text.as_bytes()) == Some(*settings),
-        "{text}"
+        text,
     );
 }
 
@@ -218,18 +234,19 @@ fn reads_what_headers_spell(rt: HostRuntime) {
     expect_header(&rt, &Settings::usual(), USUAL, &mut out);
     expect_header(&rt, &ALL_TURNED_SETTINGS, ALL_TURNED, &mut out);
     write(&LONGEST, &mut out);
-    assert!(rt; out.spare() == 0, "no room left");
-    assert!(rt; read_header(out.bytes()) == Some(LONGEST), "longest");
-    assert!(rt;
+    expect(&rt, out.spare() == 0, "no room left");
+    expect(&rt, read_header(out.bytes()) == Some(LONGEST), "longest");
+    expect(
+        &rt,
         read_header(LEAST.as_bytes()) == Some(LEAST_SETTINGS),
-        "least"
+        "least",
     );
     for text in &ONE_TURNED {
         let settings = read_header(text.as_bytes()).expect(&rt, text);
-        assert!(rt; !settings.has_usual_rest(), "{text}");
+        expect(&rt, !settings.has_usual_rest(), text);
     }
     for text in &NO_HEADERS {
-        assert!(rt; read_header(text.as_bytes()).is_none(), "{text}");
+        expect(&rt, read_header(text.as_bytes()).is_none(), text);
     }
 }
 
@@ -268,9 +285,10 @@ fn expect_steps(rt: &impl Abort, rows: &[(u64, &'static str)], out: &mut Out) {
             write_step(*number, out);
         }
         let written = out.bytes() == text.as_bytes();
-        assert!(rt;
+        expect(
+            rt,
             written && read_step(text.as_bytes()) == Some(*number),
-            "{text}"
+            text,
         );
     }
 }
@@ -280,10 +298,10 @@ fn reads_what_step_lines_spell(rt: HostRuntime) {
     let mut out = Out::make(rt.alloc(), 20).expect(&rt, "memory");
     expect_steps(&rt, &STEPS, &mut out);
     for text in &NO_STEPS {
-        assert!(rt; read_step(text.as_bytes()).is_none(), "{text}");
+        expect(&rt, read_step(text.as_bytes()).is_none(), text);
     }
-    assert!(rt; next_number(0) == 1, "after the first");
-    assert!(rt; next_number(LAST) == 0, "after the last");
+    expect(&rt, next_number(0) == 1, "after the first");
+    expect(&rt, next_number(LAST) == 0, "after the last");
     scripts_are_read_back();
     lines_are_of_one_kind();
 }

@@ -1,4 +1,5 @@
 // Orders as interfaces spell them.
+use crate::expect::expect;
 use fen_text::write_fen;
 use peer_words::GoKind;
 use uci_talk::{go_kind, spoken};
@@ -66,12 +67,12 @@ fn is_spoken(line: &str, moves: &str, end: &str) -> bool {
 #[test]
 fn orders_that_can_be_read(rt: HostRuntime) {
     for (line, want) in &KINDS {
-        assert!(rt; go_kind(line.as_bytes()) == *want, "{line}");
+        expect(&rt, go_kind(line.as_bytes()) == *want, line);
     }
     for (line, moves, end) in &POSITIONS {
-        assert!(rt; is_spoken(line, moves, end), "{line}");
+        expect(&rt, is_spoken(line, moves, end), line);
     }
     for line in &NO_POSITIONS {
-        assert!(rt; spoken(line.as_bytes()).is_none(), "{line}");
+        expect(&rt, spoken(line.as_bytes()).is_none(), line);
     }
 }

@@ -1,241 +1,142 @@
 // Lines as engines print them, with what each means.
-use chess_board::{Move, Square, read_move};
+use crate::expect::expect;
+use crate::rows::{
+    bytes_in, bytes_of, cut, move_in, number_in, signed_in, signed_of, text_in, text_of,
+};
 use std::process::Abort;
 use uci_lines::{
     EngineMsg, Info, OptionKind, OptionMsg, Score, lines_say_one_message, read_engine,
 };
 
-const NO_INFO: Info<'static> = Info {
-    depth: None,
-    time: None,
-    nodes: None,
-    multipv: None,
-    number: None,
-    score: None,
-    bound: false,
-    current: None,
-    pv: b"",
-};
+// A line, the kind of what it says, and what it says.
+const SAID: &str = "id name Stockfish 15.1|name|text=Stockfish 15.1
+id name  Toga II\t3.0 \r|name|text=Toga II\t3.0
+uciok\r|uciok
+I am readyok now|readyok
+id author Tord Romstad|nothing
+EgbbProbe not Loaded!|nothing
+|nothing
+option name A type spin default 1 min 0|nothing
+option name A type spin default 1 min 2 max 1|nothing
+option name A type number default 1|nothing
+option Hash type button|nothing";
 
-const A7A5: Move = Move {
-    from: Square { index: 48 },
-    to: Square { index: 32 },
-    promotion: None,
-};
+const OPTIONS: &str = "option name Clear Hash type button|button|name=Clear Hash
+option name Ponder type check default false|check|name=Ponder|on=false
+option name OwnBook type check default true|check|name=OwnBook|on=true
+option name type check|check|name=|on=false
+option name Futility Margin 0 type spin default 50 min 0 max 1000|spin|name=Futility Margin 0|default=50|min=0|max=1000
+option name SyzygyPath type string default <empty>|string|name=SyzygyPath|default=
+option name Debug Log File type string default |string|name=Debug Log File|default=
+option name Bitbases Path type string default /usr/share/my  egbb/|string|name=Bitbases Path|default=/usr/share/my  egbb/
+option name NullMove Pruning type combo default Always var Always var Fail High var Never|combo|name=NullMove Pruning|default=Always|values=default Always var Always var Fail High var Never";
 
-const SAID: [(&str, EngineMsg); 33] = [
-    ("id name Stockfish 15.1", EngineMsg::Name(b"Stockfish 15.1")),
-    ("id name  Toga II\t3.0 \r", EngineMsg::Name(b"Toga II\t3.0")),
-    ("uciok\r", EngineMsg::UciOk),
-    ("I am readyok now", EngineMsg::ReadyOk),
-    // lines that say nothing
-    ("id author Tord Romstad", EngineMsg::Nothing),
-    ("EgbbProbe not Loaded!", EngineMsg::Nothing),
-    ("", EngineMsg::Nothing),
-    (
-        "option name A type spin default 1 min 0",
-        EngineMsg::Nothing,
-    ),
-    (
-        "option name A type spin default 1 min 2 max 1",
-        EngineMsg::Nothing,
-    ),
-    ("option name A type number default 1", EngineMsg::Nothing),
-    ("option Hash type button", EngineMsg::Nothing),
-    (
-        "option name Clear Hash type button",
-        EngineMsg::OptionLine(OptionMsg {
-            name: b"Clear Hash",
-            kind: OptionKind::Button,
-        }),
-    ),
-    (
-        "option name Ponder type check default false",
-        EngineMsg::OptionLine(OptionMsg {
-            name: b"Ponder",
-            kind: OptionKind::Check { on: false },
-        }),
-    ),
-    (
-        "option name OwnBook type check default true",
-        EngineMsg::OptionLine(OptionMsg {
-            name: b"OwnBook",
-            kind: OptionKind::Check { on: true },
-        }),
-    ),
-    (
-        "option name type check",
-        EngineMsg::OptionLine(OptionMsg {
-            name: b"",
-            kind: OptionKind::Check { on: false },
-        }),
-    ),
-    (
-        "option name Futility Margin 0 type spin default 50 min 0 max 1000",
-        EngineMsg::OptionLine(OptionMsg {
-            name: b"Futility Margin 0",
-            kind: OptionKind::Spin {
-                default: 50,
-                min: 0,
-                max: 1000,
-            },
-        }),
-    ),
-    // Any order, the last number counts, and the default is moved into the range.
-    (
-        "option name A type spin max 9 min -5 default 7 default 12",
-        EngineMsg::OptionLine(OptionMsg {
-            name: b"A",
-            kind: OptionKind::Spin {
-                default: 9,
-                min: -5,
-                max: 9,
-            },
-        }),
-    ),
-    (
-        "option name SyzygyPath type string default <empty>",
-        EngineMsg::OptionLine(OptionMsg {
-            name: b"SyzygyPath",
-            kind: OptionKind::Text { default: b"" },
-        }),
-    ),
-    (
-        "option name Debug Log File type string default ",
-        EngineMsg::OptionLine(OptionMsg {
-            name: b"Debug Log File",
-            kind: OptionKind::Text { default: b"" },
-        }),
-    ),
-    (
-        "option name Bitbases Path type string default /usr/share/my  egbb/",
-        EngineMsg::OptionLine(OptionMsg {
-            name: b"Bitbases Path",
-            kind: OptionKind::Text {
-                default: b"/usr/share/my  egbb/",
-            },
-        }),
-    ),
-    (
-        "option name NullMove Pruning type combo default Always var Always var Fail High var Never",
-        EngineMsg::OptionLine(OptionMsg {
-            name: b"NullMove Pruning",
-            kind: OptionKind::Combo {
-                default: b"Always",
-                values: b"default Always var Always var Fail High var Never",
-            },
-        }),
-    ),
-    // The first default counts.
-    (
-        "option name S type combo var A default A default B",
-        EngineMsg::OptionLine(OptionMsg {
-            name: b"S",
-            kind: OptionKind::Combo {
-                default: b"A",
-                values: b"var A default A default B",
-            },
-        }),
-    ),
-    (
-        "info depth 1 seldepth 1 multipv 1 score cp -129 nodes 132 nps 132000 time 1 pv f6d5",
-        EngineMsg::Info(Info {
-            depth: Some(1),
-            time: Some(1),
-            nodes: Some(132),
-            multipv: Some(1),
-            score: Some(Score::Cp(-129)),
-            pv: b"f6d5",
-            ..NO_INFO
-        }),
-    ),
-    (
-        "info depth 194 score mate 2 nodes 18628 time 10 pv a4d1 g4h3 c5h5",
-        EngineMsg::Info(Info {
-            depth: Some(194),
-            time: Some(10),
-            nodes: Some(18628),
-            score: Some(Score::Mate(2)),
-            pv: b"a4d1 g4h3 c5h5",
-            ..NO_INFO
-        }),
-    ),
-    (
-        "info depth 17 score cp 38 upperbound",
-        EngineMsg::Info(Info {
-            depth: Some(17),
-            score: Some(Score::Cp(38)),
-            bound: true,
-            ..NO_INFO
-        }),
-    ),
-    // A later value replaces an earlier one; what is no value does not.
-    (
-        "info depth 3 depth 007 depth x time 5",
-        EngineMsg::Info(Info {
-            depth: Some(7),
-            time: Some(5),
-            ..NO_INFO
-        }),
-    ),
-    (
-        "info score cp time 7",
-        EngineMsg::Info(Info {
-            time: Some(7),
-            ..NO_INFO
-        }),
-    ),
-    (
-        "info score mate -3",
-        EngineMsg::Info(Info {
-            score: Some(Score::Mate(-3)),
-            ..NO_INFO
-        }),
-    ),
-    (
-        "info currmove a7a5 currmovenumber 12",
-        EngineMsg::Info(Info {
-            current: Some(A7A5),
-            number: Some(12),
-            ..NO_INFO
-        }),
-    ),
-    // lines of which no word counts
-    ("info string depth 9", EngineMsg::Info(NO_INFO)),
-    ("info nodes 1000000000000000000", EngineMsg::Info(NO_INFO)),
-    ("info", EngineMsg::Info(NO_INFO)),
-    ("info pv", EngineMsg::Info(NO_INFO)),
-];
+// Of a range any order will do, the last number counts, and the default is moved into the range. Of
+// a choice the first default counts.
+const DEFAULTS: &str =
+    "option name A type spin max 9 min -5 default 7 default 12|spin|name=A|default=9|min=-5|max=9
+option name S type combo var A default A default B|combo|name=S|default=A|values=var A default A default B";
 
-// An engine's line, the move it names as the best, and the answer it expects: empty if it names
-// none.
-type Named = (&'static str, &'static str, &'static str);
+// A later value replaces an earlier one; what is no value does not. Of the last four no word counts.
+const REPORTS: &str =
+    "info depth 1 seldepth 1 multipv 1 score cp -129 nodes 132 nps 132000 time 1 pv f6d5|info|depth=1|time=1|nodes=132|multipv=1|cp=-129|pv=f6d5
+info depth 194 score mate 2 nodes 18628 time 10 pv a4d1 g4h3 c5h5|info|depth=194|time=10|nodes=18628|mate=2|pv=a4d1 g4h3 c5h5
+info depth 17 score cp 38 upperbound|info|depth=17|cp=38|bound=true
+info depth 3 depth 007 depth x time 5|info|depth=7|time=5
+info score cp time 7|info|time=7
+info score mate -3|info|mate=-3
+info currmove a7a5 currmovenumber 12|info|current=a7a5|number=12
+info string depth 9|info
+info nodes 1000000000000000000|info
+info|info
+info pv|info";
 
-const BEST_MOVES: [Named; 7] = [
-    ("bestmove a1a6 ponder g7f7", "a1a6", "g7f7"),
-    ("bestmove e7e8Q", "e7e8q", ""),
-    ("bestmove e2e4 e7e5", "e2e4", ""),
-    ("bestmove e2e4 foo ponder e7e5", "e2e4", "e7e5"),
-    ("bestmove (none)", "", ""),
-    ("bestmove", "", ""),
-    ("bestmove ponder e2e4", "", ""),
-];
+// The move that is the best, and the answer that is expected, each if it is named.
+const BEST_MOVES: &str = "bestmove a1a6 ponder g7f7|best|best=a1a6|hint=g7f7
+bestmove e7e8Q|best|best=e7e8q
+bestmove e2e4 e7e5|best|best=e2e4
+bestmove e2e4 foo ponder e7e5|best|best=e2e4|hint=e7e5
+bestmove (none)|best
+bestmove|best
+bestmove ponder e2e4|best";
 
-fn expect_best(rt: &impl Abort, rows: &[Named]) {
-    for (line, best, hint) in rows {
-        let want = EngineMsg::Best {
-            best: read_move(best.as_bytes()),
-            hint: read_move(hint.as_bytes()),
-        };
-        assert!(rt; read_engine(line.as_bytes()) == want, "{line}");
+fn score_in(rt: &impl Abort, fields: &str) -> Option<Score> {
+    if let Some(score) = signed_in(rt, fields, "cp") {
+        return Some(Score::Cp(score));
+    }
+    match signed_in(rt, fields, "mate") {
+        Some(moves) => Some(Score::Mate(moves)),
+        None => None,
+    }
+}
+
+fn info_of<'a>(rt: &impl Abort, fields: &'a str) -> Info<'a> {
+    Info {
+        depth: number_in(rt, fields, "depth"),
+        time: number_in(rt, fields, "time"),
+        nodes: number_in(rt, fields, "nodes"),
+        multipv: number_in(rt, fields, "multipv"),
+        number: number_in(rt, fields, "number"),
+        score: score_in(rt, fields),
+        bound: text_in(fields, "bound").is_some(),
+        current: move_in(rt, fields, "current"),
+        pv: bytes_in(fields, "pv").unwrap_or(b""),
+    }
+}
+
+fn option_of<'a>(rt: &impl Abort, kind: &str, fields: &'a str) -> OptionKind<'a> {
+    match kind {
+        "button" => OptionKind::Button,
+        "check" => OptionKind::Check {
+            on: text_of(rt, fields, "on") == "true",
+        },
+        "spin" => OptionKind::Spin {
+            default: signed_of(rt, fields, "default"),
+            min: signed_of(rt, fields, "min"),
+            max: signed_of(rt, fields, "max"),
+        },
+        "combo" => OptionKind::Combo {
+            default: bytes_of(rt, fields, "default"),
+            values: bytes_of(rt, fields, "values"),
+        },
+        "string" => OptionKind::Text {
+            default: bytes_of(rt, fields, "default"),
+        },
+        _ => panic!(rt; "no kind: {kind}"),
+    }
+}
+
+/// What a row says that a line means.
+fn meant<'a>(rt: &impl Abort, want: &'a str) -> EngineMsg<'a> {
+    let (kind, fields) = cut(want);
+    match kind {
+        "nothing" => EngineMsg::Nothing,
+        "name" => EngineMsg::Name(bytes_of(rt, fields, "text")),
+        "uciok" => EngineMsg::UciOk,
+        "readyok" => EngineMsg::ReadyOk,
+        "info" => EngineMsg::Info(info_of(rt, fields)),
+        "best" => EngineMsg::Best {
+            best: move_in(rt, fields, "best"),
+            hint: move_in(rt, fields, "hint"),
+        },
+        _ => EngineMsg::OptionLine(OptionMsg {
+            name: bytes_of(rt, fields, "name"),
+            kind: option_of(rt, kind, fields),
+        }),
+    }
+}
+
+fn expect_said(rt: &impl Abort, rows: &str) {
+    for row in rows.split('\n') {
+        let (line, want) = cut(row);
+        expect(rt, read_engine(line.as_bytes()) == meant(rt, want), row);
     }
 }
 
 #[test]
 fn engine_lines(rt: HostRuntime) {
-    for (line, want) in &SAID {
-        assert!(rt; read_engine(line.as_bytes()) == *want, "{line}");
+    for rows in [SAID, OPTIONS, DEFAULTS, REPORTS, BEST_MOVES] {
+        expect_said(&rt, rows);
     }
-    expect_best(&rt, &BEST_MOVES);
     lines_say_one_message();
 }

@@ -1,5 +1,5 @@
 // Tokens and numbers as both protocols have them.
-use crate::expect::expect_text;
+use crate::expect::{expect, expect_text};
 use peer_words::{
     is_white, named, next_token, read_centis, read_count, read_digits, read_number, read_seconds,
     read_signed, split_at_white, split_token, trim, trim_end, trim_start,
@@ -34,20 +34,20 @@ const SECONDS: [(&str, Option<u64>); 6] = [
 #[test]
 fn numbers_are_read(rt: HostRuntime) {
     for (text, want) in &NUMBERS {
-        assert!(rt; read_number(text.as_bytes()) == *want, "{text}");
+        expect(&rt, read_number(text.as_bytes()) == *want, text);
     }
-    assert!(rt; read_digits(b"42", 2) == Some(42), "42");
-    assert!(rt; read_digits(b"042", 2).is_none(), "042");
+    expect(&rt, read_digits(b"42", 2) == Some(42), "42");
+    expect(&rt, read_digits(b"042", 2).is_none(), "042");
     let most = Some(999_999_999_999_999_999);
-    assert!(rt; read_count(b"999999999999999999") == most, "most");
-    assert!(rt; read_count(b"1000000000000000000").is_none(), "more");
+    expect(&rt, read_count(b"999999999999999999") == most, "most");
+    expect(&rt, read_count(b"1000000000000000000").is_none(), "more");
     for (text, want) in &SIGNED {
-        assert!(rt; read_signed(text.as_bytes()) == *want, "{text}");
+        expect(&rt, read_signed(text.as_bytes()) == *want, text);
     }
-    assert!(rt; read_centis(b"-100") == Some(-100), "-100");
-    assert!(rt; read_centis(b"30000") == Some(30_000), "30000");
+    expect(&rt, read_centis(b"-100") == Some(-100), "-100");
+    expect(&rt, read_centis(b"30000") == Some(30_000), "30000");
     for (text, want) in &SECONDS {
-        assert!(rt; read_seconds(text.as_bytes()) == *want, "{text}");
+        expect(&rt, read_seconds(text.as_bytes()) == *want, text);
     }
 }
 
@@ -82,7 +82,7 @@ fn lines_are_cut_at_white_space(rt: HostRuntime) {
     expect_text(&rt, word, "level");
     expect_text(&rt, rest, "40 5");
     let (none, after) = split_token(b" \r");
-    assert!(rt; none.is_empty() && after.is_empty(), "no token");
+    expect(&rt, none.is_empty() && after.is_empty(), "no token");
     let (front, behind) = split_at_white(b"level\t40 5");
     expect_text(&rt, front, "level");
     expect_text(&rt, behind, "\t40 5");
@@ -91,9 +91,9 @@ fn lines_are_cut_at_white_space(rt: HostRuntime) {
 #[test]
 fn tokens_and_words_are_found(rt: HostRuntime) {
     for (text, want) in &TOKENS {
-        assert!(rt; next_token(text.as_bytes()) == *want, "{text}");
+        expect(&rt, next_token(text.as_bytes()) == *want, text);
     }
-    assert!(rt; named(&WORDS, b"one") == Some(1), "one");
-    assert!(rt; named(&WORDS, b"two") == Some(2), "two");
-    assert!(rt; named(&WORDS, b"three").is_none(), "three");
+    expect(&rt, named(&WORDS, b"one") == Some(1), "one");
+    expect(&rt, named(&WORDS, b"two") == Some(2), "two");
+    expect(&rt, named(&WORDS, b"three").is_none(), "three");
 }

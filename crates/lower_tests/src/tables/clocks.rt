@@ -2,6 +2,7 @@
 ghost use Rattle.clock_map.specs.Clocks.{AreShort};
 
 use crate::expect::{expect_text, room};
+use crate::rows::cut;
 use cecp_lines::read_iface;
 use chess_board::Side;
 use chess_board::Side::{Black, White};
@@ -30,104 +31,61 @@ fn write(clocks: &Clocks, side: Side, plies: u32, kind: GoKind, out: &mut Out)
     }
 }
 
-/// Two lines of the interface, then the side on move, the half-moves played and the kind of a search, and its `go` line.
-type ClockedSearch = (&'static str, &'static str, Side, u32, GoKind, &'static str);
+/// Two lines of the interface, then the side on move, the half-moves played and the kind of a search,
+/// and its `go` line: of a whole game, a clock that ran out, sessions of 40 moves, a time for each
+/// move.
+const SEARCHES: &str = "||white|0|move|go wtime 300000 btime 300000 winc 0 binc 0
+time -50||white|0|move|go wtime 1 btime 300000 winc 0 binc 0
+time 29900|otim 29800|black|1|move|go wtime 298000 btime 299000 winc 0 binc 0
+level 40 0:30 0.5||white|78|move|go wtime 30000 btime 30000 winc 500 binc 500 movestogo 1
+level 40 0:30 0.5||white|80|move|go wtime 30000 btime 30000 winc 500 binc 500 movestogo 40
+level 40 5 0||black|1|move|go wtime 300000 btime 300000 winc 0 binc 0 movestogo 40
+level 40 5 0||black|3|ponder|go ponder wtime 300000 btime 300000 winc 0 binc 0 movestogo 39
+level 40 5 0|sd 8|white|0|move|go wtime 300000 btime 300000 winc 0 binc 0 movestogo 40 depth 8
+st 0.5|sd 6|white|0|move|go movetime 500 depth 6
+st 0|sd 0|white|0|ponder|go ponder movetime 1
+st 0.5|level 0 2:30 1.5|black|1|move|go wtime 150000 btime 150000 winc 1500 binc 1500
+st 0.5|sd 6|white|0|analyse|go infinite";
 
-const SEARCHES: [ClockedSearch; 12] = [
-    // a whole game, and a clock that ran out
-    (
-        "",
-        "",
-        White,
-        0,
-        Move,
-        "go wtime 300000 btime 300000 winc 0 binc 0",
-    ),
-    (
-        "time -50",
-        "",
-        White,
-        0,
-        Move,
-        "go wtime 1 btime 300000 winc 0 binc 0",
-    ),
-    (
-        "time 29900",
-        "otim 29800",
-        Black,
-        1,
-        Move,
-        "go wtime 298000 btime 299000 winc 0 binc 0",
-    ),
-    // sessions of 40 moves
-    (
-        "level 40 0:30 0.5",
-        "",
-        White,
-        78,
-        Move,
-        "go wtime 30000 btime 30000 winc 500 binc 500 movestogo 1",
-    ),
-    (
-        "level 40 0:30 0.5",
-        "",
-        White,
-        80,
-        Move,
-        "go wtime 30000 btime 30000 winc 500 binc 500 movestogo 40",
-    ),
-    (
-        "level 40 5 0",
-        "",
-        Black,
-        1,
-        Move,
-        "go wtime 300000 btime 300000 winc 0 binc 0 movestogo 40",
-    ),
-    (
-        "level 40 5 0",
-        "",
-        Black,
-        3,
-        Ponder,
-        "go ponder wtime 300000 btime 300000 winc 0 binc 0 movestogo 39",
-    ),
-    (
-        "level 40 5 0",
-        "sd 8",
-        White,
-        0,
-        Move,
-        "go wtime 300000 btime 300000 winc 0 binc 0 movestogo 40 depth 8",
-    ),
-    // a time for each move
-    ("st 0.5", "sd 6", White, 0, Move, "go movetime 500 depth 6"),
-    ("st 0", "sd 0", White, 0, Ponder, "go ponder movetime 1"),
-    (
-        "st 0.5",
-        "level 0 2:30 1.5",
-        Black,
-        1,
-        Move,
-        "go wtime 150000 btime 150000 winc 1500 binc 1500",
-    ),
-    ("st 0.5", "sd 6", White, 0, Analyse, "go infinite"),
-];
-
-fn expect_searches(rt: &impl Abort, rows: &[ClockedSearch], out: &mut Out) {
-    for (first, second, side, plies, kind, want) in rows {
-        let mut clocks = Clocks::new();
-        hear(&mut clocks, first.as_bytes());
-        hear(&mut clocks, second.as_bytes());
-        write(&clocks, *side, *plies, *kind, out);
-        expect_text(rt, out.bytes(), want);
+fn side_of(rt: &impl Abort, word: &str) -> Side {
+    match word {
+        "white" => White,
+        "black" => Black,
+        _ => panic!(rt; "no side: {word}"),
     }
+}
+
+fn kind_of(rt: &impl Abort, word: &str) -> GoKind {
+    match word {
+        "move" => Move,
+        "ponder" => Ponder,
+        "analyse" => Analyse,
+        _ => panic!(rt; "no kind: {word}"),
+    }
+}
+
+fn expect_search(rt: &impl Abort, row: &str, out: &mut Out) {
+    let (first, others) = cut(row);
+    let (second, search) = cut(others);
+    let (side, others) = cut(search);
+    let (plies, others) = cut(others);
+    let (kind, want) = cut(others);
+    let side = side_of(rt, side);
+    let plies = plies.parse::<u32>().expect(rt, plies);
+    let kind = kind_of(rt, kind);
+    let mut clocks = Clocks::new();
+    hear(&mut clocks, first.as_bytes());
+    hear(&mut clocks, second.as_bytes());
+    write(&clocks, side, plies, kind, out);
+    expect_text(rt, out.bytes(), want);
 }
 
 #[test]
 fn writes_the_go_lines(rt: HostRuntime) {
     let mut out = room(&rt, rt.alloc(), 113);
-    expect_searches(&rt, &SEARCHES, &mut out);
+    for row in SEARCHES.split('\n') {
+        expect_search(&rt, row, &mut out);
+    }
     // a new game
     let mut clocks = Clocks::new();
     clocks_stay_short();

@@ -1,6 +1,6 @@
 //! Engines by their options, and the features that are offered of them.
 use super::options::declared;
-use crate::expect::{expect_row, room};
+use crate::expect::{expect, room};
 use feature_talk::{
     FeatureTalk, ProtoverAnswer, feature_lists_are_short, shown_name, write_bare_list, write_list,
 };
@@ -26,21 +26,14 @@ feature colors=0
 
 /// The name and the options of an engine, the name that is shown, and what the list has after the
 /// usual lines.
-type Engine = (
-    &'static str,
-    &'static [&'static str],
-    &'static str,
-    &'static str,
-);
+type Engine = (&'static str, &'static str, &'static str, &'static str);
 
 const ENGINES: [Engine; 4] = [
     (
         "Toy 1.0",
-        &[
-            "option name Hash type spin default 16 min 1 max 1024",
-            "option name Ponder type check default false",
-            "option name Style type combo default Normal var Solid var Normal var Risky",
-        ],
+        "option name Hash type spin default 16 min 1 max 1024
+option name Ponder type check default false
+option name Style type combo default Normal var Solid var Normal var Risky",
         "Toy 1.0",
         "feature memory=1
 feature smp=0
@@ -50,7 +43,7 @@ feature done=1
     ),
     (
         "",
-        &["option name MultiPV type spin default 1 min 1 max 5"],
+        "option name MultiPV type spin default 1 min 1 max 5",
         "UCI engine",
         "feature memory=0
 feature smp=0
@@ -61,16 +54,14 @@ feature done=1
     // some of what Stockfish 15.1 declares, with the path of a table base
     (
         "Stockfish 15.1",
-        &[
-            "option name Debug Log File type string default ",
-            "option name Threads type spin default 1 min 1 max 1024",
-            "option name Hash type spin default 16 min 1 max 33554432",
-            "option name NalimovPath type string default <empty>",
-            "option name Clear Hash type button",
-            "option name Ponder type check default false",
-            "option name UCI_Elo type spin default 1350 min 1350 max 2850",
-            "option name Use NNUE type check default true",
-        ],
+        "option name Debug Log File type string default\x20
+option name Threads type spin default 1 min 1 max 1024
+option name Hash type spin default 16 min 1 max 33554432
+option name NalimovPath type string default <empty>
+option name Clear Hash type button
+option name Ponder type check default false
+option name UCI_Elo type spin default 1350 min 1350 max 2850
+option name Use NNUE type check default true",
         "Stockfish 15.1",
         "feature memory=1
 feature smp=1
@@ -84,12 +75,10 @@ feature done=1
     // options of other kinds than the commands need
     (
         "Say \"no\"",
-        &[
-            "option name Hash type check default true",
-            "option name Threads type string default 4",
-            "option name NalimovPath type button",
-            "option name Number of Threads type spin default 1 min 1 max 16",
-        ],
+        "option name Hash type check default true
+option name Threads type string default 4
+option name NalimovPath type button
+option name Number of Threads type spin default 1 min 1 max 16",
         "UCI engine",
         "feature memory=0
 feature smp=0
@@ -108,7 +97,7 @@ fn behind<'a>(rt: &impl Abort, text: &'a [u8], want: &str) -> &'a [u8] {
 fn expect_list(rt: &impl Abort, list: &[u8], shown: &str, others: &str) {
     let named = behind(rt, list, "feature myname=\"");
     let usual = behind(rt, behind(rt, named, shown), "\"\n");
-    expect_row(rt, behind(rt, usual, USUAL), others, shown);
+    expect(rt, behind(rt, usual, USUAL) == others.as_bytes(), shown);
 }
 
 /// Writes the list of an engine, if there is room enough, and compares it.
@@ -150,7 +139,7 @@ const NAMES: [(&str, &str); 5] = [
 
 fn expect_names(rt: &impl Abort, rows: &[(&'static str, &'static str)]) {
     for (said, want) in rows {
-        expect_row(rt, shown_name(said.as_bytes()), want, said);
+        expect(rt, shown_name(said.as_bytes()) == want.as_bytes(), said);
     }
 }
 
@@ -159,8 +148,12 @@ fn shows_names_that_fit(rt: HostRuntime) {
     expect_names(&rt, &NAMES);
     // the longest name that is shown, and a longer one
     let letters = [b'x'; 257];
-    assert!(rt; shown_name(&letters[..256]) == &letters[..256], "longest");
-    expect_row(&rt, shown_name(&letters), USUAL_NAME, "longer");
+    expect(
+        &rt,
+        shown_name(&letters[..256]) == &letters[..256],
+        "longest",
+    );
+    expect(&rt, shown_name(&letters) == USUAL_NAME.as_bytes(), "longer");
 }
 
 /// Expects that each of these holds, in their order.

@@ -1,4 +1,5 @@
 // When a game is resigned and a draw accepted.
+use crate::expect::expect;
 use policy_rules::{Scores, Settings};
 
 /// A score, whether the game is resigned then, and whether a draw is accepted.
@@ -36,7 +37,7 @@ const TWO_LOST: Settings = Settings {
 
 #[test]
 fn counts_the_last_scores(rt: HostRuntime) {
-    assert!(rt; Settings::usual() == USUAL, "usual");
+    expect(&rt, Settings::usual() == USUAL, "usual");
     let mut scores = Scores::new(&TWO_LOST);
     for (k, (score, resigns, accepts)) in TURNS.iter().enumerate() {
         scores.shown(*score);
@@ -45,5 +46,5 @@ fn counts_the_last_scores(rt: HostRuntime) {
     }
     scores.clear();
     scores.shown(Some(-9000));
-    assert!(rt; !scores.resigns() && !scores.accepts_draw(), "cleared");
+    expect(&rt, !scores.resigns() && !scores.accepts_draw(), "cleared");
 }

@@ -1,4 +1,5 @@
 // The table of settings, and the words that choose them.
+use crate::expect::expect;
 use policy_rules::{Range, SETTINGS, Settings, Value, name_in, read_choice, read_number};
 
 /// A word that chooses a value that is not usual.
@@ -62,34 +63,34 @@ const ROWS: [(&str, &str); 9] = [
 #[test]
 fn chooses_each_setting(rt: HostRuntime) {
     let mut settings = Settings::usual();
-    assert!(rt; settings.has_usual_rest(), "usual");
+    expect(&rt, settings.has_usual_rest(), "usual");
     for word in &CHOSEN {
         settings = settings.with(read_choice(word.as_bytes()).expect(&rt, word));
     }
-    assert!(rt; settings == ALL && !settings.has_usual_rest(), "all");
+    expect(&rt, settings == ALL && !settings.has_usual_rest(), "all");
     let zeros = read_choice(b"ResignMoves=007").expect(&rt, "leading zeros");
-    assert!(rt; settings.with(zeros).resign_moves == 7, "leading zeros");
+    expect(&rt, settings.with(zeros).resign_moves == 7, "leading zeros");
 }
 
 #[test]
 fn reads_no_other_words(rt: HostRuntime) {
     for word in &NO_CHOICES {
-        assert!(rt; read_choice(word.as_bytes()).is_none(), "{word}");
+        expect(&rt, read_choice(word.as_bytes()).is_none(), word);
     }
     for word in [b"ShowSan=true=".as_slice(), b"ShowSan"] {
-        assert!(rt; name_in(word) == b"ShowSan".as_slice(), "a name");
+        expect(&rt, name_in(word) == b"ShowSan".as_slice(), "a name");
     }
-    assert!(rt; read_number(b"0042", 4, 42, 42) == Some(42), "a number");
-    assert!(rt; read_number(b"43", 4, 0, 42).is_none(), "too large");
+    expect(&rt, read_number(b"0042", 4, 42, 42) == Some(42), "a number");
+    expect(&rt, read_number(b"43", 4, 0, 42).is_none(), "too large");
 }
 
 #[test]
 fn has_a_row_for_each_setting(rt: HostRuntime) {
     for (setting, (name, usual)) in SETTINGS.iter().zip(&ROWS) {
         let row = setting.row();
-        assert!(rt; row.name == *name && row.usual == *usual, "{name}");
+        expect(&rt, row.name == *name && row.usual == *usual, name);
         let has_numbers = matches!(row.range, Range::Number { .. });
         let value = Settings::usual().value(*setting);
-        assert!(rt; matches!(value, Value::Number(_)) == has_numbers, "{name}");
+        expect(&rt, matches!(value, Value::Number(_)) == has_numbers, name);
     }
 }

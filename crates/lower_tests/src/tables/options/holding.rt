@@ -1,5 +1,5 @@
 // Orders that wait.
-use crate::expect::{expect_text, room};
+use crate::expect::{expect, expect_text, room};
 use line_io::Out;
 use option_map::{AskedOption, HeldOrders, OptionValue, SetupOrder, last_orders_are_held};
 use std::process::Abort;
@@ -64,23 +64,23 @@ fn expect_held(rt: &impl Abort, held: &HeldOrders, out: &mut Out, want: &str, co
     assert!(rt; out.spare() == 65_536);
     held.write(out);
     expect_text(rt, out.bytes(), want);
-    assert!(rt; held.count() == count, "{want}");
+    expect(rt, held.count() == count, want);
 }
 
 /// Adds the order of each line, and compares what is held.
 fn expect_each(rt: &impl Abort, rows: &[Row], held: &mut HeldOrders, out: &mut Out) {
     for (line, want, count) in rows {
-        assert!(rt; add(held, line.as_bytes()), "{line}");
+        expect(rt, add(held, line.as_bytes()), line);
         expect_held(rt, held, out, want, *count);
     }
 }
 
 fn expect_none(rt: &impl Abort, held: &mut HeldOrders) {
     for line in &NO_ORDERS {
-        assert!(rt; !add(held, line.as_bytes()), "{line}");
+        expect(rt, !add(held, line.as_bytes()), line);
     }
     held.clear();
-    assert!(rt; held.count() == 0, "cleared");
+    expect(rt, held.count() == 0, "cleared");
 }
 
 /// An order as data, which sets an option to a value.
@@ -113,29 +113,34 @@ fn holds_orders(rt: HostRuntime) {
 
 /// Holds as many orders as there may be.
 fn fill_count(rt: &impl Abort, held: &mut HeldOrders) {
-    assert!(rt; add(held, b"setoption name A value 1"), "first");
+    expect(rt, add(held, b"setoption name A value 1"), "first");
     for _ in 0..255 {
-        assert!(rt; add(held, b"setoption name B"), "further");
+        expect(rt, add(held, b"setoption name B"), "further");
     }
-    assert!(rt; !held.fits(b"setoption name B"), "one more button");
-    assert!(rt; !held.fits(b"setoption name C value 1"), "one more value");
-    // One that takes the place of another fits.
-    assert!(rt;
-        add(held, b"setoption name A value 2"),
-        "in place of another"
+    expect(rt, !held.fits(b"setoption name B"), "one more button");
+    expect(
+        rt,
+        !held.fits(b"setoption name C value 1"),
+        "one more value",
     );
-    assert!(rt; held.count() == 256, "all");
+    // One that takes the place of another fits.
+    expect(
+        rt,
+        add(held, b"setoption name A value 2"),
+        "in place of another",
+    );
+    expect(rt, held.count() == 256, "all");
     held.clear();
 }
 
 /// Holds as many bytes as there may be: 65,535 and a line feed. The longer line has one more.
 fn fill_bytes(rt: &impl Abort, longer: &[u8], held: &mut HeldOrders) {
     let (_, line) = longer.split_last().expect(rt, "a long line");
-    assert!(rt; add(held, line), "a long one");
-    assert!(rt; !held.fits(b"ucinewgame"), "another");
-    assert!(rt; add(held, line), "in its own place");
-    assert!(rt; held.count() == 1, "a long one");
-    assert!(rt; !held.fits(longer), "a longer one");
+    expect(rt, add(held, line), "a long one");
+    expect(rt, !held.fits(b"ucinewgame"), "another");
+    expect(rt, add(held, line), "in its own place");
+    expect(rt, held.count() == 1, "a long one");
+    expect(rt, !held.fits(longer), "a longer one");
 }
 
 /// What a line begins with that sets an option to a long value.
