@@ -7,6 +7,14 @@ pub(crate) fn cut(row: &str) -> (&str, &str) {
     row.split_once('|').unwrap_or((row, ""))
 }
 
+/// The first letter of a word that tells of what kind a row is: one is enough, and cheap to prove.
+pub(crate) fn first(word: &str) -> u8 {
+    match word.as_bytes() {
+        [letter, ..] => *letter,
+        [] => b' ',
+    }
+}
+
 /// The value of the field of a name. None if there is no such field.
 pub(crate) fn text_in<'a>(fields: &'a str, name: &str) -> Option<&'a str> {
     for field in fields.split('|') {

@@ -1,6 +1,6 @@
 // What no clause says: that the definitions mean the lines that real interfaces and engines write.
 use crate::expect::{expect, expect_text};
-use crate::rows::{bytes_in, bytes_of, cut, move_of, number_of, signed_of, small_of};
+use crate::rows::{bytes_in, bytes_of, cut, first, move_of, number_of, signed_of, small_of};
 use cecp_lines::{
     IfaceFault, IfaceMsg, Outcome, Reply, lines_are_unambiguous, read_iface, replies_are_short,
     write_reply,
@@ -8,9 +8,9 @@ use cecp_lines::{
 use line_io::Out;
 use std::process::Abort;
 
-// A line, the kind of the message, and the message.
+// A line, the kind of the message, by its first letter, and the message.
 const READ: &str = "xboard|ignored|text=xboard
-protover 2|protover|number=2
+protover 2|version|number=2
 accepted analyze|ignored|text=accepted analyze
 ics -|ignored|text=ics -
 name Fairy-Max 5.0b|ignored|text=name Fairy-Max 5.0b
@@ -24,57 +24,57 @@ otim 151|otim|number=151
 memory 68|memory|number=68
 cores 1|cores|number=1
 egtpath syzygy /EGT/Syzygy|egtpath|kind=syzygy|path=/EGT/Syzygy
-option Clear Hash|option|name=Clear Hash
-option Skill Level=5|option|name=Skill Level|value=5
+option Clear Hash|Option|name=Clear Hash
+option Skill Level=5|Option|name=Skill Level|value=5
 usermove a7a8n|usermove|move=a7a8n
-setboard 4k3/8/8/8/8/8/4P3/4K3 b - - 0 1|setboard|text=4k3/8/8/8/8/8/4P3/4K3 b - - 0 1
+setboard 4k3/8/8/8/8/8/4P3/4K3 b - - 0 1|board|text=4k3/8/8/8/8/8/4P3/4K3 b - - 0 1
 result 1-0 {Xboard adjudication: Checkmate}|result
 .|dot
-?|move now
- \t\r|blank
+?|go now
+ \t\r|white
 \tping  007 \r|ping|number=7
 e1g1|usermove|move=e1g1
 a7a8N\r|usermove|move=a7a8n
 st 0.5|st|number=500
 time -12|time|number=-12
-option A=b = c |option|name=A|value=b = c";
+option A=b = c |Option|name=A|value=b = c";
 
 // The first of these is what XBoard 4.9.1 sends.
-const REFUSED: &str = "nps 100000|unknown command
-e2e4 e7e5|unknown command
-E2E4|unknown command
-New|unknown command
-level 40 5:60 0|bad argument
-level 40 5|bad argument
-ping 1234567890|bad argument
-ping 1 2|bad argument
-protover 1|bad argument
-option =5|bad argument
-egtpath nalimov|bad argument";
+const REFUSED: &str = "nps 100000|no command
+e2e4 e7e5|no command
+E2E4|no command
+New|no command
+level 40 5:60 0|argument
+level 40 5|argument
+ping 1234567890|argument
+ping 1 2|argument
+protover 1|argument
+option =5|argument
+egtpath nalimov|argument";
 
 /// The message of a row whose message has no more than its kind.
 fn plain(rt: &impl Abort, kind: &str) -> Result<IfaceMsg<'static>, IfaceFault> {
-    match kind {
-        "result" => Ok(IfaceMsg::Result),
-        "dot" => Ok(IfaceMsg::Dot),
-        "move now" => Ok(IfaceMsg::MoveNow),
-        "blank" => Ok(IfaceMsg::Blank),
-        "unknown command" => Err(IfaceFault::UnknownCommand),
-        "bad argument" => Err(IfaceFault::BadArgument),
+    match first(kind) {
+        b'r' => Ok(IfaceMsg::Result),
+        b'd' => Ok(IfaceMsg::Dot),
+        b'g' => Ok(IfaceMsg::MoveNow),
+        b'w' => Ok(IfaceMsg::Blank),
+        b'n' => Err(IfaceFault::UnknownCommand),
+        b'a' => Err(IfaceFault::BadArgument),
         _ => panic!(rt; "no message: {kind}"),
     }
 }
 
 /// The message of a row whose message has a number alone.
 fn numbered<'a>(rt: &impl Abort, kind: &str, fields: &str) -> IfaceMsg<'a> {
-    match kind {
-        "protover" => IfaceMsg::Protover(small_of(rt, fields, "number")),
-        "ping" => IfaceMsg::Ping(small_of(rt, fields, "number")),
-        "memory" => IfaceMsg::Memory(small_of(rt, fields, "number")),
-        "cores" => IfaceMsg::Cores(small_of(rt, fields, "number")),
-        "st" => IfaceMsg::St(number_of(rt, fields, "number")),
-        "time" => IfaceMsg::Time(signed_of(rt, fields, "number")),
-        "otim" => IfaceMsg::Otim(signed_of(rt, fields, "number")),
+    match first(kind) {
+        b'v' => IfaceMsg::Protover(small_of(rt, fields, "number")),
+        b'p' => IfaceMsg::Ping(small_of(rt, fields, "number")),
+        b'm' => IfaceMsg::Memory(small_of(rt, fields, "number")),
+        b'c' => IfaceMsg::Cores(small_of(rt, fields, "number")),
+        b's' => IfaceMsg::St(number_of(rt, fields, "number")),
+        b't' => IfaceMsg::Time(signed_of(rt, fields, "number")),
+        b'o' => IfaceMsg::Otim(signed_of(rt, fields, "number")),
         _ => panic!(rt; "no message: {kind}"),
     }
 }
@@ -85,20 +85,20 @@ fn meant<'a>(rt: &impl Abort, want: &'a str) -> Result<IfaceMsg<'a>, IfaceFault>
     if fields.is_empty() {
         return plain(rt, kind);
     }
-    Ok(match kind {
-        "ignored" => IfaceMsg::Ignored(bytes_of(rt, fields, "text")),
-        "setboard" => IfaceMsg::SetBoard(bytes_of(rt, fields, "text")),
-        "usermove" => IfaceMsg::UserMove(move_of(rt, fields, "move")),
-        "level" => IfaceMsg::Level {
+    Ok(match first(kind) {
+        b'i' => IfaceMsg::Ignored(bytes_of(rt, fields, "text")),
+        b'b' => IfaceMsg::SetBoard(bytes_of(rt, fields, "text")),
+        b'u' => IfaceMsg::UserMove(move_of(rt, fields, "move")),
+        b'l' => IfaceMsg::Level {
             mps: small_of(rt, fields, "moves"),
             base_ms: number_of(rt, fields, "base"),
             inc_ms: number_of(rt, fields, "increment"),
         },
-        "option" => IfaceMsg::SetOption {
+        b'O' => IfaceMsg::SetOption {
             name: bytes_of(rt, fields, "name"),
             value: bytes_in(fields, "value"),
         },
-        "egtpath" => IfaceMsg::EgtPath {
+        b'e' => IfaceMsg::EgtPath {
             kind: bytes_of(rt, fields, "kind"),
             path: bytes_of(rt, fields, "path"),
         },

@@ -1,12 +1,14 @@
 // What no clause says: that the definitions mean the lines that real engines write.
 use crate::expect::{expect, expect_text};
-use crate::rows::{bytes_in, bytes_of, cut, move_in, move_of, number_of, signed_of, small_of};
+use crate::rows::{
+    bytes_in, bytes_of, cut, first, move_in, move_of, number_of, signed_of, small_of,
+};
 use cecp_iface_side::{read_reply, write_iface, written_messages_are_read_again};
 use cecp_lines::{IfaceMsg, Outcome, Reason, Reply, Spelling, UserError};
 use line_io::Out;
 use std::process::Abort;
 
-// A line, the kind of the reply, and the reply.
+// A line, the kind of the reply, by its first letter, and the reply.
 const REPLIES: &str =
     "feature option=\"Resign -check 0\"|feature|name=option|value=\"Resign -check 0\"
 feature done=1|feature|name=done|value=1
@@ -14,10 +16,10 @@ pong 1|pong|number=1
 move e2e4|move|move=e2e4
 move a7a8n|move|move=a7a8n
 Illegal move: e2e4|illegal|move=e2e4
-Illegal move (game too long): e2e4|illegal long|move=e2e4
-Error (unknown command): foo|unknown command|line=foo
-Error (line too long): ...|line too long|line=...
-tellusererror Illegal position|illegal position
+Illegal move (game too long): e2e4|long game|move=e2e4
+Error (unknown command): foo|unknown|line=foo
+Error (line too long): ...|big line|line=...
+tellusererror Illegal position|told
 1/2-1/2 {Draw by repetition}|repetition
 Hint: e1g1|hint|move=e1g1";
 
@@ -28,12 +30,13 @@ stat01: 1234 30000 7 5 30|stat01|time=1234|nodes=30000|depth=7|left=5|all=30
 stat01: 1234 30000 7 5 30 e2e4|stat01|time=1234|nodes=30000|depth=7|left=5|all=30|move=e2e4";
 
 // Thinking lines in standard algebraic notation.
-const SANS: &str = "1 0 0 20 O-O O-O-O Rf8|san|depth=1|score=0|time=0|nodes=20|pv=O-O O-O-O Rf8
-1 0 0 20 (Nf3) Nc6 Bb5|san|depth=1|score=0|time=0|nodes=20|hint=Nf3|pv=Nc6 Bb5
-1 0 0 20 a8=Q+ Ke7 h8=N axb1=B|san|depth=1|score=0|time=0|nodes=20|pv=a8=Q+ Ke7 h8=N axb1=B
-1 0 0 20 Qh5d5 Qad5 Q1d5 Qhe5+|san|depth=1|score=0|time=0|nodes=20|pv=Qh5d5 Qad5 Q1d5 Qhe5+
-1 0 0 20 (exd5) Qf6+ Kg8 Qd8#|san|depth=1|score=0|time=0|nodes=20|hint=exd5|pv=Qf6+ Kg8 Qd8#
-1 0 0 20 Rxa8+ R1xh8 Qa1xb2+ O-O-O#|san|depth=1|score=0|time=0|nodes=20|pv=Rxa8+ R1xh8 Qa1xb2+ O-O-O#";
+const SANS: &str =
+    "1 0 0 20 O-O O-O-O Rf8|algebraic|depth=1|score=0|time=0|nodes=20|pv=O-O O-O-O Rf8
+1 0 0 20 (Nf3) Nc6 Bb5|algebraic|depth=1|score=0|time=0|nodes=20|hint=Nf3|pv=Nc6 Bb5
+1 0 0 20 a8=Q+ Ke7 h8=N axb1=B|algebraic|depth=1|score=0|time=0|nodes=20|pv=a8=Q+ Ke7 h8=N axb1=B
+1 0 0 20 Qh5d5 Qad5 Q1d5 Qhe5+|algebraic|depth=1|score=0|time=0|nodes=20|pv=Qh5d5 Qad5 Q1d5 Qhe5+
+1 0 0 20 (exd5) Qf6+ Kg8 Qd8#|algebraic|depth=1|score=0|time=0|nodes=20|hint=exd5|pv=Qf6+ Kg8 Qd8#
+1 0 0 20 Rxa8+ R1xh8 Qa1xb2+ O-O-O#|algebraic|depth=1|score=0|time=0|nodes=20|pv=Rxa8+ R1xh8 Qa1xb2+ O-O-O#";
 
 // Lines that are no replies.
 const NONE: &str = "pong 01|none
@@ -78,12 +81,12 @@ fn refusal<'a>(rt: &impl Abort, reason: Reason, fields: &'a str) -> Reply<'a> {
 
 /// The reply of a row whose reply has a move, or a search.
 fn moved<'a>(rt: &impl Abort, kind: &str, fields: &str) -> Reply<'a> {
-    match kind {
-        "move" => Reply::Move(move_of(rt, fields, "move")),
-        "illegal" => Reply::Illegal(move_of(rt, fields, "move")),
-        "illegal long" => Reply::IllegalLong(move_of(rt, fields, "move")),
-        "hint" => Reply::Hint(move_of(rt, fields, "move")),
-        "stat01" => Reply::Stat01 {
+    match first(kind) {
+        b'm' => Reply::Move(move_of(rt, fields, "move")),
+        b'i' => Reply::Illegal(move_of(rt, fields, "move")),
+        b'l' => Reply::IllegalLong(move_of(rt, fields, "move")),
+        b'h' => Reply::Hint(move_of(rt, fields, "move")),
+        b's' => Reply::Stat01 {
             time: number_of(rt, fields, "time"),
             nodes: number_of(rt, fields, "nodes"),
             depth: number_of(rt, fields, "depth"),
@@ -98,19 +101,19 @@ fn moved<'a>(rt: &impl Abort, kind: &str, fields: &str) -> Reply<'a> {
 /// What a row says that a line means.
 fn meant<'a>(rt: &impl Abort, want: &'a str) -> Option<Reply<'a>> {
     let (kind, fields) = cut(want);
-    Some(match kind {
-        "none" => return None,
-        "feature" => Reply::Feature {
+    Some(match first(kind) {
+        b'n' => return None,
+        b'f' => Reply::Feature {
             name: bytes_of(rt, fields, "name"),
             value: bytes_of(rt, fields, "value"),
         },
-        "pong" => Reply::Pong(small_of(rt, fields, "number")),
-        "unknown command" => refusal(rt, Reason::UnknownCommand, fields),
-        "line too long" => refusal(rt, Reason::LineTooLong, fields),
-        "illegal position" => Reply::TellError(UserError::Position),
-        "repetition" => Reply::Result(Outcome::Repetition),
-        "coordinates" => thinking(rt, Spelling::Coordinates, fields),
-        "san" => thinking(rt, Spelling::San, fields),
+        b'p' => Reply::Pong(small_of(rt, fields, "number")),
+        b'u' => refusal(rt, Reason::UnknownCommand, fields),
+        b'b' => refusal(rt, Reason::LineTooLong, fields),
+        b't' => Reply::TellError(UserError::Position),
+        b'r' => Reply::Result(Outcome::Repetition),
+        b'c' => thinking(rt, Spelling::Coordinates, fields),
+        b'a' => thinking(rt, Spelling::San, fields),
         _ => moved(rt, kind, fields),
     })
 }

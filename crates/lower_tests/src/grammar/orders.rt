@@ -1,6 +1,6 @@
 // Orders spelled out by hand, with what each means, and the lists in texts.
 use crate::expect::{expect, expect_text};
-use crate::rows::{bytes_in, bytes_of, cut, number_in, number_of, text_of};
+use crate::rows::{bytes_in, bytes_of, cut, first, number_in, number_of, text_of};
 use chess_board::read_move;
 use line_io::Out;
 use std::alloc::Global;
@@ -9,17 +9,17 @@ use uci_lines::{
     BadOrder, GoControl, Order, next_move, next_value, positions_may_stand, read_order, write_order,
 };
 
-// A line, the kind of the order, and the order.
+// A line, the kind of the order, by its first letter, and the order.
 const ORDERS: &str = "uci|uci
 isready|isready
-ucinewgame|ucinewgame
+ucinewgame|newgame
 stop|stop
-ponderhit|ponderhit
+ponderhit|hit
 quit|quit
-setoption name Clear Hash|setoption|name=Clear Hash
-setoption name Hash value 32|setoption|name=Hash|value=32
-setoption name value 5|setoption|name=value 5
-setoption name A value b value c|setoption|name=A|value=b value c
+setoption name Clear Hash|option|name=Clear Hash
+setoption name Hash value 32|option|name=Hash|value=32
+setoption name value 5|option|name=value 5
+setoption name A value b value c|option|name=A|value=b value c
 position startpos|position|moves=
 position startpos moves e2e4 e7e8q|position|moves=e2e4 e7e8q
 position fen 4k3/8/8/8/8/8/8/4K2R w K - 0 1 moves h1h8|position|fen=4k3/8/8/8/8/8/8/4K2R w K - 0 1|moves=h1h8
@@ -51,9 +51,9 @@ const NO_ORDERS: [&str; 18] = [
 ];
 
 fn control_of(rt: &impl Abort, fields: &str) -> GoControl {
-    match text_of(rt, fields, "control") {
-        "infinite" => GoControl::Infinite,
-        "movetime" => GoControl::MoveTime(number_of(rt, fields, "time")),
+    match first(text_of(rt, fields, "control")) {
+        b'i' => GoControl::Infinite,
+        b'm' => GoControl::MoveTime(number_of(rt, fields, "time")),
         _ => GoControl::Clock {
             wtime: number_of(rt, fields, "wtime"),
             btime: number_of(rt, fields, "btime"),
@@ -67,22 +67,22 @@ fn control_of(rt: &impl Abort, fields: &str) -> GoControl {
 /// What a row says that a line means.
 fn meant<'a>(rt: &impl Abort, want: &'a str) -> Order<'a> {
     let (kind, fields) = cut(want);
-    match kind {
-        "uci" => Order::Uci,
-        "isready" => Order::IsReady,
-        "ucinewgame" => Order::NewGame,
-        "stop" => Order::Stop,
-        "ponderhit" => Order::PonderHit,
-        "quit" => Order::Quit,
-        "setoption" => Order::SetOption {
+    match first(kind) {
+        b'u' => Order::Uci,
+        b'i' => Order::IsReady,
+        b'n' => Order::NewGame,
+        b's' => Order::Stop,
+        b'h' => Order::PonderHit,
+        b'q' => Order::Quit,
+        b'o' => Order::SetOption {
             name: bytes_of(rt, fields, "name"),
             value: bytes_in(fields, "value"),
         },
-        "position" => Order::Position {
+        b'p' => Order::Position {
             fen: bytes_in(fields, "fen"),
             moves: bytes_of(rt, fields, "moves"),
         },
-        "go" => Order::Go {
+        b'g' => Order::Go {
             ponder: text_of(rt, fields, "ponder") == "true",
             control: control_of(rt, fields),
             depth: number_in(rt, fields, "depth"),

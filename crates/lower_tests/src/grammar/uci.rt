@@ -1,41 +1,41 @@
 // Lines as engines print them, with what each means.
 use crate::expect::expect;
 use crate::rows::{
-    bytes_in, bytes_of, cut, move_in, number_in, signed_in, signed_of, text_in, text_of,
+    bytes_in, bytes_of, cut, first, move_in, number_in, signed_in, signed_of, text_in, text_of,
 };
 use std::process::Abort;
 use uci_lines::{
     EngineMsg, Info, OptionKind, OptionMsg, Score, lines_say_one_message, read_engine,
 };
 
-// A line, the kind of what it says, and what it says.
+// A line, the kind of what it says, by its first letter, and what it says.
 const SAID: &str = "id name Stockfish 15.1|name|text=Stockfish 15.1
 id name  Toga II\t3.0 \r|name|text=Toga II\t3.0
 uciok\r|uciok
 I am readyok now|readyok
-id author Tord Romstad|nothing
-EgbbProbe not Loaded!|nothing
-|nothing
-option name A type spin default 1 min 0|nothing
-option name A type spin default 1 min 2 max 1|nothing
-option name A type number default 1|nothing
-option Hash type button|nothing";
+id author Tord Romstad|other
+EgbbProbe not Loaded!|other
+|other
+option name A type spin default 1 min 0|other
+option name A type spin default 1 min 2 max 1|other
+option name A type number default 1|other
+option Hash type button|other";
 
 const OPTIONS: &str = "option name Clear Hash type button|button|name=Clear Hash
 option name Ponder type check default false|check|name=Ponder|on=false
 option name OwnBook type check default true|check|name=OwnBook|on=true
 option name type check|check|name=|on=false
 option name Futility Margin 0 type spin default 50 min 0 max 1000|spin|name=Futility Margin 0|default=50|min=0|max=1000
-option name SyzygyPath type string default <empty>|string|name=SyzygyPath|default=
-option name Debug Log File type string default |string|name=Debug Log File|default=
-option name Bitbases Path type string default /usr/share/my  egbb/|string|name=Bitbases Path|default=/usr/share/my  egbb/
-option name NullMove Pruning type combo default Always var Always var Fail High var Never|combo|name=NullMove Pruning|default=Always|values=default Always var Always var Fail High var Never";
+option name SyzygyPath type string default <empty>|text|name=SyzygyPath|default=
+option name Debug Log File type string default |text|name=Debug Log File|default=
+option name Bitbases Path type string default /usr/share/my  egbb/|text|name=Bitbases Path|default=/usr/share/my  egbb/
+option name NullMove Pruning type combo default Always var Always var Fail High var Never|var|name=NullMove Pruning|default=Always|values=default Always var Always var Fail High var Never";
 
 // Of a range any order will do, the last number counts, and the default is moved into the range. Of
 // a choice the first default counts.
 const DEFAULTS: &str =
     "option name A type spin max 9 min -5 default 7 default 12|spin|name=A|default=9|min=-5|max=9
-option name S type combo var A default A default B|combo|name=S|default=A|values=var A default A default B";
+option name S type combo var A default A default B|var|name=S|default=A|values=var A default A default B";
 
 // A later value replaces an earlier one; what is no value does not. Of the last four no word counts.
 const REPORTS: &str =
@@ -52,13 +52,13 @@ info|info
 info pv|info";
 
 // The move that is the best, and the answer that is expected, each if it is named.
-const BEST_MOVES: &str = "bestmove a1a6 ponder g7f7|best|best=a1a6|hint=g7f7
-bestmove e7e8Q|best|best=e7e8q
-bestmove e2e4 e7e5|best|best=e2e4
-bestmove e2e4 foo ponder e7e5|best|best=e2e4|hint=e7e5
-bestmove (none)|best
-bestmove|best
-bestmove ponder e2e4|best";
+const BEST_MOVES: &str = "bestmove a1a6 ponder g7f7|move|best=a1a6|hint=g7f7
+bestmove e7e8Q|move|best=e7e8q
+bestmove e2e4 e7e5|move|best=e2e4
+bestmove e2e4 foo ponder e7e5|move|best=e2e4|hint=e7e5
+bestmove (none)|move
+bestmove|move
+bestmove ponder e2e4|move";
 
 fn score_in(rt: &impl Abort, fields: &str) -> Option<Score> {
     if let Some(score) = signed_in(rt, fields, "cp") {
@@ -85,21 +85,21 @@ fn info_of<'a>(rt: &impl Abort, fields: &'a str) -> Info<'a> {
 }
 
 fn option_of<'a>(rt: &impl Abort, kind: &str, fields: &'a str) -> OptionKind<'a> {
-    match kind {
-        "button" => OptionKind::Button,
-        "check" => OptionKind::Check {
+    match first(kind) {
+        b'b' => OptionKind::Button,
+        b'c' => OptionKind::Check {
             on: text_of(rt, fields, "on") == "true",
         },
-        "spin" => OptionKind::Spin {
+        b's' => OptionKind::Spin {
             default: signed_of(rt, fields, "default"),
             min: signed_of(rt, fields, "min"),
             max: signed_of(rt, fields, "max"),
         },
-        "combo" => OptionKind::Combo {
+        b'v' => OptionKind::Combo {
             default: bytes_of(rt, fields, "default"),
             values: bytes_of(rt, fields, "values"),
         },
-        "string" => OptionKind::Text {
+        b't' => OptionKind::Text {
             default: bytes_of(rt, fields, "default"),
         },
         _ => panic!(rt; "no kind: {kind}"),
@@ -109,13 +109,13 @@ fn option_of<'a>(rt: &impl Abort, kind: &str, fields: &'a str) -> OptionKind<'a>
 /// What a row says that a line means.
 fn meant<'a>(rt: &impl Abort, want: &'a str) -> EngineMsg<'a> {
     let (kind, fields) = cut(want);
-    match kind {
-        "nothing" => EngineMsg::Nothing,
-        "name" => EngineMsg::Name(bytes_of(rt, fields, "text")),
-        "uciok" => EngineMsg::UciOk,
-        "readyok" => EngineMsg::ReadyOk,
-        "info" => EngineMsg::Info(info_of(rt, fields)),
-        "best" => EngineMsg::Best {
+    match first(kind) {
+        b'o' => EngineMsg::Nothing,
+        b'n' => EngineMsg::Name(bytes_of(rt, fields, "text")),
+        b'u' => EngineMsg::UciOk,
+        b'r' => EngineMsg::ReadyOk,
+        b'i' => EngineMsg::Info(info_of(rt, fields)),
+        b'm' => EngineMsg::Best {
             best: move_in(rt, fields, "best"),
             hint: move_in(rt, fields, "hint"),
         },

@@ -2,7 +2,7 @@
 ghost use Rattle.clock_map.specs.Clocks.{AreShort};
 
 use crate::expect::{expect_text, room};
-use crate::rows::cut;
+use crate::rows::{cut, first};
 use cecp_lines::read_iface;
 use chess_board::Side;
 use chess_board::Side::{Black, White};
@@ -48,18 +48,18 @@ st 0.5|level 0 2:30 1.5|black|1|move|go wtime 150000 btime 150000 winc 1500 binc
 st 0.5|sd 6|white|0|analyse|go infinite";
 
 fn side_of(rt: &impl Abort, word: &str) -> Side {
-    match word {
-        "white" => White,
-        "black" => Black,
+    match first(word) {
+        b'w' => White,
+        b'b' => Black,
         _ => panic!(rt; "no side: {word}"),
     }
 }
 
 fn kind_of(rt: &impl Abort, word: &str) -> GoKind {
-    match word {
-        "move" => Move,
-        "ponder" => Ponder,
-        "analyse" => Analyse,
+    match first(word) {
+        b'm' => Move,
+        b'p' => Ponder,
+        b'a' => Analyse,
         _ => panic!(rt; "no kind: {word}"),
     }
 }

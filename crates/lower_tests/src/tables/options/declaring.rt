@@ -1,18 +1,18 @@
 // Options as engines declare them, and the feature lines that tell of them.
 use super::{declare, declared};
 use crate::expect::{expect, expect_text, room};
-use crate::rows::cut;
+use crate::rows::{cut, first};
 use line_io::Out;
 use option_map::{Declared, Options};
 use std::alloc::Global;
 use std::process::Abort;
 use uci_lines::{OptionKind, OptionMsg};
 
-/// A line of an engine, and what comes of it: names, values, and the first reason that applies.
+/// A line of an engine, and what comes of it, by its first letter: names, values, and the first reason that applies.
 const DECLARED: &str = "option name Hash type spin default 16 min 1 max 1024|done
-option name hash type button|double
+option name hash type button|twice
 option name Style type combo default Normal var Solid var Normal var Risky|done
-option name STYLE type string default x|double
+option name STYLE type string default x|twice
 option name type check|unshowable
 option name nnnnnnnnnnnnnnnnnnnnnnnnnnnnnnnnnnnnnnnnnnnnnnnnnnnnnnnnnnnnnnnnnnnnnnnnnnnnnnnnnnnnnnnnnnnnnnnnnnnnnnnnnnnnnnnnnnnnnnnnnnnnnnnn type button|done
 option name nnnnnnnnnnnnnnnnnnnnnnnnnnnnnnnnnnnnnnnnnnnnnnnnnnnnnnnnnnnnnnnnnnnnnnnnnnnnnnnnnnnnnnnnnnnnnnnnnnnnnnnnnnnnnnnnnnnnnnnnnnnnnnnnn type button|unshowable
@@ -31,11 +31,11 @@ option name Mode type combo default none var a*b // c var d|done
 option name Hash type string default \"|unshowable";
 
 fn outcome(rt: &impl Abort, word: &str) -> Declared {
-    match word {
-        "done" => Declared::Done,
-        "double" => Declared::Double,
-        "full" => Declared::Full,
-        "unshowable" => Declared::Unshowable,
+    match first(word) {
+        b'd' => Declared::Done,
+        b't' => Declared::Double,
+        b'f' => Declared::Full,
+        b'u' => Declared::Unshowable,
         _ => panic!(rt; "nothing comes so: {word}"),
     }
 }
@@ -59,12 +59,12 @@ fn expect_size(rt: &impl Abort, options: &Options, count: usize, text: usize) {
 
 /// Where the texts take all of their room.
 const FULL_TEXT: &str = "option name C type button|full
-option name a type check|double
+option name a type check|twice
 option name UCI_Chess960 type check|done";
 
 /// Where there are as many options as there may be.
 const FULL_TABLE: &str = "option name C type button|full
-option name Aa type check|double";
+option name Aa type check|twice";
 
 /// Declares an option, which is not refused.
 fn expect_message(rt: &impl Abort, options: &mut Options, name: &[u8], kind: OptionKind) {
