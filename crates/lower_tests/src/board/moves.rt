@@ -76,6 +76,25 @@ fn stands_at_the_start(rt: HostRuntime) {
     start.facts();
 }
 
+/// A move's text, the squares that it leaves and reaches, and what a pawn becomes.
+type Named = (&'static str, u8, u8, Option<Kind>);
+
+const NAMED: [Named; 4] = [
+    ("e2e4", 12, 28, None),
+    ("e1g1", 4, 6, None),
+    ("a7a5", 48, 32, None),
+    ("a7a8n", 48, 56, Some(Kind::Knight)),
+];
+
+#[test]
+fn moves_name_squares(rt: HostRuntime) {
+    for (text, from, to, promotion) in &NAMED {
+        let m = move_of(&rt, text);
+        let squares = m.from.index == *from && m.to.index == *to;
+        expect(&rt, squares && m.promotion == *promotion, text);
+    }
+}
+
 #[test]
 fn plays_moves(rt: HostRuntime) {
     let start = Position::start();
