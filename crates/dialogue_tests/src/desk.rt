@@ -1,5 +1,5 @@
 // Events at a desk, one by one, with what comes of each and what follows.
-ghost use Rattle.std.specs.Prelude.{◌≡◌, ◌≤◌, length, true, Some, IfOk};
+ghost use Rattle.std.specs.Prelude.{◌≡◌, ◌≤◌, length, true, Some};
 ghost use Rattle.line_io.specs.Event.{event_of};
 ghost use Rattle.line_io.specs.Out.{empty};
 ghost use Rattle.peer_words.specs.declared.kinds.GoKind.{GoKind as AnyKind};
@@ -14,12 +14,13 @@ mod calls;
 mod games;
 mod turns;
 
-use crate::rows::{call_in, engine_in, event_in};
+use crate::rows::{TEXT_ROOM, call_in, cut, engine_in, event_in, expect, expect_text, put_came};
 use desk_rules::{Context, Desk, Effect, Ruling, is_gone};
-use line_io::{Event, NoMemory, Out, SCRIPT_LINE};
+use line_io::{Event, Out, SCRIPT_LINE};
 use option_map::HeldOrders;
 use peer_words::GoKind;
 use policy_rules::Settings;
+use script_lines::read_mark;
 use search_epochs::{Call, EngineState};
 use std::alloc::Global;
 use std::process::Abort;
@@ -47,7 +48,9 @@ const SIGHT: Context = Context {
     accepts: false,
 };
 
-const PONDER_IS_OPTION: &str = "u option name Ponder type check default false";
+// A line of a text of turns has the state of the engine before an event, its mark, the effect,
+// whether an epoch begins, `new`, or not, `same`, and the call after it. What is written to the
+// interface follows as lines that begin with `X`.
 
 /// A desk with the orders that wait, and what is written to the interface.
 #[derive(Drop)]
@@ -56,17 +59,6 @@ struct Bench {
     held: HeldOrders,
     told: Out,
 }
-
-/// An event, and what comes of it: the state of the engine before it, its mark, the effect,
-/// whether the epoch rises, the call after it, and what is written to the interface.
-type Turn = (
-    &'static str,
-    &'static str,
-    &'static str,
-    bool,
-    &'static str,
-    &'static str,
-);
 
 fn is_of_kind(kind: GoKind, call: Call) -> bool
     ensures { result ≡ true → Serves kind call }
@@ -151,25 +143,27 @@ fn word_of(effect: &Effect) -> &'static str {
 }
 
 impl Bench {
-    fn make(alloc: Global) -> Result<Bench, NoMemory>
-        ensures { IfOk result (λ bench. IsSound bench.desk) }
+    fn make(rt: &impl Abort, alloc: Global) -> Bench
+        ensures { IsSound result.desk }
     {
-        let told = Out::make(alloc, 131_072)?;
-        let held = HeldOrders::make(alloc)?;
-        let desk = Desk::make(alloc)?;
-        Ok(Bench { desk, held, told })
+        Bench {
+            desk: Desk::make(alloc).expect(rt, "memory"),
+            held: HeldOrders::make(alloc).expect(rt, "memory"),
+            told: Out::make(alloc, SCRIPT_LINE).expect(rt, "memory"),
+        }
     }
 
     /// Lets the bench go. That is proved here once, and not in each function that makes one.
     fn end(self) {}
 
-    /// Decides what comes of an event, and does it. It gives the effect, whether an epoch begins and the call.
+    /// Decides what comes of an event, and does it. It gives the effect, whether an epoch begins,
+    /// and the call.
     fn take(
         &mut self,
         rt: &impl Abort,
         context: Context,
         event: &Event,
-    ) -> (&'static str, bool, Call)
+    ) -> (&'static str, &'static str, Call)
         requires sound { IsSound self.old.desk }
         requires line { IsLineEvent (event_of event.now) }
         ensures { IsSound self.new.desk }
@@ -194,10 +188,10 @@ impl Bench {
         self.held.facts();
         assert!(rt; self.told.spare() == SCRIPT_LINE);
         self.held.write(&mut self.told);
-        assert!(rt; self.told.bytes() == want.as_bytes(), "{want}");
+        expect_text(rt, self.told.bytes(), want, want);
     }
 
-    fn follow(&mut self, context: Context, ruling: &Ruling) -> (&'static str, bool, Call)
+    fn follow(&mut self, context: Context, ruling: &Ruling) -> (&'static str, &'static str, Call)
         requires sound { IsSound self.old.desk }
         requires start { ruling.now.start ≡ starts_from (effect_of ruling.now.effect) }
         requires fits { IsFit (at context self.old.desk) (effect_of ruling.now.effect) }
@@ -211,28 +205,37 @@ impl Bench {
             .commit(context, ruling, context.closed, &mut self.told);
         let gone = is_gone(context.engine) || effect.is_death();
         let call = self.desk.call(context.closed, gone);
-        (word_of(effect), ruling.begins_epoch, call)
+        let epoch = if ruling.begins_epoch { "new" } else { "same" };
+        (word_of(effect), epoch, call)
     }
 }
 
-/// Takes the events of turns, and compares what comes of them.
-fn check_turns(rt: &impl Abort, bench: &mut Bench, context: Context, turns: &[Turn])
+/// Takes the events of turns, and compares what comes of them with the text.
+fn check_turns(rt: &impl Abort, alloc: Global, bench: &mut Bench, context: Context, turns: &str)
     requires { IsSound bench.old.desk }
     ensures { IsSound bench.new.desk }
 {
-    for turn in turns {
-        check_turn(rt, bench, context, turn);
+    let mut came = Out::make(alloc, TEXT_ROOM).expect(rt, "memory");
+    for line in turns.lines() {
+        if read_mark(line.as_bytes()).is_err() {
+            check_turn(rt, bench, context, line);
+            put_came(rt, line, bench.told.bytes(), b"", &mut came);
+        }
     }
+    expect_text(rt, came.bytes(), turns, turns);
 }
 
-fn check_turn(rt: &impl Abort, bench: &mut Bench, context: Context, turn: &Turn)
+fn check_turn(rt: &impl Abort, bench: &mut Bench, context: Context, turn: &str)
     requires { IsSound bench.old.desk }
     ensures { IsSound bench.new.desk }
 {
-    let (engine, mark, effect, begins_epoch, call, told) = *turn;
-    let engine = engine_in(rt, engine);
+    let (engine, rest) = cut(turn);
+    let (mark, rest) = cut(rest);
+    let (effect, rest) = cut(rest);
+    let (epoch, call) = cut(rest);
+    let engine = engine_in(engine).expect(rt, turn);
     let event = event_in(rt, mark);
     let came = bench.take(rt, Context { engine, ..context }, &event);
-    let same = came.0 == effect && came.1 == begins_epoch && came.2 == call_in(rt, call);
-    assert!(rt; same && bench.told.bytes() == told.as_bytes(), "{mark}");
+    let same = came.0 == effect && came.1 == epoch && Some(came.2) == call_in(call);
+    expect(rt, same, turn);
 }

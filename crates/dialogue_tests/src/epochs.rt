@@ -1,281 +1,200 @@
 // Worked sessions: what comes in each step after the opening, and the orders that it writes.
-use crate::rows::{G1F3, call_in, search};
-use chess_board::{Move, Square, read_move};
+use crate::rows::{call_in, cut, engine_in, expect, orders_in};
+use chess_board::{Move, read_move};
 use peer_words::GoKind;
-use search_epochs::{Call, Dialogue, Heard, Orders, Said};
+use search_epochs::{Call, Dialogue, Heard, Said};
 use std::process::Abort;
 
-#[derive(Clone, Copy)]
-enum EpochEvent {
-    Says(Said),
-    Plays(Move),
-    Hurries,
-    Line,
-}
+// A line of a session has what comes; what it means if the engine says it; whether it begins an
+// epoch, `new`, or not, `same`; the call after it; whether settings wait after it, `waits`, or not,
+// `sent`; and the orders.
 
-/// What comes, what it means if the engine says it, whether it begins an epoch, the call after it,
-/// whether settings wait after it, and the orders.
-type Turn = (
-    &'static str,
-    &'static str,
-    bool,
-    &'static str,
-    bool,
-    &'static str,
-);
+// A stopped search shows nothing.
+const STOPPED: &str = "uciok|booted|same|nothing|waits|batch
+readyok|ready|same|nothing|sent|none
+plays e2e4||new|move|sent|begin move
+line||new|nothing|sent|stop
+bestmove|stale move|same|nothing|sent|none
+";
 
-const E2E4: Move = Move {
-    from: Square { index: 12 },
-    to: Square { index: 28 },
-    promotion: None,
-};
+// A new search waits for the answer of the stopped one.
+const STOPPED_AND_BEGUN: &str = "uciok|booted|same|nothing|waits|batch
+readyok|ready|same|nothing|sent|none
+plays e2e4||new|move|sent|begin move
+line||new|nothing|sent|stop
+line||new|move|sent|none
+bestmove|stale move|same|move|sent|begin move
+bestmove|move|new|nothing|sent|none
+";
 
-const D2D4: Move = Move {
-    from: Square { index: 11 },
-    to: Square { index: 27 },
-    promotion: None,
-};
+// One stop.
+const HURRIED: &str = "uciok|booted|same|nothing|waits|batch
+readyok|ready|same|nothing|sent|none
+plays e2e4||new|move|sent|begin move
+hurries||same|move|sent|stop
+line||new|nothing|sent|none
+bestmove|stale move|same|nothing|sent|none
+";
 
-const BOOTED: Turn = ("uciok", "booted", false, "nothing", true, "batch");
+// The hint is played.
+const HINT_PLAYED: &str = "uciok|booted|same|nothing|waits|batch
+readyok|ready|same|nothing|sent|none
+line||new|nothing|waits|batch
+readyok|ready|same|nothing|sent|none
+plays e2e4||new|move|sent|begin move
+bestmove|move|new|ponder g1f3|sent|begin ponder g1f3
+plays g1f3||new|move|sent|hit
+bestmove|move|new|nothing|sent|none
+";
 
-const QUIET: Turn = ("readyok", "ready", false, "nothing", false, "none");
+// Another move is played.
+const OTHER_PLAYED: &str = "uciok|booted|same|nothing|waits|batch
+readyok|ready|same|nothing|sent|none
+line||new|nothing|waits|batch
+readyok|ready|same|nothing|sent|none
+plays e2e4||new|move|sent|begin move
+bestmove|move|new|ponder g1f3|sent|begin ponder g1f3
+plays d2d4||new|move|sent|stop
+bestmove|stale ponder|same|move|sent|begin move
+";
 
-// The user plays, and a search for a move begins.
-const BEGINS: Turn = ("plays e2e4", "", true, "move", false, "begin move");
+// Analysis is not begun again before the next move.
+const ANALYSIS: &str = "uciok|booted|same|nothing|waits|batch
+readyok|ready|same|nothing|sent|none
+line||new|analyse|sent|begin analyse
+bestmove|analyse|same|analyse|sent|none
+plays e2e4||new|analyse|sent|begin analyse
+";
 
-// The user switches pondering on.
-const HARD: Turn = ("line", "", true, "nothing", true, "batch");
+// The hint is played after easy had the search stopped.
+const HINT_AFTER_EASY: &str = "uciok|booted|same|nothing|waits|batch
+readyok|ready|same|nothing|sent|none
+line||new|nothing|waits|batch
+readyok|ready|same|nothing|sent|none
+plays e2e4||new|move|sent|begin move
+bestmove|move|new|ponder g1f3|sent|begin ponder g1f3
+line||new|nothing|waits|stop
+plays g1f3||new|move|waits|none
+bestmove|stale ponder|same|move|waits|batch
+readyok|ready|same|move|sent|begin move
+bestmove|move|new|nothing|sent|none
+";
 
-// A move is shown, and the engine ponders.
-const PONDERS: Turn = (
-    "bestmove",
-    "move",
-    true,
-    "ponder g1f3",
-    false,
-    "begin ponder g1f3",
-);
+// The engine ends.
+const ENDED: &str = "uciok|booted|same|nothing|waits|batch
+readyok|ready|same|nothing|sent|none
+plays e2e4||new|move|sent|begin move
+end|ended|same|nothing|sent|none
+end|nothing|same|nothing|sent|none
+";
 
-// A move is shown, and nothing more is called for.
-const SHOWS: Turn = ("bestmove", "move", true, "nothing", false, "none");
-
-// The user's line stops the search.
-const STOPS: Turn = ("line", "", true, "nothing", false, "stop");
-
-// The stopped search closes, and no move is shown.
-const CLOSES: Turn = ("bestmove", "stale move", false, "nothing", false, "none");
-
-const STOPPED: [Turn; 5] = [BOOTED, QUIET, BEGINS, STOPS, CLOSES];
-
-const STOPPED_AND_BEGUN: [Turn; 7] = [
-    BOOTED,
-    QUIET,
-    BEGINS,
-    STOPS,
-    ("line", "", true, "move", false, "none"),
-    ("bestmove", "stale move", false, "move", false, "begin move"),
-    SHOWS,
-];
-
-const HURRIED: [Turn; 6] = [
-    BOOTED,
-    QUIET,
-    BEGINS,
-    ("hurries", "", false, "move", false, "stop"),
-    ("line", "", true, "nothing", false, "none"),
-    CLOSES,
-];
-
-const HINT_PLAYED: [Turn; 8] = [
-    BOOTED,
-    QUIET,
-    HARD,
-    QUIET,
-    BEGINS,
-    PONDERS,
-    ("plays g1f3", "", true, "move", false, "hit"),
-    SHOWS,
-];
-
-const OTHER_PLAYED: [Turn; 8] = [
-    BOOTED,
-    QUIET,
-    HARD,
-    QUIET,
-    BEGINS,
-    PONDERS,
-    ("plays d2d4", "", true, "move", false, "stop"),
-    (
-        "bestmove",
-        "stale ponder",
-        false,
-        "move",
-        false,
-        "begin move",
-    ),
-];
-
-const ANALYSIS: [Turn; 5] = [
-    BOOTED,
-    QUIET,
-    ("line", "", true, "analyse", false, "begin analyse"),
-    ("bestmove", "analyse", false, "analyse", false, "none"),
-    ("plays e2e4", "", true, "analyse", false, "begin analyse"),
-];
-
-const HINT_AFTER_EASY: [Turn; 11] = [
-    BOOTED,
-    QUIET,
-    HARD,
-    QUIET,
-    BEGINS,
-    PONDERS,
-    ("line", "", true, "nothing", true, "stop"),
-    ("plays g1f3", "", true, "move", true, "none"),
-    ("bestmove", "stale ponder", false, "move", true, "batch"),
-    ("readyok", "ready", false, "move", false, "begin move"),
-    SHOWS,
-];
-
-const ENDED: [Turn; 5] = [
-    BOOTED,
-    QUIET,
-    BEGINS,
-    ("end", "ended", false, "nothing", false, "none"),
-    ("end", "nothing", false, "nothing", false, "none"),
-];
-
-fn event_in(rt: &impl Abort, word: &str) -> EpochEvent {
+/// What an engine says, as a word names it, if the engine says it.
+fn said_in(word: &str) -> Option<Said> {
     match word {
-        "uciok" => EpochEvent::Says(Said::UciOk),
-        "readyok" => EpochEvent::Says(Said::ReadyOk),
-        "bestmove" => EpochEvent::Says(Said::Best),
-        "end" => EpochEvent::Says(Said::Ended),
-        "plays e2e4" => EpochEvent::Plays(E2E4),
-        "plays g1f3" => EpochEvent::Plays(G1F3),
-        "plays d2d4" => EpochEvent::Plays(D2D4),
-        "hurries" => EpochEvent::Hurries,
-        "line" => EpochEvent::Line,
-        _ => panic!(rt; "no event: {word}"),
-    }
-}
-
-/// What is heard, as a word names it. An answer is named by what its search was for, and by `stale`
-/// if that is not current.
-fn heard_in(rt: &impl Abort, word: &str) -> Heard {
-    match word {
-        "nothing" => Heard::Nothing,
-        "booted" => Heard::Booted,
-        "ready" => Heard::Ready,
-        "ended" => Heard::Ended,
-        "move" => answer(GoKind::Move, true),
-        "stale move" => answer(GoKind::Move, false),
-        "stale ponder" => answer(GoKind::Ponder, false),
-        "analyse" => answer(GoKind::Analyse, true),
-        _ => panic!(rt; "nothing that is heard: {word}"),
-    }
-}
-
-fn answer(kind: GoKind, current: bool) -> Heard {
-    Heard::Answer { kind, current }
-}
-
-fn orders_in(rt: &impl Abort, words: &str) -> Orders {
-    match words {
-        "none" => Orders::None,
-        "batch" => Orders::Batch,
-        "begin move" => Orders::Begin(Call::Move),
-        "begin ponder g1f3" => Orders::Begin(Call::Ponder(G1F3)),
-        "begin analyse" => Orders::Begin(Call::Analyse),
-        "hit" => Orders::Hit,
-        "stop" => Orders::Stop,
-        _ => panic!(rt; "no orders: {words}"),
-    }
-}
-
-/// Takes the turns of a session.
-fn walk(rt: &impl Abort, name: &str, turns: &[Turn]) {
-    let mut dialogue = Dialogue::new();
-    dialogue.rest();
-    for (k, turn) in turns.iter().enumerate() {
-        let (event, meaning, begins_epoch, call, unsent, want) = *turn;
-        let event = event_in(rt, event);
-        if let EpochEvent::Says(said) = event {
-            let heard = dialogue.heard(said) == heard_in(rt, meaning);
-            assert!(rt; heard, "{name}: what is heard in turn {k}");
-        }
-        if begins_epoch {
-            dialogue.new_epoch();
-        }
-        let call = call_in(rt, call);
-        let orders = dialogue.settle(call, unsent, played(event), hurries(event));
-        assert!(rt;
-            orders == orders_in(rt, want),
-            "{name}: the orders of turn {k}"
-        );
-    }
-}
-
-fn played(event: EpochEvent) -> Option<Move> {
-    match event {
-        EpochEvent::Plays(m) => Some(m),
+        "uciok" => Some(Said::UciOk),
+        "readyok" => Some(Said::ReadyOk),
+        "bestmove" => Some(Said::Best),
+        "end" => Some(Said::Ended),
         _ => None,
     }
 }
 
-fn hurries(event: EpochEvent) -> bool {
-    matches!(event, EpochEvent::Hurries)
+/// The move that the user plays, if one is played.
+fn played_in(event: &str) -> Option<Move> {
+    read_move(event.strip_prefix("plays ")?.as_bytes())
 }
 
-const SESSIONS: [(&'static str, &'static [Turn]); 8] = [
-    ("a stopped search shows nothing", &STOPPED),
-    (
-        "a new search waits for the answer of the stopped one",
-        &STOPPED_AND_BEGUN,
-    ),
-    ("one stop", &HURRIED),
-    ("the hint is played", &HINT_PLAYED),
-    ("another move is played", &OTHER_PLAYED),
-    (
-        "analysis is not begun again before the next move",
-        &ANALYSIS,
-    ),
-    (
-        "the hint is played after easy had the search stopped",
-        &HINT_AFTER_EASY,
-    ),
-    ("the engine ends", &ENDED),
+/// The words for what is heard. An answer is named by what its search was for, and by `stale` if
+/// that is not current.
+fn words_of(heard: Heard) -> &'static str {
+    match heard {
+        Heard::Nothing => "nothing",
+        Heard::Booted => "booted",
+        Heard::Ready => "ready",
+        Heard::Ended => "ended",
+        Heard::Answer { kind, current } => match (kind, current) {
+            (GoKind::Move, true) => "move",
+            (GoKind::Move, false) => "stale move",
+            (GoKind::Ponder, true) => "ponder",
+            (GoKind::Ponder, false) => "stale ponder",
+            (GoKind::Analyse, true) => "analyse",
+            (GoKind::Analyse, false) => "stale analyse",
+        },
+    }
+}
+
+/// Takes a turn, and compares what is heard and ordered.
+fn check_turn(rt: &impl Abort, dialogue: &mut Dialogue, turn: &str) {
+    let (event, rest) = cut(turn);
+    let (meaning, rest) = cut(rest);
+    let (epoch, rest) = cut(rest);
+    let (call, rest) = cut(rest);
+    let (settings, want) = cut(rest);
+    let heard = match said_in(event) {
+        Some(said) => words_of(dialogue.heard(said)),
+        None => "",
+    };
+    if epoch == "new" {
+        dialogue.new_epoch();
+    }
+    let call = call_in(call).expect(rt, turn);
+    let played = played_in(event);
+    let orders = dialogue.settle(call, settings == "waits", played, event == "hurries");
+    let same = heard == meaning && Some(orders) == orders_in(want);
+    expect(rt, same, turn);
+}
+
+/// Takes the turns of a session.
+fn walk(rt: &impl Abort, turns: &str) {
+    let mut dialogue = Dialogue::new();
+    dialogue.rest();
+    for turn in turns.lines() {
+        check_turn(rt, &mut dialogue, turn);
+    }
+}
+
+// The moves of rows, and the numbers of their squares.
+const MOVES: [(&'static str, u8, u8); 4] = [
+    ("e2e4", 12, 28),
+    ("g1f3", 6, 21),
+    ("d2d4", 11, 27),
+    ("e7e5", 52, 36),
 ];
+
+fn check_moves(rt: &impl Abort) {
+    for (text, from, to) in &MOVES {
+        let m = read_move(text.as_bytes()).expect(rt, text);
+        let same = m.from.index == *from && m.to.index == *to;
+        expect(rt, same && m.promotion.is_none(), text);
+    }
+}
 
 #[test]
 fn sessions(rt: HostRuntime) {
-    for (text, want) in [("e2e4", E2E4), ("g1f3", G1F3), ("d2d4", D2D4)] {
-        assert!(rt; read_move(text.as_bytes()) == Some(want), "{text}");
-    }
-    for (name, turns) in SESSIONS {
-        walk(&rt, name, turns);
-    }
+    check_moves(&rt);
+    walk(&rt, STOPPED);
+    walk(&rt, STOPPED_AND_BEGUN);
+    walk(&rt, HURRIED);
+    walk(&rt, HINT_PLAYED);
+    walk(&rt, OTHER_PLAYED);
+    walk(&rt, ANALYSIS);
+    walk(&rt, HINT_AFTER_EASY);
+    walk(&rt, ENDED);
 }
 
 #[test]
 fn spent(rt: HostRuntime) {
     let mut dialogue = Dialogue::new();
-    assert!(rt; dialogue.heard(Said::UciOk) == Heard::Booted, "uciok");
+    expect(&rt, dialogue.heard(Said::UciOk) == Heard::Booted, "uciok");
     let begun = dialogue.settle(Call::Analyse, false, None, false);
-    assert!(rt; begun == Orders::Begin(Call::Analyse), "go");
-    assert!(rt;
-        dialogue.state() == search(GoKind::Analyse, false),
-        "an open search"
-    );
-    let answered = dialogue.heard(Said::Best) == answer(GoKind::Analyse, true);
-    assert!(rt; answered && dialogue.is_spent(), "bestmove");
-    assert!(rt;
-        dialogue.owed(Call::Analyse) == Call::Nothing,
-        "nothing is owed"
-    );
+    expect(&rt, Some(begun) == orders_in("begin analyse"), "go");
+    let open = Some(dialogue.state()) == engine_in("analyse");
+    expect(&rt, open, "an open search");
+    let answered = words_of(dialogue.heard(Said::Best)) == "analyse";
+    expect(&rt, answered && dialogue.is_spent(), "bestmove");
+    let owed = dialogue.owed(Call::Analyse);
+    expect(&rt, owed == Call::Nothing, "nothing is owed");
     dialogue.new_epoch();
-    assert!(rt;
-        dialogue.owed(Call::Analyse) == Call::Analyse,
-        "an analysis is owed"
-    );
+    let owed = dialogue.owed(Call::Analyse);
+    expect(&rt, owed == Call::Analyse, "an analysis is owed");
 }

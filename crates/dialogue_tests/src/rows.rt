@@ -1,22 +1,38 @@
-// What the rows of tables name, and how what comes is compared with them.
+// What the rows of texts name, and how what comes is compared with them.
 ghost use Rattle.line_io.specs.Event.{event_of};
 ghost use Rattle.desk_rules.specs.Fits.{IsLineEvent};
 
-use chess_board::{Move, Square};
-use line_io::Event;
+use chess_board::read_move;
+use line_io::{Event, Out};
 use peer_words::GoKind;
-use script_lines::{Mark, read_mark};
-use search_epochs::{Call, EngineState};
+use script_lines::{Mark, put_written, read_mark};
+use search_epochs::{Call, EngineState, Orders};
 use std::process::Abort;
 
-pub const G1F3: Move = Move {
-    from: Square { index: 6 },
-    to: Square { index: 21 },
-    promotion: None,
-};
+/// Room for a text with what came of its lines.
+pub const TEXT_ROOM: usize = 200_000;
+
+/// The first field of a row, and the fields after the bar behind it.
+pub fn cut(row: &str) -> (&str, &str) {
+    row.split_once('|').unwrap_or((row, ""))
+}
+
+/// What a test wants holds. That is told here alone, since each place that tells costs a proof.
+pub fn expect(rt: &impl Abort, holds: bool, what: &str) {
+    assert!(rt; holds, "{what}");
+}
 
 pub fn expect_text(rt: &impl Abort, text: &[u8], want: &str, row: &str) {
-    assert!(rt; text == want.as_bytes(), "{row}");
+    expect(rt, text == want.as_bytes(), row);
+}
+
+/// Puts a line of a text, and the marks of the lines that came of it.
+pub fn put_came(rt: &impl Abort, line: &str, iface: &[u8], engine: &[u8], came: &mut Out) {
+    assert!(rt; line.len() < 1_000 && iface.len() < 4_000 && engine.len() < 4_000);
+    assert!(rt; came.spare() >= 40_000);
+    came.put(line.as_bytes());
+    came.put(b"\n");
+    put_written(iface, engine, came);
 }
 
 /// The event that a mark stands for.
@@ -29,38 +45,51 @@ pub fn event_in<'a>(rt: &impl Abort, mark: &'a str) -> Event<'a>
     }
 }
 
-/// The state that a word names. An open search is named by its kind, and by `stale` if it is a
-/// stale one for a move.
-pub fn engine_in(rt: &impl Abort, word: &str) -> EngineState {
+/// The state that a word names. An open search is named by its kind, by `stale` if it is a stale
+/// one for a move, and by `stopped` if that was stopped.
+pub fn engine_in(word: &str) -> Option<EngineState> {
     match word {
-        "boot" => EngineState::Boot,
-        "getting" => EngineState::Getting,
-        "idle" => EngineState::Idle,
-        "gone" => EngineState::Gone,
-        "move" => search(GoKind::Move, false),
-        "stale" => search(GoKind::Move, true),
-        "ponder" => search(GoKind::Ponder, false),
-        "analyse" => search(GoKind::Analyse, false),
-        _ => panic!(rt; "no state: {word}"),
+        "boot" => Some(EngineState::Boot),
+        "getting" => Some(EngineState::Getting),
+        "idle" => Some(EngineState::Idle),
+        "gone" => Some(EngineState::Gone),
+        "move" => Some(search(GoKind::Move, false, false)),
+        "stale" => Some(search(GoKind::Move, true, false)),
+        "stopped" => Some(search(GoKind::Move, true, true)),
+        "ponder" => Some(search(GoKind::Ponder, false, false)),
+        "analyse" => Some(search(GoKind::Analyse, false, false)),
+        _ => None,
     }
 }
 
-/// A search that was not stopped.
-pub fn search(kind: GoKind, stale: bool) -> EngineState {
+fn search(kind: GoKind, stale: bool, stopped: bool) -> EngineState {
     EngineState::Search {
         kind,
         stale,
-        stopped: false,
+        stopped,
     }
 }
 
-/// The call that a word names.
-pub fn call_in(rt: &impl Abort, word: &str) -> Call {
-    match word {
-        "nothing" => Call::Nothing,
-        "move" => Call::Move,
-        "analyse" => Call::Analyse,
-        "ponder g1f3" => Call::Ponder(G1F3),
-        _ => panic!(rt; "no call: {word}"),
+/// The call that words name.
+pub fn call_in(words: &str) -> Option<Call> {
+    match words {
+        "nothing" => Some(Call::Nothing),
+        "move" => Some(Call::Move),
+        "analyse" => Some(Call::Analyse),
+        _ => {
+            let hint = words.strip_prefix("ponder ")?;
+            Some(Call::Ponder(read_move(hint.as_bytes())?))
+        }
+    }
+}
+
+/// The orders that words name.
+pub fn orders_in(words: &str) -> Option<Orders> {
+    match words {
+        "none" => Some(Orders::None),
+        "batch" => Some(Orders::Batch),
+        "hit" => Some(Orders::Hit),
+        "stop" => Some(Orders::Stop),
+        _ => Some(Orders::Begin(call_in(words.strip_prefix("begin ")?)?)),
     }
 }

@@ -2,10 +2,9 @@
 ghost use Rattle.std.specs.Prelude.{◌≡◌, true};
 ghost use Rattle.desk_rules.specs.Fits.{IsSound, CanSearch, CanWrite};
 
-use super::{Bench, SIGHT, Turn, check_turns};
-use crate::rows::{engine_in, expect_text};
+use super::{Bench, SIGHT, check_turns};
+use crate::rows::{engine_in, expect, expect_text, orders_in};
 use cecp_lines::read_iface;
-use chess_board::{Move, Square, read_move};
 use desk_rules::{Desk, Effect, EngineName, Pings, is_gone, put_chosen, put_pongs};
 use game_record::Game;
 use line_io::Out;
@@ -45,49 +44,42 @@ fn check_chosen(
 {
     out.clear();
     assert!(rt; out.spare() >= 72_300);
-    assert!(rt; can_write(&desk.game, orders), "{want}");
+    assert!(rt; can_write(&desk.game, orders));
     put_chosen(held, desk, orders, out);
     expect_text(rt, out.bytes(), want, want);
 }
 
-const E7E5: Move = Move {
-    from: Square { index: 52 },
-    to: Square { index: 36 },
-    promotion: None,
-};
-
-const AFTER_E4: [Turn; 2] = [
-    ("idle", "x new", "accepts", true, "nothing", ""),
-    ("idle", "x usermove e2e4", "accepts", true, "move", ""),
-];
+const AFTER_E4: &str = "idle|x new|accepts|new|nothing
+idle|x usermove e2e4|accepts|new|move
+";
 
 /// Orders, and the lines that they are put in.
-const CHOSEN: [(Orders, &'static str); 7] = [
-    (Orders::None, ""),
-    (Orders::Batch, "ucinewgame\nisready\n"),
+const CHOSEN: [(&'static str, &'static str); 7] = [
+    ("none", ""),
+    ("batch", "ucinewgame\nisready\n"),
     (
-        Orders::Begin(Call::Move),
+        "begin move",
         "position startpos moves e2e4\ngo wtime 300000 btime 300000 winc 0 binc 0\n",
     ),
     (
-        Orders::Begin(Call::Ponder(E7E5)),
+        "begin ponder e7e5",
         "position startpos moves e2e4 e7e5\ngo ponder wtime 300000 btime 300000 winc 0 binc 0\n",
     ),
-    (Orders::Begin(Call::Analyse), ANALYSIS_AFTER_E4),
-    (Orders::Hit, "ponderhit\n"),
-    (Orders::Stop, "stop\n"),
+    ("begin analyse", ANALYSIS_AFTER_E4),
+    ("hit", "ponderhit\n"),
+    ("stop", "stop\n"),
 ];
 
 const ANALYSIS_AFTER_E4: &str = "position startpos moves e2e4\ngo infinite\n";
 
 #[test]
 fn puts_the_chosen_orders(rt: HostRuntime) {
-    assert!(rt; read_move(b"e7e5") == Some(E7E5));
     let mut out = Out::make(rt.alloc(), 72_300).expect(&rt, "memory");
-    let mut bench = Bench::make(rt.alloc()).expect(&rt, "memory");
-    check_turns(&rt, &mut bench, SIGHT, &AFTER_E4);
+    let mut bench = Bench::make(&rt, rt.alloc());
+    check_turns(&rt, rt.alloc(), &mut bench, SIGHT, AFTER_E4);
     for (orders, want) in &CHOSEN {
-        check_chosen(&rt, &bench.held, &bench.desk, *orders, &mut out, want);
+        let orders = orders_in(orders).expect(&rt, want);
+        check_chosen(&rt, &bench.held, &bench.desk, orders, &mut out, want);
     }
     out.clear();
     assert!(rt; out.spare() >= 72_300);
@@ -99,19 +91,28 @@ fn puts_the_chosen_orders(rt: HostRuntime) {
 #[test]
 fn answers_pings_in_turn(rt: HostRuntime) {
     let mut pings = Pings::make(rt.alloc()).expect(&rt, "memory");
-    assert!(rt; pings.len() == 0 && pings.numbers().is_empty(), "no pings");
+    expect(
+        &rt,
+        pings.len() == 0 && pings.numbers().is_empty(),
+        "no pings",
+    );
     pings.add(999_999_999);
     pings.add(0);
     let mut out = Out::make(rt.alloc(), 32).expect(&rt, "memory");
     let numbers = pings.numbers();
-    assert!(rt;
+    expect(
+        &rt,
         numbers.len() == 2 && numbers == [999_999_999, 0].as_slice(),
-        "two pings"
+        "two pings",
     );
     put_pongs(numbers, &mut out);
     expect_text(&rt, out.bytes(), "pong 999999999\npong 0\n", "pongs");
     pings.clear();
-    assert!(rt; pings.len() == 0 && pings.numbers().is_empty(), "cleared");
+    expect(
+        &rt,
+        pings.len() == 0 && pings.numbers().is_empty(),
+        "cleared",
+    );
 }
 
 /// A line, and whether the score of a shown move, by which the policy resigns, is forgotten
@@ -142,9 +143,9 @@ fn check_clearings(rt: &impl Abort, rows: &[(&str, bool)]) {
         let message = read_iface(line.as_bytes()).expect(rt, "a message");
         let mut scores = Scores::new(&one_is_lost);
         scores.shown(Some(-700));
-        assert!(rt; scores.resigns(), "a lost move was shown");
+        expect(rt, scores.resigns(), "a lost move was shown");
         Effect::Accepts(message).count(&mut scores, None);
-        assert!(rt; scores.resigns() != *want, "{line}");
+        expect(rt, scores.resigns() != *want, line);
     }
 }
 
@@ -166,9 +167,10 @@ const NAMES: [(&'static str, &'static str); 5] = [
 
 #[test]
 fn knows_a_gone_engine_and_its_last_name(rt: HostRuntime) {
-    assert!(rt; is_gone(EngineState::Gone), "gone");
+    expect(&rt, is_gone(EngineState::Gone), "gone");
     for engine in &NOT_GONE {
-        assert!(rt; !is_gone(engine_in(&rt, engine)), "{engine}");
+        let state = engine_in(engine).expect(&rt, engine);
+        expect(&rt, !is_gone(state), engine);
     }
     let mut name = EngineName::new();
     expect_text(&rt, name.text(), "UCI engine", "at first");
