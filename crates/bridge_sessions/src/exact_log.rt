@@ -122,7 +122,7 @@ fn an_engine_that_takes_no_more(rt: HostRuntime) {
 }
 
 // The interface waits for `feature done=1` before its ping, and for the pong before it quits. Each
-// event waits for what came of the one before, so a step that is written late is waited for in vain.
+// event waits for what came of the one before, so a step that is late is waited for in vain.
 const ANSWERED: ExactSession = ExactSession {
     given: Given {
         awaits_answers: true,

@@ -7,7 +7,7 @@ pub fn expect_bytes(rt: &impl Abort, found: &[u8], wanted: &[u8]) {
 }
 
 /// What holds of the case of this name.
-pub fn expect(rt: &impl Abort, holds: bool, case: &str, number: u64) {
+pub fn expect(rt: &impl Abort, holds: bool, case: &str, number: usize) {
     assert!(rt; holds, "{case} {number}");
 }
 

@@ -1,5 +1,5 @@
-//! Sessions of the running bridge, as `bridge` and as `wineravine`: its readers beside the loop, and
-//! both programs whole over hosts in memory.
+//! Sessions of the running bridge, as `bridge` and as `wineravine`: its readers beside the loop,
+//! and both programs whole over hosts in memory.
 #![tactic(auto)]
 
 #[cfg(test)]
@@ -8,8 +8,6 @@ mod beside;
 mod exact_log;
 #[cfg(test)]
 mod expected;
-#[cfg(test)]
-mod hosts;
 #[cfg(test)]
 mod lost_engine;
 #[cfg(test)]

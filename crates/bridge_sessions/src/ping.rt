@@ -82,7 +82,7 @@ fn expect_words<R: Threads + Wait + Sync + Abort>(
     } else {
         run.output.sink.taken().is_empty()
     };
-    expect(rt, run.code == code && is_wanted, words, u64::from(code));
+    expect(rt, run.code == code && is_wanted, words, usize::from(code));
     expect_bytes(rt, run.diag.taken(), diag);
 }
 

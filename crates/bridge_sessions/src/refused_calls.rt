@@ -14,15 +14,6 @@ const FIRST_STEP: &[u8] = b"\
     U uci\n\
     # 1\n";
 
-const NONE: Fails<'static> = Fails {
-    start: false,
-    log: false,
-    wait: false,
-    reads: &[],
-    writes: &[],
-    logs: &[],
-};
-
 // The diagnostic fails too, and changes no status.
 fn run_failing<'a, R: Threads + Wait + Sync + Abort>(
     rt: &R,
@@ -37,34 +28,39 @@ fn run_failing<'a, R: Threads + Wait + Sync + Abort>(
     run_bridge(rt, alloc, &given, fails, counts)
 }
 
-/// A call that fails, the status of the run, and whether the ping is answered: if the engine is
-/// not started, nothing is written.
-const ONCE: [(&str, Fails<'static>, u8, bool); 3] = [
-    (
-        "start",
-        Fails {
-            start: true,
-            ..NONE
-        },
-        8,
-        false,
-    ),
-    ("log", Fails { log: true, ..NONE }, 9, true),
-    ("wait", Fails { wait: true, ..NONE }, 10, true),
-];
+// Compares the status. If the engine is not started, nothing is written; else the ping is answered.
+fn expect_once<R: Threads + Wait + Sync + Abort>(
+    rt: &R,
+    alloc: Global,
+    call: &str,
+    fails: &Fails,
+    code: u8,
+) {
+    let counts = Counts::new();
+    let run = run_failing(rt, alloc, fails, &counts);
+    let writes_as_wanted = if fails.start {
+        run.output.sink.taken().is_empty()
+    } else {
+        is_answered(&run)
+    };
+    expect(rt, run.code == code && writes_as_wanted, call, 1);
+}
 
 #[test]
 fn calls_that_fail_once(rt: HostRuntime) {
-    for (call, fails, code, answered) in &ONCE {
-        let counts = Counts::new();
-        let run = run_failing(&rt, rt.alloc(), fails, &counts);
-        let writes_as_wanted = if *answered {
-            is_answered(&run)
-        } else {
-            run.output.sink.taken().is_empty()
-        };
-        expect(&rt, run.code == *code && writes_as_wanted, call, 1);
-    }
+    let none = Fails::default();
+    expect_once(
+        &rt,
+        rt.alloc(),
+        "start",
+        &Fails {
+            start: true,
+            ..none
+        },
+        8,
+    );
+    expect_once(&rt, rt.alloc(), "log", &Fails { log: true, ..none }, 9);
+    expect_once(&rt, rt.alloc(), "wait", &Fails { wait: true, ..none }, 10);
 }
 
 // Whether these are the first of the orders that the engine gets in some order of events.
@@ -114,11 +110,11 @@ fn each_read_that_fails(rt: HostRuntime) {
         let counts = Counts::new();
         let fails = Fails {
             reads: &[number],
-            ..NONE
+            ..Fails::default()
         };
         let run = run_failing(&rt, rt.alloc(), &fails, &counts);
         let holds = is_answered(&run) && fits_failing_read(&run, number);
-        expect(&rt, holds, "read", number);
+        expect(&rt, holds, "read", number as usize);
     }
 }
 
@@ -128,11 +124,11 @@ fn each_write_that_fails(rt: HostRuntime) {
         let counts = Counts::new();
         let fails = Fails {
             writes: &[number],
-            ..NONE
+            ..Fails::default()
         };
         let run = run_failing(&rt, rt.alloc(), &fails, &counts);
         let holds = is_answered(&run) && fits_failing_write(&run, number);
-        expect(&rt, holds, "write", number);
+        expect(&rt, holds, "write", number as usize);
     }
 }
 
@@ -142,10 +138,10 @@ fn each_log_write_that_fails(rt: HostRuntime) {
         let counts = Counts::new();
         let fails = Fails {
             logs: &[number],
-            ..NONE
+            ..Fails::default()
         };
         let run = run_failing(&rt, rt.alloc(), &fails, &counts);
         let holds = is_answered(&run) && fits_failing_log_write(&run, number);
-        expect(&rt, holds, "log write", number);
+        expect(&rt, holds, "log write", number as usize);
     }
 }

@@ -48,7 +48,7 @@ pub fn run_case<'a, R: Threads + Wait + Sync + Abort>(
     alloc: Global,
     case: &Case,
     counts: &'a Counts,
-    name: u64,
+    name: usize,
 ) -> PacedHost<'a> {
     let words = words_of(rt, alloc, case.words);
     let fails = Fails {
@@ -165,7 +165,7 @@ const CASES: [Case; 8] = [
 
 #[test]
 fn each_case_is_told(rt: HostRuntime) {
-    for (name, case) in (0..).zip(&CASES) {
+    for (name, case) in CASES.iter().enumerate() {
         let counts = Counts::new();
         run_case(&rt, rt.alloc(), case, &counts, name);
     }

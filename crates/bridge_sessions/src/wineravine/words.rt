@@ -31,8 +31,8 @@ const OTHERS: Settings = Settings {
     strength_options: false,
 };
 
-/// Words, bars between, and the run that they ask for: whether its settings are the others, its log,
-/// its first lines, and the engine's words, bars between.
+/// Words, bars between, and the run that they ask for: whether its settings are the others, its
+/// log, its first lines, and the engine's words, bars between.
 type Run = (&'static str, bool, &'static str, &'static str, &'static str);
 
 const RUNS: [Run; 7] = [
@@ -130,10 +130,10 @@ fn are_read_as(rt: &impl Abort, alloc: Global, words: &str, wanted: &str) -> boo
 
 #[test]
 fn words_are_read(rt: HostRuntime) {
-    for (row, run) in (0..).zip(&RUNS) {
+    for (row, run) in RUNS.iter().enumerate() {
         expect(&rt, is_asked_for(&rt, rt.alloc(), run), "run", row);
     }
-    for (row, (words, wanted)) in (0..).zip(&NO_RUNS) {
+    for (row, (words, wanted)) in NO_RUNS.iter().enumerate() {
         let are_wanted = are_read_as(&rt, rt.alloc(), words, wanted);
         expect(&rt, are_wanted, "no run", row);
     }
