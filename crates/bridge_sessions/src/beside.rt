@@ -1,16 +1,19 @@
 // Both readers run beside the loop: the interface and the engine wait for one another, so a run
 // that reads one of them to its end before the other never ends.
+ghost use Rattle.std.specs.Prelude.{IfOk};
 ghost use Rattle.bridge_sessions.specs.Ready.{IsReady};
+ghost use Rattle.child_engine.specs.Memory.{books_of};
+ghost use Rattle.child_engine.specs.Hosts.{IsUnused};
 
-use crate::expected::expect_bytes;
-use crate::program::{RunResult, words_of};
+use crate::expected::{expect_bytes, words_of};
 use crate::ready::{ReadySession, make_ready};
-use crate::talk::{ENGINE, IFACE, QUIT, Telling, Waiting};
-use crate::waiting_host::WaitingHost;
+use crate::waiting_host::{ENGINE, ENGINE_WAITS, PIECE, WaitingHost};
 use bridge_runner::bridge_main;
+use child_engine::{Fails, MemHost};
 use event_pipe::{Pipe, ReadEnd};
-use line_io::{MemSink, NoMemory, NullSink};
+use line_io::{MemSink, MemSource, NoMemory};
 use mediator::{MediatorParts, RunEnd, Turns, run_pipes};
+use paced_host::{PacedLog, PacedSource};
 use sink_offers::{HandedStreams, Interface};
 use std::alloc::Global;
 use std::process::Abort;
@@ -18,12 +21,41 @@ use std::sync::Wait;
 use std::sync::atomic::{AtomicU64, Ordering};
 use std::thread::Threads;
 
-// Runs both pipes between an interface and an engine that wait for one another.
-fn run_talk<R: Threads + Wait + Sync>(
+/// How many orders there are in all: `uci`, `isready` and `quit`.
+const ORDERS: u64 = 3;
+
+// An interface that quits once the engine's input took `isready`.
+fn make_interface(
+    alloc: Global,
+    orders: &AtomicU64,
+) -> Result<Interface<PacedSource<'_>, MemSink>, NoMemory> {
+    let quit = MemSource::make(alloc, b"quit\n", 5, &[])?;
+    Ok(Interface {
+        input: PacedSource::new(quit, orders, &[2]),
+        output: MemSink::make(alloc, 1_000, &[])?,
+    })
+}
+
+// The streams of an engine that waits for its orders.
+fn make_streams(
+    alloc: Global,
+    orders: &AtomicU64,
+) -> Result<HandedStreams<PacedSource<'_>, PacedLog<'_>, MemSink>, NoMemory> {
+    let says = MemSource::make(alloc, ENGINE, PIECE, &[])?;
+    Ok(HandedStreams {
+        source: PacedSource::new(says, orders, ENGINE_WAITS),
+        engine: PacedLog::new(MemSink::make(alloc, 100, &[])?, orders),
+        log: None,
+    })
+}
+
+// Runs both pipes.
+fn run_both<R: Threads + Wait + Sync>(
     rt: &R,
     alloc: Global,
     ready: ReadySession,
-    took: &AtomicU64,
+    interface: &mut Interface<PacedSource<'_>, MemSink>,
+    streams: &mut HandedStreams<PacedSource<'_>, PacedLog<'_>, MemSink>,
 ) -> Result<RunEnd, NoMemory>
     requires { IsReady ready.session ready.text }
 {
@@ -38,62 +70,46 @@ fn run_talk<R: Threads + Wait + Sync>(
             text,
         },
     };
-    let mut interface = Interface {
-        input: Waiting::new(took, IFACE.as_slice()),
-        output: NullSink::new(),
-    };
-    let log: Option<NullSink> = None;
-    let mut handed = HandedStreams {
-        source: Waiting::new(took, ENGINE.as_slice()),
-        engine: Telling::new(took),
-        log,
-    };
-    let run = run_pipes(rt, alloc, parts, b"", &mut interface, &mut handed);
-    Ok(run.end)
+    Ok(run_pipes(rt, alloc, parts, b"", interface, streams).end)
 }
 
 #[test]
 fn readers_run_beside(rt: HostRuntime) {
-    let took = AtomicU64::new(0);
+    let orders = AtomicU64::new(0);
     let ready = make_ready(rt.alloc()).expect(&rt, "memory for the core");
-    let end = run_talk(&rt, rt.alloc(), ready, &took).expect(&rt, "memory for the channel");
-    assert!(rt; end.iface == ReadEnd::Done);
-    assert!(rt; end.engine == ReadEnd::Done);
-    assert!(rt; took.load(Ordering::SeqCst) == QUIT);
+    let mut interface = make_interface(rt.alloc(), &orders).expect(&rt, "memory");
+    let mut streams = make_streams(rt.alloc(), &orders).expect(&rt, "memory");
+    let end = run_both(&rt, rt.alloc(), ready, &mut interface, &mut streams).expect(&rt, "memory");
+    assert!(rt; end.iface == ReadEnd::Done && end.engine == ReadEnd::Done);
+    assert!(rt; interface.input.missed().is_none() && streams.source.missed().is_none());
+    assert!(rt; orders.load(Ordering::SeqCst) == ORDERS);
 }
 
-// Runs the program for an interface and over an engine that wait for one another.
-fn run_program<R: Threads + Wait + Sync + Abort>(
-    rt: &R,
-    alloc: Global,
-    took: &AtomicU64,
-) -> RunResult {
-    let words = words_of(alloc, &["toy"]).expect(rt, "memory for the words");
-    let mut interface = Interface {
-        input: Waiting::new(took, IFACE.as_slice()),
-        output: MemSink::make(alloc, 1_000, &[]).expect(rt, "memory for the output"),
-    };
-    let mut diag = MemSink::make(alloc, 1_000, &[]).expect(rt, "memory for the diagnostic");
-    let status = bridge_main(
-        rt,
-        alloc,
-        words.as_slice(),
-        &mut interface,
-        &mut WaitingHost::new(took),
-        &mut diag,
-    );
-    RunResult {
-        code: status.code,
-        output: interface.output,
-        diag,
-    }
+// A host whose engine waits for its orders.
+fn make_host(alloc: Global, orders: &AtomicU64) -> Result<WaitingHost<'_>, NoMemory>
+    ensures { IfOk result (λ h. IsUnused (books_of h.host)) }
+{
+    let host = MemHost::make(alloc, ENGINE, PIECE, 1_000, &Fails::default())?;
+    Ok(WaitingHost::new(host, orders))
 }
 
 #[test]
 fn bridge_runs_beside(rt: HostRuntime) {
-    let took = AtomicU64::new(0);
-    let told = run_program(&rt, rt.alloc(), &took);
-    assert_eq!(rt; told.code, 0);
-    expect_bytes(&rt, told.diag.taken(), b"");
-    assert!(rt; took.load(Ordering::SeqCst) == QUIT);
+    let orders = AtomicU64::new(0);
+    let words = words_of(&rt, rt.alloc(), "toy");
+    let mut interface = make_interface(rt.alloc(), &orders).expect(&rt, "memory");
+    let mut host = make_host(rt.alloc(), &orders).expect(&rt, "memory");
+    let mut diag = MemSink::make(rt.alloc(), 1_000, &[]).expect(&rt, "memory");
+    let status = bridge_main(
+        &rt,
+        rt.alloc(),
+        words.as_slice(),
+        &mut interface,
+        &mut host,
+        &mut diag,
+    );
+    assert_eq!(rt; status.code, 0);
+    expect_bytes(&rt, diag.taken(), b"");
+    assert!(rt; interface.input.missed().is_none() && !host.has_missed());
+    assert!(rt; orders.load(Ordering::SeqCst) == ORDERS);
 }

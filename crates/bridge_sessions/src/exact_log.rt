@@ -1,100 +1,64 @@
 // Runs over a host in memory whose log and answers can be but one, written out to the byte.
 use crate::expected::expect_bytes;
-use crate::program::words_of;
-use crate::sayings::{Saying, Sayings};
-use bridge_runner::{bridge_main, logs_are_whole};
-use child_engine::{Fails, MemHost};
-use line_io::{MemSink, NoMemory};
-use paced_host::{PacedHost, PacedLog};
-use sink_offers::Interface;
+use crate::program::{Counts, Given, run_bridge};
+use bridge_runner::logs_are_whole;
+use child_engine::Fails;
+use paced_host::DueText;
 use std::alloc::Global;
 use std::process::Abort;
 use std::sync::Wait;
-use std::sync::atomic::AtomicU64;
 use std::thread::Threads;
 
-/// The sink whose lines an interface waits for.
-#[derive(Clone, Copy)]
-enum Awaited {
-    Log,
-    // The interface's own, which takes its answers.
-    Output,
-}
-
-/// What an interface says, once the sink that it waits for took so many lines, and what an engine
-/// says, once the log did; which writes to the engine fail; and what the interface is answered.
+/// What a run is given and which writes to the engine fail; then its status, what the interface is
+/// answered, and its log.
 #[derive(Clone, Copy)]
 struct ExactSession {
-    awaited: Awaited,
-    iface: &'static [Saying],
-    engine: &'static [u8],
-    // The engine's bytes come in one piece, and then its end.
-    engine_ends: &'static [u64],
+    given: Given,
     failing_writes: &'static [u64],
+    code: u8,
     answers: &'static [u8],
+    log: &'static [u8],
 }
 
-fn expect_none_missed(rt: &impl Abort, missed: Option<&str>) {
-    if let Some(missed) = missed {
-        panic!(rt; "{missed}");
-    }
-}
-
-// The status of the program, if its log is this one and its answers are those of the session.
-fn status_with<R: Threads + Wait + Sync + Abort>(
-    rt: &R,
-    alloc: Global,
-    session: ExactSession,
-    log: &[u8],
-) -> Result<u8, NoMemory> {
-    let words = words_of(alloc, &["--LogFile", "b.log", "--", "toy", "-x y"])?;
-    let lines = AtomicU64::new(0);
-    let answers = AtomicU64::new(0);
-    let awaited = match session.awaited {
-        Awaited::Log => &lines,
-        Awaited::Output => &answers,
-    };
+fn expect_session<R: Threads + Wait + Sync + Abort>(rt: &R, alloc: Global, session: &ExactSession) {
+    let counts = Counts::new();
     let fails = Fails {
         writes: session.failing_writes,
         ..Fails::default()
     };
-    let host = MemHost::make(alloc, session.engine, 100, 10_000, &fails)?;
-    let mut host = PacedHost::new(alloc, host, &lines, session.engine_ends);
-    let mut interface = Interface {
-        input: Sayings::new(awaited, session.iface),
-        output: PacedLog::new(MemSink::make(alloc, 1_000, &[])?, &answers),
-    };
-    let mut diag = MemSink::make(alloc, 1_000, &[])?;
-    let status = bridge_main(
-        rt,
-        alloc,
-        words.as_slice(),
-        &mut interface,
-        &mut host,
-        &mut diag,
-    );
-    expect_none_missed(rt, interface.input.missed());
-    expect_bytes(rt, host.logged(), log);
-    expect_bytes(rt, interface.output.sink.taken(), session.answers);
-    assert!(rt; host.was_asked_for(1, &["toy", "-x y"], "b.log"));
-    Ok(status.code)
+    let run = run_bridge(rt, alloc, &session.given, &fails, &counts);
+    expect_bytes(rt, run.host.logged(), session.log);
+    expect_bytes(rt, run.output.sink.taken(), session.answers);
+    assert!(rt; run.host.was_asked_for(1, &["toy", "-x y"], "b.log"));
+    assert_eq!(rt; run.code, session.code);
 }
 
-fn expect_code(rt: &impl Abort, found: u8, wanted: u8) {
-    assert_eq!(rt; found, wanted);
-}
+/// An engine's bytes come in one piece, and then its end.
+const GIVEN: Given = Given {
+    words: "--LogFile|b.log|--|toy|-x y",
+    awaits_answers: false,
+    iface: &[],
+    engine: b"uciok\n",
+    piece: 100,
+    engine_ends: &[],
+    diag_fails: &[],
+};
 
+// The interface waits for `u readyok` in the log.
 const WHOLE: ExactSession = ExactSession {
-    awaited: Awaited::Log,
-    iface: &[Saying {
-        lines: 8,
-        text: b"ping 3\nquit\n",
-        in_vain: "the log has no readyok\n",
-    }],
-    engine: b"uciok\nreadyok\n",
-    engine_ends: &[0, 14],
+    given: Given {
+        iface: &[DueText {
+            lines: 8,
+            text: b"ping 3\nquit\n",
+        }],
+        engine: b"uciok\nreadyok\n",
+        engine_ends: &[0, 14],
+        ..GIVEN
+    },
     failing_writes: &[],
+    code: 0,
     answers: b"pong 3\n",
+    log: WHOLE_LOG,
 };
 
 const WHOLE_LOG: &[u8] = b"\
@@ -118,22 +82,23 @@ const WHOLE_LOG: &[u8] = b"\
 #[test]
 fn a_whole_session_has_one_log(rt: HostRuntime) {
     logs_are_whole();
-    let code = status_with(&rt, rt.alloc(), WHOLE, WHOLE_LOG).expect(&rt, "memory");
-    expect_code(&rt, code, 0);
+    expect_session(&rt, rt.alloc(), &WHOLE);
 }
 
 // The second write to the engine fails, and the interface quits once the log has the engine's end.
 const REFUSED: ExactSession = ExactSession {
-    awaited: Awaited::Log,
-    iface: &[Saying {
-        lines: 11,
-        text: b"quit\n",
-        in_vain: "the log has no end of the engine\n",
-    }],
-    engine: b"uciok\n",
-    engine_ends: &[0, 0],
+    given: Given {
+        iface: &[DueText {
+            lines: 11,
+            text: b"quit\n",
+        }],
+        engine_ends: &[0, 0],
+        ..GIVEN
+    },
     failing_writes: &[2],
+    code: 7,
     answers: b"tellusererror Engine ended\n",
+    log: REFUSED_LOG,
 };
 
 const REFUSED_LOG: &[u8] = b"\
@@ -153,34 +118,33 @@ const REFUSED_LOG: &[u8] = b"\
 
 #[test]
 fn an_engine_that_takes_no_more(rt: HostRuntime) {
-    let code = status_with(&rt, rt.alloc(), REFUSED, REFUSED_LOG).expect(&rt, "memory");
-    expect_code(&rt, code, 7);
+    expect_session(&rt, rt.alloc(), &REFUSED);
 }
 
 // The interface waits for `feature done=1` before its ping, and for the pong before it quits. Each
-// event waits for what came of the one before, so a step that is written late is waited for in vain.
+// event waits for what came of the one before, so a step that is late is waited for in vain.
 const ANSWERED: ExactSession = ExactSession {
-    awaited: Awaited::Output,
-    iface: &[
-        Saying {
-            lines: 0,
-            text: b"xboard\nprotover 2\n",
-            in_vain: "nothing is waited for\n",
-        },
-        Saying {
-            lines: 18,
-            text: b"ping 1\n",
-            in_vain: "no feature done=1\n",
-        },
-        Saying {
-            lines: 19,
-            text: b"quit\n",
-            in_vain: "no pong\n",
-        },
-    ],
-    engine: b"uciok\n",
-    engine_ends: &[8, 34],
+    given: Given {
+        awaits_answers: true,
+        iface: &[
+            DueText {
+                lines: 0,
+                text: b"xboard\nprotover 2\n",
+            },
+            DueText {
+                lines: 18,
+                text: b"ping 1\n",
+            },
+            DueText {
+                lines: 19,
+                text: b"quit\n",
+            },
+        ],
+        engine_ends: &[8, 34],
+        ..GIVEN
+    },
     failing_writes: &[],
+    code: 0,
     answers: b"\
         feature done=0\n\
         feature myname=\"UCI engine\"\n\
@@ -201,6 +165,7 @@ const ANSWERED: ExactSession = ExactSession {
         feature smp=0\n\
         feature done=1\n\
         pong 1\n",
+    log: ANSWERED_LOG,
 };
 
 const ANSWERED_LOG: &[u8] = b"\
@@ -243,6 +208,5 @@ const ANSWERED_LOG: &[u8] = b"\
 
 #[test]
 fn an_interface_waits_for_its_answers(rt: HostRuntime) {
-    let code = status_with(&rt, rt.alloc(), ANSWERED, ANSWERED_LOG).expect(&rt, "memory");
-    expect_code(&rt, code, 0);
+    expect_session(&rt, rt.alloc(), &ANSWERED);
 }

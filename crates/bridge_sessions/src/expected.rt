@@ -1,14 +1,25 @@
-// What the tests expect, each kind of value compared in one place.
-use line_io::MemSink;
+// What the tests give and expect, each kind of value made or compared in one place.
+use std::alloc::Global;
 use std::process::Abort;
 
 pub fn expect_bytes(rt: &impl Abort, found: &[u8], wanted: &[u8]) {
     assert_eq!(rt; found, wanted);
 }
 
-pub fn expect_log(rt: &impl Abort, log: &Option<MemSink>, wanted: &[u8]) {
-    match log {
-        Some(log) => expect_bytes(rt, log.taken(), wanted),
-        None => panic!(rt; "there is no log"),
+/// What holds of the case of this name.
+pub fn expect(rt: &impl Abort, holds: bool, case: &str, number: usize) {
+    assert!(rt; holds, "{case} {number}");
+}
+
+/// The words of a text, bars between, as a program gets them.
+pub fn words_of(rt: &impl Abort, alloc: Global, text: &str) -> Vec<Vec<u8>> {
+    let mut words: Vec<Vec<u8>> = Vec::new(alloc);
+    for word in text.split('|') {
+        if word.is_empty() {
+            continue;
+        }
+        let word = Vec::from_slice(alloc, word.as_bytes()).expect(rt, "memory");
+        words.push(word).expect(rt, "memory");
     }
+    words
 }

@@ -1,4 +1,5 @@
-//! Sessions of the running bridge: its hosts, its readers beside the loop, and the whole program.
+//! Sessions of the running bridge, as `bridge` and as `wineravine`: its readers beside the loop,
+//! and both programs whole over hosts in memory.
 #![tactic(auto)]
 
 #[cfg(test)]
@@ -8,24 +9,18 @@ mod exact_log;
 #[cfg(test)]
 mod expected;
 #[cfg(test)]
-mod hosts;
-#[cfg(test)]
 mod lost_engine;
+#[cfg(test)]
+mod ping;
 #[cfg(test)]
 mod program;
 #[cfg(test)]
 mod ready;
 #[cfg(test)]
-mod recorder;
-#[cfg(test)]
 mod refused_calls;
-#[cfg(test)]
-mod sayings;
-#[cfg(test)]
-mod talk;
 #[cfg(test)]
 mod waiting_host;
 #[cfg(test)]
 mod whole_log;
 #[cfg(test)]
-mod words;
+mod wineravine;

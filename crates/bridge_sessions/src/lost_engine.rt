@@ -3,7 +3,7 @@ ghost use Rattle.std.specs.Prelude.{◌≡◌, []};
 ghost use Rattle.event_pipe.specs.Ends.{IsSender, IsFreshTaker, events_sent};
 ghost use Rattle.bridge_sessions.specs.Ready.{IsReady};
 
-use crate::expected::{expect_bytes, expect_log};
+use crate::expected::expect_bytes;
 use crate::ready::{ReadySession, make_ready};
 use event_pipe::{Pipe, PipeSend, PipeTake, read_pipe};
 use line_io::{MemSink, MemSource, NoMemory};
@@ -97,5 +97,8 @@ fn a_lost_engine_is_logged(rt: HostRuntime) {
     assert!(rt; end.engine && !end.output && !end.log);
     expect_bytes(&rt, sinks.engine.taken(), b"uci\n");
     expect_bytes(&rt, sinks.output.taken(), b"tellusererror Engine ended\n");
-    expect_log(&rt, &sinks.log, LOG);
+    let Some(log) = &sinks.log else {
+        panic!(rt; "there is no log")
+    };
+    expect_bytes(&rt, log.taken(), LOG);
 }

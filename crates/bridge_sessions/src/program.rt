@@ -1,95 +1,85 @@
-// The program over hosts in memory.
-ghost use Rattle.child_engine.specs.Hosts.{IsUnused};
-
-use crate::expected::expect_bytes;
+// The program over a host in memory, whose engine and whose interface wait for what was written.
+use crate::expected::words_of;
 use bridge_runner::bridge_main;
-use child_engine::{Host, SteadyHost};
-use line_io::{MemSink, MemSource, NoMemory};
+use child_engine::{Fails, MemHost};
+use line_io::MemSink;
+use paced_host::{DueText, PacedHost, PacedLog, PacedTexts};
 use sink_offers::Interface;
 use std::alloc::Global;
 use std::process::Abort;
 use std::sync::Wait;
+use std::sync::atomic::AtomicU64;
 use std::thread::Threads;
 
-pub const ENGINE: &[u8] = b"uciok\nreadyok\n";
-
-const INPUT: &[u8] = b"ping 3\nquit\n";
-
-const PONG: &[u8] = b"pong 3\n";
-
-const PONG_AND_END: &[u8] = b"pong 3\ntellusererror Engine ended\n";
-
-const END_AND_PONG: &[u8] = b"tellusererror Engine ended\npong 3\n";
-
-/// What a run answered and wrote.
+/// How many lines the log and the interface took.
 #[derive(Drop)]
-pub struct RunResult {
+pub struct Counts {
+    pub log: AtomicU64,
+    pub output: AtomicU64,
+}
+
+impl Counts {
+    pub fn new() -> Counts {
+        Counts {
+            log: AtomicU64::new(0),
+            output: AtomicU64::new(0),
+        }
+    }
+}
+
+/// What a run is given: the program's words, bars between; what an interface says, once the log or,
+/// if it awaits its answers, the interface's own sink took so many lines; what the engine says, at
+/// most so many bytes at a read, each read once the log took so many lines; and the writes of the
+/// diagnostic that fail.
+#[derive(Clone, Copy)]
+pub struct Given {
+    pub words: &'static str,
+    pub awaits_answers: bool,
+    pub iface: &'static [DueText],
+    pub engine: &'static [u8],
+    pub piece: usize,
+    pub engine_ends: &'static [u64],
+    pub diag_fails: &'static [u64],
+}
+
+/// What a run answered, and what its sinks and its host took.
+#[derive(Drop)]
+pub struct BridgeRun<'a> {
     pub code: u8,
-    pub output: MemSink,
+    pub output: PacedLog<'a>,
     pub diag: MemSink,
+    pub host: PacedHost<'a>,
 }
 
-impl RunResult {
-    /// Whether the ping was answered. The end of the engine is reported if it came before `quit`.
-    pub fn is_of_a_ping(&self) -> bool {
-        let output = self.output.taken();
-        output == PONG || output == PONG_AND_END || output == END_AND_PONG
-    }
-
-    /// Whether the run answered this and wrote these bytes and this diagnostic.
-    pub fn is(&self, code: u8, output: &[u8], diag: &[u8]) -> bool {
-        self.code == code && self.output.taken() == output && self.diag.taken() == diag
-    }
-}
-
-/// These words, as a program gets them.
-pub fn words_of(alloc: Global, texts: &[&str]) -> Result<Vec<Vec<u8>>, NoMemory> {
-    let mut words: Vec<Vec<u8>> = Vec::new(alloc);
-    for text in texts {
-        words.push(Vec::from_slice(alloc, text.as_bytes())?)?;
-    }
-    Ok(words)
-}
-
-/// Runs the program with these words over a host, for an interface that asks for an answer and
-/// quits. The writes of the diagnostic with these numbers fail.
-pub fn run_over<H: Host, R: Threads + Wait + Sync + Abort>(
+/// Runs the program over a host whose calls fail as these say.
+pub fn run_bridge<'a, R: Threads + Wait + Sync + Abort>(
     rt: &R,
     alloc: Global,
-    words: &[&str],
-    host: &mut H,
-    failing: &[u64],
-) -> RunResult
-    requires { IsUnused (H.books host.old) }
-{
-    let words = words_of(alloc, words).expect(rt, "memory for the words");
-    let mut interface = Interface {
-        input: MemSource::make(alloc, INPUT, 5, &[]).expect(rt, "memory for the input"),
-        output: MemSink::make(alloc, 1000, &[]).expect(rt, "memory for the output"),
+    given: &Given,
+    fails: &Fails,
+    counts: &'a Counts,
+) -> BridgeRun<'a> {
+    assert!(rt; 0 < given.piece);
+    let words = words_of(rt, alloc, given.words);
+    let awaited = if given.awaits_answers {
+        &counts.output
+    } else {
+        &counts.log
     };
-    let mut diag = MemSink::make(alloc, 1000, failing).expect(rt, "memory for the diagnostic");
-    let status = bridge_main(rt, alloc, words.as_slice(), &mut interface, host, &mut diag);
-    RunResult {
+    let host = MemHost::make(alloc, given.engine, given.piece, 10_000, fails).expect(rt, "memory");
+    let mut host = PacedHost::new(alloc, host, &counts.log, given.engine_ends);
+    let output = MemSink::make(alloc, 1_000, &[]).expect(rt, "memory");
+    let mut interface = Interface {
+        input: PacedTexts::new(awaited, given.iface),
+        output: PacedLog::new(output, &counts.output),
+    };
+    let mut diag = MemSink::make(alloc, 1_000, given.diag_fails).expect(rt, "memory");
+    let words = words.as_slice();
+    let status = bridge_main(rt, alloc, words, &mut interface, &mut host, &mut diag);
+    BridgeRun {
         code: status.code,
         output: interface.output,
         diag,
+        host,
     }
-}
-
-/// The same over a host that never fails.
-pub fn run_steady<R: Threads + Wait + Sync + Abort>(
-    rt: &R,
-    alloc: Global,
-    words: &[&str],
-) -> RunResult {
-    let mut host = SteadyHost::make(alloc, ENGINE, 5).expect(rt, "memory for the host");
-    run_over(rt, alloc, words, &mut host, &[])
-}
-
-#[test]
-fn a_session_over_a_steady_host(rt: HostRuntime) {
-    let told = run_steady(&rt, rt.alloc(), &["toy"]);
-    assert_eq!(rt; told.code, 0);
-    assert!(rt; told.is_of_a_ping());
-    expect_bytes(&rt, told.diag.taken(), b"");
 }

@@ -1,6 +1,7 @@
 // Each call to the outside refused in turn.
-use crate::program::{ENGINE, RunResult, run_over};
-use crate::recorder::Recorder;
+use crate::expected::expect;
+use crate::ping::{PING, is_answered};
+use crate::program::{BridgeRun, Counts, Given, run_bridge};
 use child_engine::Fails;
 use std::alloc::Global;
 use std::process::Abort;
@@ -13,71 +14,53 @@ const FIRST_STEP: &[u8] = b"\
     U uci\n\
     # 1\n";
 
-/// What a run answered and wrote, and what its engine and its log took.
-#[derive(Drop)]
-struct KeptRun {
-    told: RunResult,
-    host: Recorder,
-}
-
-// The call of this name fails; of reads and writes, those with these numbers.
-fn failing<'a>(call: &str, numbers: &'a [u64]) -> Fails<'a> {
-    let none = Fails::default();
-    match call {
-        "start" => Fails {
-            start: true,
-            ..none
-        },
-        "log" => Fails { log: true, ..none },
-        "wait" => Fails { wait: true, ..none },
-        "read" => Fails {
-            reads: numbers,
-            ..none
-        },
-        "write" => Fails {
-            writes: numbers,
-            ..none
-        },
-        "log write" => Fails {
-            logs: numbers,
-            ..none
-        },
-        _ => none,
-    }
-}
-
 // The diagnostic fails too, and changes no status.
-fn run_failing<R: Threads + Wait + Sync + Abort>(rt: &R, alloc: Global, fails: &Fails) -> KeptRun {
-    let mut host = Recorder::make(alloc, ENGINE, fails).expect(rt, "memory for the host");
-    let told = run_over(rt, alloc, &["toy"], &mut host, &[1]);
-    KeptRun { told, host }
+fn run_failing<'a, R: Threads + Wait + Sync + Abort>(
+    rt: &R,
+    alloc: Global,
+    fails: &Fails,
+    counts: &'a Counts,
+) -> BridgeRun<'a> {
+    let given = Given {
+        diag_fails: &[1],
+        ..PING
+    };
+    run_bridge(rt, alloc, &given, fails, counts)
 }
 
-/// A call that fails, and the status of the run.
-const ONCE: [(&str, u8); 3] = [("start", 8), ("log", 9), ("wait", 10)];
-
-// If the engine is not started, nothing is written. Otherwise the ping is answered.
-fn writes_as_after(told: &RunResult, call: &str) -> bool {
-    if call == "start" {
-        told.output.taken().is_empty()
+// Compares the status. If the engine is not started, nothing is written; else the ping is answered.
+fn expect_once<R: Threads + Wait + Sync + Abort>(
+    rt: &R,
+    alloc: Global,
+    call: &str,
+    fails: &Fails,
+    code: u8,
+) {
+    let counts = Counts::new();
+    let run = run_failing(rt, alloc, fails, &counts);
+    let writes_as_wanted = if fails.start {
+        run.output.sink.taken().is_empty()
     } else {
-        told.is_of_a_ping()
-    }
-}
-
-fn expect_once<R: Threads + Wait + Sync + Abort>(rt: &R, alloc: Global, call: &str, code: u8) {
-    let kept = run_failing(rt, alloc, &failing(call, &[]));
-    assert!(rt;
-        kept.told.code == code && writes_as_after(&kept.told, call),
-        "{call}"
-    );
+        is_answered(&run)
+    };
+    expect(rt, run.code == code && writes_as_wanted, call, 1);
 }
 
 #[test]
 fn calls_that_fail_once(rt: HostRuntime) {
-    for (call, code) in ONCE {
-        expect_once(&rt, rt.alloc(), call, code);
-    }
+    let none = Fails::default();
+    expect_once(
+        &rt,
+        rt.alloc(),
+        "start",
+        &Fails {
+            start: true,
+            ..none
+        },
+        8,
+    );
+    expect_once(&rt, rt.alloc(), "log", &Fails { log: true, ..none }, 9);
+    expect_once(&rt, rt.alloc(), "wait", &Fails { wait: true, ..none }, 10);
 }
 
 // Whether these are the first of the orders that the engine gets in some order of events.
@@ -97,70 +80,68 @@ fn marks_in(log: &[u8]) -> u64 {
 }
 
 // The engine's 14 bytes and its end are four reads.
-fn fits_failing_read(kept: &KeptRun, number: u64) -> bool {
+fn fits_failing_read(run: &BridgeRun, number: u64) -> bool {
     let code = if number <= 4 { 6 } else { 0 };
-    kept.told.code == code && begins_a_session(kept.host.wrote.as_slice())
+    run.code == code && begins_a_session(run.host.wrote())
 }
 
 // The engine gets `uci`, then `isready` or `quit`, and `quit` after `isready` if it comes
 // before the engine's end.
-fn fits_failing_write(kept: &KeptRun, number: u64) -> bool {
-    let code = kept.told.code;
+fn fits_failing_write(run: &BridgeRun, number: u64) -> bool {
+    let code = run.code;
     (code == 7 || code == 0 && number > 2)
         && (code == 0 || number < 4)
-        && begins_a_session(kept.host.wrote.as_slice())
+        && begins_a_session(run.host.wrote())
 }
 
 // The start, two lines of each side and the engine's end are six steps, after the first line.
-fn fits_failing_log_write(kept: &KeptRun, number: u64) -> bool {
+fn fits_failing_log_write(run: &BridgeRun, number: u64) -> bool {
     let code = if number <= 6 { 9 } else { 0 };
     let marks = if number == 1 { 0 } else { number.min(7) };
-    let log = kept.host.logged.as_slice();
-    kept.told.code == code
+    let log = run.host.logged();
+    run.code == code
         && marks_in(log) == marks
         && (log.starts_with(FIRST_STEP) || FIRST_STEP.starts_with(log))
-}
-
-fn fits(kept: &KeptRun, call: &str, number: u64) -> bool {
-    match call {
-        "read" => fits_failing_read(kept, number),
-        "write" => fits_failing_write(kept, number),
-        "log write" => fits_failing_log_write(kept, number),
-        _ => false,
-    }
-}
-
-// The ping is answered each time.
-fn expect_failing<R: Threads + Wait + Sync + Abort>(
-    rt: &R,
-    alloc: Global,
-    call: &str,
-    number: u64,
-) {
-    let kept = run_failing(rt, alloc, &failing(call, &[number]));
-    assert!(rt;
-        kept.told.is_of_a_ping() && fits(&kept, call, number),
-        "{call} {number}"
-    );
 }
 
 #[test]
 fn each_read_that_fails(rt: HostRuntime) {
     for number in 1..=12 {
-        expect_failing(&rt, rt.alloc(), "read", number);
+        let counts = Counts::new();
+        let fails = Fails {
+            reads: &[number],
+            ..Fails::default()
+        };
+        let run = run_failing(&rt, rt.alloc(), &fails, &counts);
+        let holds = is_answered(&run) && fits_failing_read(&run, number);
+        expect(&rt, holds, "read", number as usize);
     }
 }
 
 #[test]
 fn each_write_that_fails(rt: HostRuntime) {
     for number in 1..=12 {
-        expect_failing(&rt, rt.alloc(), "write", number);
+        let counts = Counts::new();
+        let fails = Fails {
+            writes: &[number],
+            ..Fails::default()
+        };
+        let run = run_failing(&rt, rt.alloc(), &fails, &counts);
+        let holds = is_answered(&run) && fits_failing_write(&run, number);
+        expect(&rt, holds, "write", number as usize);
     }
 }
 
 #[test]
 fn each_log_write_that_fails(rt: HostRuntime) {
     for number in 1..=12 {
-        expect_failing(&rt, rt.alloc(), "log write", number);
+        let counts = Counts::new();
+        let fails = Fails {
+            logs: &[number],
+            ..Fails::default()
+        };
+        let run = run_failing(&rt, rt.alloc(), &fails, &counts);
+        let holds = is_answered(&run) && fits_failing_log_write(&run, number);
+        expect(&rt, holds, "log write", number as usize);
     }
 }

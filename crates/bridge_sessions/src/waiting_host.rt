@@ -1,112 +1,109 @@
-// A host whose engine waits for what its input brings.
-ghost use Rattle.std.specs.Prelude.{◌≡◌, None, false};
-ghost use Rattle.child_engine.specs.Hosts.{RisesBy, unused_books};
-ghost use Rattle.bridge_sessions.specs.Waiting.{books_with};
+// A host in memory whose engine waits for its orders.
+ghost use Rattle.std.specs.Prelude.{◌≡◌};
 
-use crate::talk::{ENGINE, Telling, Waiting};
-use child_engine::{Faults, Host, HostFault, Started};
-use line_io::{Failed, NullSink};
+use child_engine::{Host, HostFault, MemHost, Started};
+use line_io::{Failed, MemSink};
+use paced_host::{PacedLog, PacedSource};
 use std::alloc::Global;
 use std::sync::atomic::AtomicU64;
 
-/// A host whose engine answers what its sink took, and ends after `quit`.
+/// What an engine says, at most six bytes at a read, and how many orders it waits for at each read:
+/// `uciok` is for `uci`, `readyok`, in two pieces, for `isready`, and the end for `quit`.
+pub const ENGINE: &[u8] = b"uciok\nreadyok\n";
+
+pub const PIECE: usize = 6;
+
+pub const ENGINE_WAITS: &[u64] = &[1, 2, 2, 3];
+
+/// A host in memory, whose engine's reads wait for the orders that its input took, and whether one
+/// waited in vain.
 #[derive(Drop)]
 pub struct WaitingHost<'a> {
-    took: &'a AtomicU64,
-    faults: Faults,
-    runs_out: u8,
-    logs_out: u8,
-    runs_closed: u8,
-    logs_closed: u8,
+    pub host: MemHost,
+    orders: &'a AtomicU64,
+    missed: bool,
 }
 
 impl<'a> WaitingHost<'a> {
-    /// A host that has handed out nothing.
-    pub fn new(took: &'a AtomicU64) -> WaitingHost<'a>
-        ensures { books_with result.runs_out result.logs_out result.runs_closed result.logs_closed
-            ≡ unused_books None false }
+    pub fn new(host: MemHost, orders: &'a AtomicU64) -> WaitingHost<'a>
+        ensures { result.host ≡ host }
     {
         WaitingHost {
-            took,
-            faults: Faults::default(),
-            runs_out: 0,
-            logs_out: 0,
-            runs_closed: 0,
-            logs_closed: 0,
+            host,
+            orders,
+            missed: false,
         }
     }
-}
 
-// One more, if the source had failed.
-fn raised(count: u64, part: u64) -> u64
-    ensures { RisesBy part count result }
-{
-    if part == 0 {
-        count
-    } else {
-        count.saturating_add(1)
+    /// Whether an engine that was closed waited for an order in vain.
+    pub fn has_missed(&self) -> bool {
+        self.missed
     }
 }
 
 impl<'a> Host for WaitingHost<'a> {
     ghost use Rattle.std.specs.Prelude.{◌≡◌, ◌<◌, length};
     ghost use Rattle.child_engine.specs.Hosts.{ClosesBy, with_closed_run};
-    ghost use Rattle.child_engine.specs.Real.{untold_runs, untold_source, untold_sink};
-    ghost use Rattle.bridge_sessions.specs.Waiting.{books_with};
+    ghost use Rattle.child_engine.specs.Memory.{asked_of, books_of, shown_by_source, shown_by_sink};
 
-    type EngineSource = Waiting<'a>;
+    type EngineSource = PacedSource<'a>;
 
-    type EngineSink = Telling<'a>;
+    type EngineSink = PacedLog<'a>;
 
-    type Log = NullSink;
+    type Log = MemSink;
 
     type EngineProcess = ();
 
-    ghost faults = { λ h. h.faults };
+    ghost faults = { λ h. h.host.faults };
 
-    ghost books = { λ h. books_with h.runs_out h.logs_out h.runs_closed h.logs_closed };
+    ghost books = { λ h. books_of h.host };
+
+    ghost asked = { λ h. asked_of h.host };
 
     fn start(
         &mut self,
-        _alloc: Global,
-        _words: &[String],
-    ) -> Result<Started<Waiting<'a>, Telling<'a>, ()>, HostFault> {
-        self.runs_out += 1;
+        alloc: Global,
+        words: &[String],
+    ) -> Result<Started<PacedSource<'a>, PacedLog<'a>, ()>, HostFault> {
+        let Started {
+            source,
+            sink,
+            process: (),
+        } = self.host.start(alloc, words)?;
         Ok(Started {
-            source: Waiting::new(self.took, ENGINE.as_slice()),
-            sink: Telling::new(self.took),
+            source: PacedSource::new(source, self.orders, ENGINE_WAITS),
+            sink: PacedLog::new(sink, self.orders),
             process: (),
         })
     }
 
-    fn open_log(&mut self, _alloc: Global, _name: &str) -> Result<NullSink, HostFault> {
-        self.logs_out += 1;
-        Ok(NullSink::new())
+    fn open_log(&mut self, alloc: Global, name: &str) -> Result<MemSink, HostFault> {
+        self.host.open_log(alloc, name)
     }
 
-    #[tactic(auto, using(child_engine::proofs::Untold::runs_count))]
-    fn close(&mut self, run: Started<Waiting<'a>, Telling<'a>, ()>) -> Result<(), Failed>
-        requires { length (untold_runs self.old.runs_closed) < self.old.runs_out }
-        ensures books { books_with self.new.runs_out self.new.logs_out
-            self.new.runs_closed self.new.logs_closed
-            ≡ with_closed_run
-            (books_with self.old.runs_out self.old.logs_out
-            self.old.runs_closed self.old.logs_closed)
-            (untold_source 0) (untold_sink 0) }
-        ensures cause { ClosesBy self.old.faults self.new.faults run.entry.source.faults 0 result }
+    fn close(&mut self, run: Started<PacedSource<'a>, PacedLog<'a>, ()>) -> Result<(), Failed>
+        requires { length (books_of self.old.host).runs < (books_of self.old.host).runs_out }
+        ensures books { books_of self.new.host ≡ with_closed_run (books_of self.old.host)
+            (shown_by_source run.entry.source.source) (shown_by_sink run.entry.sink.sink) }
+        ensures asked { asked_of self.new.host ≡ asked_of self.old.host }
+        ensures cause { ClosesBy self.old.host.faults self.new.host.faults
+            (shown_by_source run.entry.source.source).faults
+            (shown_by_sink run.entry.sink.sink).faults result }
     {
         let Started {
             source,
-            sink: _,
+            sink,
             process: (),
         } = run;
-        self.faults.reads = raised(self.faults.reads, source.faults());
-        self.runs_closed += 1;
-        Ok(())
+        self.missed = self.missed || source.missed().is_some();
+        self.host.close(Started {
+            source: source.source,
+            sink: sink.sink,
+            process: (),
+        })
     }
 
-    #[tactic(auto, using(child_engine::proofs::Untold::logs_count))]
-    fn close_log(&mut self, _log: NullSink) {
-        self.logs_closed += 1;
+    fn close_log(&mut self, log: MemSink) {
+        self.host.close_log(log)
     }
 }

@@ -5,7 +5,8 @@ ghost use Rattle.child_engine.specs.Hosts.{IsUnused};
 ghost use Rattle.child_engine.specs.Memory.{books_of, means_of};
 ghost use Rattle.bridge_sessions.specs.Scripts.{IsScript};
 
-use crate::program::{ENGINE, words_of};
+use crate::expected::words_of;
+use crate::ping::ENGINE;
 use bridge_runner::bridge_main;
 use child_engine::{Fails, MemHost};
 use line_io::{MemSink, MemSource, NoMemory};
@@ -40,7 +41,7 @@ fn log_of_a_ping<R: Threads + Wait + Sync + Abort>(
     rt: &R,
     alloc: Global,
 ) -> Result<Option<Vec<u8>>, NoMemory> {
-    let words = words_of(alloc, &["toy"])?;
+    let words = words_of(rt, alloc, "toy");
     let mut interface = Interface {
         input: MemSource::make(alloc, b"ping 3\nquit\n", 5, &[])?,
         output: MemSink::make(alloc, 1_000, &[])?,

@@ -1,72 +1,55 @@
-// A writer that is let go when it is told so, alone and as the input of an engine.
-use crate::hosts::words_of;
-use child_engine::{Closing, Host, LetGo, RealHost};
-use line_io::{Sink, Source};
-use std::process::ChildStdin;
-use std::{fs, process};
+// A writer that is let go when it is told so, and one that is let go behind `quit`.
+ghost use Rattle.std.specs.Prelude.{◌<◌, length};
+
+use crate::expected::expect;
+use child_engine::{Closing, EngineInput, LetGo};
+use line_io::{Failed, Sink};
+use std::process::Abort;
+
+// Whether a sink that was let go takes nothing, and counts it.
+fn is_shut(sink: &mut Closing<Vec<u8>>, piece: &[u8]) -> bool
+    requires { 0 < length piece.now }
+{
+    !sink.is_open() && sink.write(piece).is_err() && sink.faults() == 1
+}
 
 #[test]
 fn a_writer_is_let_go(rt: HostRuntime) {
     let bytes: Vec<u8> = Vec::new(rt.alloc());
     let mut sink = Closing::new(bytes);
-    assert!(rt; sink.write(b"uci\n").is_ok() && sink.is_open());
+    expect(
+        &rt,
+        sink.write(b"uci\n").is_ok() && sink.is_open(),
+        "open",
+        0,
+    );
     sink.let_go();
-    assert!(rt; !sink.is_open() && sink.write(b"quit\n").is_err());
-    assert!(rt; sink.faults() == 1);
+    expect(&rt, is_shut(&mut sink, b"quit\n"), "shut", 0);
     // a sink over no writer takes nothing
-    let mut sink: Closing<Vec<u8>> = Closing::shut();
-    assert!(rt; !sink.is_open() && sink.write(b"uci\n").is_err());
-    assert!(rt; sink.faults() == 1);
+    expect(&rt, is_shut(&mut Closing::shut(), b"uci\n"), "shut", 1);
 }
 
-/// What is written to a program, and what it says then.
-type Turn = (&'static [u8], &'static [u8]);
-
-/// The words of a program, and its turns until its input is let go and it ends.
-const RUNS: [(&[&str], &[Turn]); 2] = [
-    // it gives its input back, after `quit` too
-    (&["cat"], &[(b"quit\n", b"quit\n"), (b"stop\n", b"stop\n")]),
-    // it writes the arguments after its first one
-    (
-        &["printf", "%s.%s", "uci", "two words"],
-        &[(b"", b"uci.two words")],
-    ),
-];
-
-#[test]
-fn an_engine_gets_its_words_and_reads_on(rt: HostRuntime) {
-    for (words, turns) in RUNS {
-        let mut host = RealHost::<_, Closing<ChildStdin>>::new(&rt, true);
-        let words = words_of(&rt, rt.alloc(), words);
-        let mut run = host
-            .start(rt.alloc(), words.as_slice())
-            .expect(&rt, "an engine");
-        let mut buf = [0; 20];
-        for (piece, said) in turns {
-            assert!(rt; piece.is_empty() || run.sink.write(piece) == Ok(piece.len()));
-            assert!(rt; run.source.read(&mut buf) == Ok(said.len()));
-            assert!(rt; buf.starts_with(said));
-        }
-        run.sink.let_go();
-        assert!(rt; run.source.read(&mut buf) == Ok(0));
-        assert!(rt; host.close(run).is_ok());
-    }
+// What a piece's write answers, and whether the input is open after it.
+fn expect_write(
+    rt: &impl Abort,
+    input: &mut EngineInput<&mut Vec<u8>>,
+    piece: &[u8],
+    answer: Result<usize, Failed>,
+    is_open: bool,
+)
+    requires { 0 < length piece.now }
+{
+    let is_as_told = input.write(piece) == answer && input.is_open() == is_open;
+    expect(rt, is_as_told, "write", piece.len());
 }
 
-// The second log of a name has nothing of the first.
 #[test]
-fn a_log_is_made_anew(rt: HostRuntime) {
-    let number = process::id(rt.process());
-    let name = format!(in rt.alloc(); "/tmp/log-of-edge_tests-{number}").expect(&rt, "a name");
-    for line in [b"x a first log\n".as_slice(), b"u one\n"] {
-        let mut host = RealHost::<_, Closing<ChildStdin>>::new(&rt, true);
-        let mut log = host
-            .open_log(rt.alloc(), name.as_str())
-            .expect(&rt, "a log");
-        assert!(rt; log.write(line) == Ok(line.len()));
-        host.close_log(log);
-    }
-    let bytes = fs::read(&rt, name.as_str()).ok();
-    assert!(rt; fs::remove_file(&rt, name.as_str()).is_ok());
-    assert!(rt; bytes.expect(&rt, "the log").as_slice() == b"u one\n".as_slice());
+fn an_engine_input_ends_behind_quit(rt: HostRuntime) {
+    let mut taken: Vec<u8> = Vec::new(rt.alloc());
+    let mut input = EngineInput::new(&mut taken);
+    let moves = b"position startpos moves e2e4\ngo\n";
+    expect_write(&rt, &mut input, moves, Ok(32), true);
+    expect_write(&rt, &mut input, b"quit\n", Ok(5), false);
+    expect_write(&rt, &mut input, b"stop\n", Err(Failed), false);
+    expect(&rt, input.faults() == 1, "faults", 1);
 }

@@ -1,5 +1,7 @@
 // The words after a program's name.
+use crate::expected::expect;
 use program_edges::{WORD_ROOM, WORDS_ROOM, words_of};
+use std::alloc::Global;
 use std::env::{Env, FillError};
 
 // A program that was called with these words.
@@ -42,16 +44,27 @@ const ROWS: [Row; 4] = [
     (&[b"program", b"abc", b"de"], 0, false),
 ];
 
+// Whether the words are those after the program's name.
+fn are_rest(found: &[Vec<u8>], words: &[&[u8]]) -> bool {
+    for (word, wanted) in found.iter().zip(words.iter().skip(1)) {
+        if word.as_slice() != *wanted {
+            return false;
+        }
+    }
+    found.len() + 1 == words.len()
+}
+
+fn is_row(alloc: Global, row: &Row) -> bool {
+    let (words, room, fit) = row;
+    match words_of(&Called { words }, alloc, *room) {
+        Ok(found) => *fit && are_rest(found.as_slice(), words),
+        Err(_) => !*fit,
+    }
+}
+
 #[test]
 fn words_of_any_bytes_and_length_have_room(rt: HostRuntime) {
-    for (words, room, fit) in ROWS {
-        let Ok(found) = words_of(&Called { words }, rt.alloc(), room) else {
-            assert!(rt; !fit, "{room}");
-            continue;
-        };
-        assert!(rt; fit && found.len() == words.len() - 1, "{room}");
-        for (word, want) in found.iter().zip(words.iter().skip(1)) {
-            assert!(rt; word.as_slice() == *want, "{room}");
-        }
+    for row in &ROWS {
+        expect(&rt, is_row(rt.alloc(), row), "room", row.1);
     }
 }

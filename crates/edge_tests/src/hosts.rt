@@ -1,21 +1,20 @@
-// Hosts in memory, endings and what is reported of them, and threads.
-ghost use Rattle.std.specs.Prelude.{◌≡◌, ◌<◌, [], length};
-ghost use Rattle.child_engine.specs.Memory.{books_of};
+// Hosts in memory and over real programs: what engines get and say, and what is kept of it.
+ghost use Rattle.std.specs.Prelude.{◌≡◌, ◌<◌, [], length, IfOk};
 ghost use Rattle.child_engine.specs.Hosts.{IsUnused};
+ghost use Rattle.child_engine.specs.Memory.{books_of};
 
-use child_engine::{Fails, Host, HostFault, MemHost};
-use event_pipe::{ReadEnd, join_three};
-use host_run::{
-    Failures, Opened, ProgramEnding, TriedThreads, close_log, either, has_failed,
-    has_lacked_memory, is_open_failure, is_open_memory, only_memory, only_start, open_log, tell,
+use crate::expected::{expect, expect_bytes};
+use child_engine::{
+    Closing, EngineInput, Fails, Host, HostFault, LetGo, MemHost, RealHost, SteadyHost,
 };
-use line_io::{Failed, MemSink, ReadFault, Sink};
-use program_words::WordsRefusal;
+use host_run::{Opened, close_log, is_open_failure, is_open_memory, open_log};
+use line_io::{Sink, Source, write_all};
 use std::alloc::Global;
-use std::process::Abort;
+use std::process::{Abort, ChildStdin};
+use std::{fs, process};
 
 /// These words, as a host gets them.
-pub fn words_of(rt: &impl Abort, alloc: Global, texts: &[&str]) -> Vec<String>
+fn words_of(rt: &impl Abort, alloc: Global, texts: &[&str]) -> Vec<String>
     ensures { 0 < length result.items }
 {
     let mut words: Vec<String> = Vec::new(alloc);
@@ -36,97 +35,195 @@ fn are_texts(words: &[String], texts: &[&str]) -> bool {
     words.len() == texts.len()
 }
 
-// Starts an engine with these words, and takes it back.
-fn start_once(
-    host: &mut MemHost,
+/// What is written to an engine, if anything, and what it says at a read then.
+type Turn = (&'static [u8], &'static [u8]);
+
+fn is_turn<S: Source, K: Sink>(source: &mut S, sink: &mut K, piece: &[u8], said: &[u8]) -> bool {
+    if !piece.is_empty() && sink.write(piece) != Ok(piece.len()) {
+        return false;
+    }
+    let mut buf = [0; 20];
+    source.read(&mut buf) == Ok(said.len()) && buf.starts_with(said)
+}
+
+fn are_turns<S: Source, K: Sink>(source: &mut S, sink: &mut K, turns: &[Turn]) -> bool {
+    for (piece, said) in turns {
+        if !is_turn(source, sink, piece, said) {
+            return false;
+        }
+    }
+    true
+}
+
+// Starts an engine and closes it after these turns: whether all went well.
+fn run_engine<H: Host>(
+    host: &mut H,
     alloc: Global,
     words: &[String],
-) -> Result<Result<(), Failed>, HostFault>
+    turns: &[Turn],
+) -> Result<bool, HostFault>
     requires words { 0 < length words.now }
-    requires unused { IsUnused (books_of host.old) }
-    ensures logs { (books_of host.new).logs ≡ [] }
-    ensures logs_out { (books_of host.new).logs_out ≡ 0 }
+    requires unused { IsUnused (H.books host.old) }
+    ensures runs { IfOk result (λ _. length (H.books host.new).runs ≡ 1) }
+    ensures logs { (H.books host.new).logs ≡ [] }
+    ensures logs_out { (H.books host.new).logs_out ≡ 0 }
 {
-    let run = host.start(alloc, words)?;
-    Ok(host.close(run))
+    let mut run = host.start(alloc, words)?;
+    let are_as_told = are_turns(&mut run.source, &mut run.sink, turns);
+    Ok(host.close(run).is_ok() && are_as_told)
+}
+
+// The same, if its input is let go after the turns, and its output ends then.
+fn run_to_its_end<H: Host>(
+    host: &mut H,
+    alloc: Global,
+    words: &[String],
+    turns: &[Turn],
+) -> Result<bool, HostFault>
+where
+    H::EngineSink: LetGo,
+    requires words { 0 < length words.now }
+    requires unused { IsUnused (H.books host.old) }
+{
+    let mut run = host.start(alloc, words)?;
+    let are_as_told = are_turns(&mut run.source, &mut run.sink, turns);
+    run.sink.let_go();
+    let ends = run.source.read(&mut [0; 20]) == Ok(0);
+    Ok(host.close(run).is_ok() && are_as_told && ends)
+}
+
+// Opens a log, writes this into it and closes it: whether all went well, or why it was not opened.
+fn log_once<H: Host>(
+    host: &mut H,
+    alloc: Global,
+    name: &str,
+    piece: &[u8],
+) -> Result<bool, Option<HostFault>>
+    requires logs { (H.books host.old).logs ≡ [] }
+    requires logs_out { (H.books host.old).logs_out ≡ 0 }
+    ensures { IfOk result (λ _. length (H.books host.new).logs ≡ 1) }
+{
+    let Opened { log, fault } = open_log(host, alloc, name);
+    match log {
+        Some(mut log) => {
+            let is_written = write_all(&mut log, piece).is_ok();
+            close_log(host, Some(log));
+            Ok(is_written && !is_open_failure(fault) && !is_open_memory(fault))
+        }
+        None => Err(fault),
+    }
 }
 
 const WORDS: [&str; 2] = ["toy", "two words"];
 
-/// Whether a host in memory refuses what it is asked for, and what comes of a start.
-const ASKED: [(bool, Result<Result<(), Failed>, HostFault>); 2] = [
-    (false, Ok(Ok(()))),
-    (true, Err(HostFault::Failed)),
-];
+/// An engine's six bytes, at most four at a read.
+const TURNS: [Turn; 2] = [(b"uci\n", b"ucio"), (b"", b"k\n")];
 
 // The host keeps what it was asked for, also in vain.
-#[test]
-fn a_host_keeps_what_it_was_asked_for(rt: HostRuntime) {
-    let alloc = rt.alloc();
-    for (refuses, started) in ASKED {
-        let fails = Fails {
-            start: refuses,
-            log: refuses,
-            ..Fails::default()
-        };
-        let mut host = MemHost::make(alloc, b"uciok\n", 100, 100, &fails).expect(&rt, "a host");
-        let words = words_of(&rt, alloc, &WORDS);
-        assert!(rt; start_once(&mut host, alloc, words.as_slice()) == started);
-        let Opened { log, fault } = open_log(&mut host, alloc, "a.log");
-        assert!(rt; is_open_failure(fault) == refuses && !is_open_memory(fault));
-        match log {
-            Some(mut log) => {
-                assert!(rt; !refuses && log.write(b"U uci\n").is_ok());
-                close_log(&mut host, Some(log));
-            }
-            None => assert!(rt; refuses),
+fn was_asked_once(host: &MemHost) -> bool {
+    for words in host.engines() {
+        if !are_texts(words.as_slice(), &WORDS) {
+            return false;
         }
-        assert!(rt; are_texts(host.log_names(), &["a.log"]) && host.engines().len() == 1);
-        for words in host.engines() {
-            assert!(rt; are_texts(words.as_slice(), &WORDS));
-        }
+    }
+    host.engines().len() == 1 && are_texts(host.log_names(), &["a.log"])
+}
+
+// Whether an engine's start was refused, or it went as told.
+fn has_started(host: &MemHost, ran: Result<bool, HostFault>, refuses: bool) -> bool
+    requires { IfOk ran (λ _. length (books_of host.now).runs ≡ 1) }
+{
+    match ran {
+        Ok(is_as_told) => !refuses && is_as_told && host.wrote(0) == b"uci\n".as_slice(),
+        Err(fault) => refuses && fault == HostFault::Failed,
     }
 }
 
-#[test]
-fn the_first_failure_is_reported(rt: HostRuntime) {
-    let failures = Failures {
-        engine_write: true,
-        log: true,
-        ..Failures::default()
+// Whether a log was refused, or took what was written.
+fn has_logged(host: &MemHost, written: Result<bool, Option<HostFault>>, refuses: bool) -> bool
+    requires { IfOk written (λ _. length (books_of host.now).logs ≡ 1) }
+{
+    match written {
+        Ok(is_written) => !refuses && is_written && host.logged(0) == b"U uci\n".as_slice(),
+        Err(fault) => refuses && is_open_failure(fault) && !is_open_memory(fault),
+    }
+}
+
+fn expect_kept(rt: &impl Abort, alloc: Global, refuses: bool) {
+    let fails = Fails {
+        start: refuses,
+        log: refuses,
+        ..Fails::default()
     };
-    let mut diag = MemSink::make(rt.alloc(), 100, &[]).expect(&rt, "a diagnostic");
-    tell(b"driver", ProgramEnding::of(failures), &mut diag);
-    tell(b"driver", ProgramEnding::of(Failures::default()), &mut diag);
-    assert!(rt; diag.taken() == b"driver: engine writing failed\n".as_slice());
-    let endings = [
-        (ProgramEnding::of(failures), 7),
-        (ProgramEnding::of(only_memory()), 3),
-        (ProgramEnding::of(only_start()), 8),
-        (ProgramEnding::from(WordsRefusal::Usage), 2),
-        (ProgramEnding::from(WordsRefusal::NoMemory), 3),
-    ];
-    for (ending, code) in endings {
-        assert!(rt; ending.code() == code, "{code}");
-    }
-    assert!(rt; either(false, true) && !either(false, false));
-    // readers end in three ways
-    let ends = [
-        (ReadEnd::Fault(ReadFault), true, false),
-        (ReadEnd::NoMemory, false, true),
-        (ReadEnd::Done, false, false),
-    ];
-    for (end, failed, lacked_memory) in ends {
-        assert!(rt; has_failed(end) == failed && has_lacked_memory(end) == lacked_memory);
+    let mut host = MemHost::make(alloc, b"uciok\n", 4, 16, &fails).expect(rt, "a host");
+    let words = words_of(rt, alloc, &WORDS);
+    let ran = run_engine(&mut host, alloc, words.as_slice(), &TURNS);
+    expect(rt, has_started(&host, ran, refuses), "start", 0);
+    let written = log_once(&mut host, alloc, "a.log", b"U uci\n");
+    expect(rt, has_logged(&host, written, refuses), "log", 0);
+    expect(rt, was_asked_once(&host), "asked", 0);
+}
+
+#[test]
+fn a_host_in_memory_keeps_what_it_was_asked_for(rt: HostRuntime) {
+    expect_kept(&rt, rt.alloc(), false);
+    expect_kept(&rt, rt.alloc(), true);
+}
+
+#[test]
+fn a_steady_host_says_the_same_bytes(rt: HostRuntime) {
+    let mut host = SteadyHost::make(rt.alloc(), b"uciok\n", 4).expect(&rt, "a host");
+    let words = words_of(&rt, rt.alloc(), &["cat"]);
+    let ran = run_engine(&mut host, rt.alloc(), words.as_slice(), &TURNS);
+    expect(&rt, ran == Ok(true), "start", 0);
+    let written = log_once(&mut host, rt.alloc(), "a.log", b"U uci\n");
+    expect(&rt, written == Ok(true), "log", 0);
+}
+
+/// The words of a program, and its turns until its input is let go and it ends.
+type Run = (&'static [&'static str], &'static [Turn]);
+
+const RUNS: [Run; 2] = [
+    // it gives its input back, after `quit` too
+    (&["cat"], &[(b"quit\n", b"quit\n"), (b"stop\n", b"stop\n")]),
+    // it writes the arguments after its first one
+    (
+        &["printf", "%s.%s", "uci", "two words"],
+        &[(b"", b"uci.two words")],
+    ),
+];
+
+#[test]
+fn an_engine_gets_its_words_and_reads_on(rt: HostRuntime) {
+    for (words, turns) in &RUNS {
+        let mut host = RealHost::<_, Closing<ChildStdin>>::new(&rt, true);
+        let words = words_of(&rt, rt.alloc(), words);
+        let ran = run_to_its_end(&mut host, rt.alloc(), words.as_slice(), turns);
+        expect(&rt, ran == Ok(true), "start", turns.len());
     }
 }
 
-// Threads are tried; each of the three is called once, and its answer stands in its place.
+// `cat` gives its input back, and ends at the end of it, which comes after `quit`.
 #[test]
-fn three_are_called_side_by_side(rt: HostRuntime) {
-    let threads = TriedThreads::ask(&rt);
-    assert!(rt; threads.were_given());
-    threads.join(&rt);
-    let answers = join_three(&rt, &mut || 1u8, &mut || 2u8, &mut || 3u8);
-    assert!(rt; answers == (1, 2, 3));
+fn an_engine_that_quits_gets_no_more(rt: HostRuntime) {
+    let mut host = RealHost::<_, EngineInput<ChildStdin>>::new(&rt, true);
+    let words = words_of(&rt, rt.alloc(), &["cat"]);
+    let turns: [Turn; 2] = [(b"quit\n", b"quit\n"), (b"", b"")];
+    let ran = run_engine(&mut host, rt.alloc(), words.as_slice(), &turns);
+    expect(&rt, ran == Ok(true), "start", 0);
+}
+
+// The second log of a name has nothing of the first.
+#[test]
+fn a_log_is_made_anew(rt: HostRuntime) {
+    let number = process::id(rt.process());
+    let name = format!(in rt.alloc(); "/tmp/log-of-edge_tests-{number}").expect(&rt, "a name");
+    for line in [b"x a first log\n".as_slice(), b"u one\n"] {
+        let mut host = RealHost::<_, Closing<ChildStdin>>::new(&rt, true);
+        let written = log_once(&mut host, rt.alloc(), name.as_str(), line);
+        expect(&rt, written == Ok(true), "log", line.len());
+    }
+    let bytes = fs::read(&rt, name.as_str()).ok();
+    expect(&rt, fs::remove_file(&rt, name.as_str()).is_ok(), "log", 0);
+    expect_bytes(&rt, bytes.expect(&rt, "the log").as_slice(), b"u one\n");
 }

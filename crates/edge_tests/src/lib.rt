@@ -7,6 +7,10 @@ mod closing;
 #[cfg(test)]
 mod edges;
 #[cfg(test)]
+mod endings;
+#[cfg(test)]
+mod expected;
+#[cfg(test)]
 mod hosts;
 #[cfg(test)]
 mod lines;

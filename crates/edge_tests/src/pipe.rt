@@ -2,8 +2,9 @@
 ghost use Rattle.std.specs.Prelude.{◌≡◌, []};
 ghost use Rattle.event_pipe.specs.Ends.{IsSender, IsTaker, KeepsSender, KeepsTaker, events_sent};
 
+use crate::expected::{expect, source_of};
 use event_pipe::{Pipe, PipeSend, PipeTake, ReadEnd, read_pipe};
-use line_io::{Event, MemSource, ReadFault};
+use line_io::{Event, ReadFault};
 use std::alloc::Global;
 use std::process::Abort;
 use std::sync::Wait;
@@ -87,16 +88,10 @@ fn send(rt: &(impl Abort + Wait), alloc: Global, given: &Given, to: &mut PipeSen
     requires fresh { events_sent to.old ≡ [] }
     ensures { KeepsSender to.old to.new }
 {
-    let mut bytes = vec![in alloc; b'a'; given.letters].expect(rt, "memory for the letters");
-    bytes
-        .extend_from_slice(given.bytes)
-        .expect(rt, "memory for the bytes");
-    assert!(rt; 0 < given.piece);
-    let mut source = MemSource::make(alloc, bytes.as_slice(), given.piece, given.fails).expect(
-        rt,
-        "memory for the source",
-    );
-    assert!(rt; read_pipe(rt, alloc, &mut source, to) == given.end);
+    let letters = (b'a', given.letters);
+    let mut source = source_of(rt, alloc, letters, given.bytes, given.piece, given.fails);
+    let end = read_pipe(rt, alloc, &mut source, to);
+    expect(rt, end == given.end, "end", given.piece);
 }
 
 /// Takes the next events, and compares them.
@@ -106,17 +101,22 @@ fn take_all(rt: &(impl Abort + Wait), taker: &mut PipeTake, events: &[Event], ro
 {
     for event in events {
         let sent = taker.take(rt);
-        assert!(rt; sent.event() == *event, "row {row}");
+        expect(rt, sent.event() == *event, "row", row);
     }
+}
+
+fn expect_row(rt: &(impl Abort + Wait), alloc: Global, row: &Row, number: usize) {
+    let (engine, iface, events) = row;
+    let (mut input, mut child, mut taker) = Pipe::make(alloc).expect(rt, "a channel");
+    send(rt, alloc, iface, &mut input);
+    send(rt, alloc, engine, &mut child);
+    take_all(rt, &mut taker, events, number);
+    Pipe::finish(input, child, taker);
 }
 
 #[test]
 fn lines_arrive_in_order(rt: HostRuntime) {
-    for (row, (engine, iface, events)) in ROWS.iter().enumerate() {
-        let (mut input, mut child, mut taker) = Pipe::make(rt.alloc()).expect(&rt, "a channel");
-        send(&rt, rt.alloc(), iface, &mut input);
-        send(&rt, rt.alloc(), engine, &mut child);
-        take_all(&rt, &mut taker, events, row);
-        Pipe::finish(input, child, taker);
+    for (number, row) in ROWS.iter().enumerate() {
+        expect_row(&rt, rt.alloc(), row, number);
     }
 }

@@ -1,5 +1,8 @@
 // A taker of lines, which is given each line of an input.
+use crate::expected::expect;
 use line_io::{Lines, LinesEnd, MemSource, Out, TakesLines, take_lines};
+use std::alloc::Global;
+use std::process::Abort;
 
 // Notes what it is given, and stops at the line of a number.
 #[derive(Drop)]
@@ -67,22 +70,27 @@ const ROWS: [Row; 4] = [
     (&[2], 9, LinesEnd::ReadFailed, "(read);a;;(read);"),
 ];
 
+// Takes the lines of an input, and compares how that ends and what is noted.
+fn expect_row(rt: &impl Abort, alloc: Global, row: &Row) {
+    let (fails, last, end, text) = row;
+    let mut lines = Lines::make(alloc, 2).expect(rt, "memory for a line");
+    let mut source = MemSource::make(alloc, b"a\n\nbcd\ne", 3, fails).expect(rt, "an input");
+    let mut notes = Notes {
+        text: Out::make(alloc, 99).expect(rt, "memory for the notes"),
+        last: *last,
+    };
+    let found = take_lines(&mut lines, &mut source, &mut notes, &mut ());
+    expect(
+        rt,
+        found == *end && notes.text.bytes() == text.as_bytes(),
+        text,
+        0,
+    );
+}
+
 #[test]
 fn takes_lines_of_an_input(rt: HostRuntime) {
-    for (fails, last, end, text) in ROWS {
-        let mut lines = Lines::make(rt.alloc(), 2).expect(&rt, "memory for a line");
-        let mut source = MemSource::make(rt.alloc(), b"a\n\nbcd\ne", 3, fails).expect(
-            &rt,
-            "memory for the input",
-        );
-        let mut notes = Notes {
-            text: Out::make(rt.alloc(), 99).expect(&rt, "memory for the notes"),
-            last,
-        };
-        let found = take_lines(&mut lines, &mut source, &mut notes, &mut ());
-        assert!(rt;
-            found == end && notes.text.bytes() == text.as_bytes(),
-            "{text}"
-        );
+    for row in &ROWS {
+        expect_row(&rt, rt.alloc(), row);
     }
 }

@@ -1,18 +1,10 @@
 // A run over a host in memory whose log can be but one, written out to the byte.
-use crate::cases::{Case, run_case};
-use std::sync::atomic::AtomicU64;
+use crate::expected::expect_bytes;
+use crate::program::Counts;
+use crate::wineravine::cases::{Case, run_case};
 
 const SESSION: Case = Case {
-    words: &[
-        "--LogFile=w.log",
-        "--Option",
-        "Style=Solid",
-        "--Option=Nope=1",
-        "--Option",
-        "Clear",
-        "toy",
-        "-x",
-    ],
+    words: "--LogFile=w.log|--Option|Style=Solid|--Option=Nope=1|--Option|Clear|toy|-x",
     starts: true,
     failing: &[],
     code: 0,
@@ -56,8 +48,8 @@ const LOG: &[u8] = b"\
 
 #[test]
 fn options_come_before_the_first_line_of_an_engine_that_talks_at_once(rt: HostRuntime) {
-    let lines = AtomicU64::new(0);
-    let host = run_case(&rt, rt.alloc(), &SESSION, &lines, 0);
-    assert!(rt; host.logged() == LOG);
+    let counts = Counts::new();
+    let host = run_case(&rt, rt.alloc(), &SESSION, &counts, 0);
+    expect_bytes(&rt, host.logged(), LOG);
     assert!(rt; host.was_asked_for(1, &["toy", "-x"], "w.log"));
 }

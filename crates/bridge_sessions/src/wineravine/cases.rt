@@ -1,22 +1,23 @@
 // Each case of the program over a host in memory, to the byte.
-use crate::expected::words_of;
+use crate::expected::{expect, expect_bytes, words_of};
+use crate::program::Counts;
 use child_engine::{Fails, MemHost};
-use line_io::{MemSink, MemSource};
-use paced_host::{PacedHost, PacedSource};
+use line_io::MemSink;
+use paced_host::{DueText, PacedHost, PacedLog, PacedTexts};
 use sink_offers::Interface;
 use std::alloc::Global;
 use std::process::Abort;
 use std::sync::Wait;
-use std::sync::atomic::AtomicU64;
 use std::thread::Threads;
 use wineravine_app::{refuse_for_memory, wineravine_main};
 use wineravine_words::HELP;
 
-/// The words that a program is called with, whether the host starts its engine, and the writes to
-/// the interface that fail; then its status, what the interface gets, and the diagnostic.
+/// The words that a program is called with, bars between, whether the host starts its engine, and
+/// the writes to the interface that fail; then its status, what the interface gets, and the
+/// diagnostic.
 #[derive(Clone, Copy)]
 pub struct Case {
-    pub words: &'static [&'static str],
+    pub words: &'static str,
     pub starts: bool,
     pub failing: &'static [u64],
     pub code: u8,
@@ -35,17 +36,18 @@ const ENGINE: &[u8] = b"\
 // The engine's bytes come at once, and its end once the log has what it got last.
 const ENGINE_ENDS: &[u64] = &[0, 29];
 
-const INPUT: &[u8] = b"ping 3\nquit\n";
-
 // The interface speaks once the log has so many lines.
-const IFACE_SPEAKS: &[u64] = &[23];
+const INPUT: &[DueText] = &[DueText {
+    lines: 23,
+    text: b"ping 3\nquit\n",
+}];
 
 /// Runs the program, compares its status and what it writes, and gives back the host.
 pub fn run_case<'a, R: Threads + Wait + Sync + Abort>(
     rt: &R,
     alloc: Global,
     case: &Case,
-    lines: &'a AtomicU64,
+    counts: &'a Counts,
     name: usize,
 ) -> PacedHost<'a> {
     let words = words_of(rt, alloc, case.words);
@@ -54,39 +56,34 @@ pub fn run_case<'a, R: Threads + Wait + Sync + Abort>(
         ..Fails::default()
     };
     let host = MemHost::make(alloc, ENGINE, 200, 10_000, &fails).expect(rt, "memory");
-    let mut host = PacedHost::new(alloc, host, lines, ENGINE_ENDS);
-    let input = MemSource::make(alloc, INPUT, 200, &[]).expect(rt, "memory");
+    let mut host = PacedHost::new(alloc, host, &counts.log, ENGINE_ENDS);
+    let output = MemSink::make(alloc, 5_000, case.failing).expect(rt, "memory");
     let mut interface = Interface {
-        input: PacedSource::new(input, lines, IFACE_SPEAKS),
-        output: MemSink::make(alloc, 5_000, case.failing).expect(rt, "memory"),
+        input: PacedTexts::new(&counts.log, INPUT),
+        output: PacedLog::new(output, &counts.output),
     };
     let mut diag = MemSink::make(alloc, 1_000, &[]).expect(rt, "memory");
-    let status = wineravine_main(
+    let words = words.as_slice();
+    let status = wineravine_main(rt, alloc, words, &mut interface, &mut host, &mut diag);
+    let output = interface.output.sink.taken();
+    expect(rt, status.code == case.code, "the status of case", name);
+    expect(
         rt,
-        alloc,
-        words.as_slice(),
-        &mut interface,
-        &mut host,
-        &mut diag,
+        output == case.output.as_bytes(),
+        "the output of case",
+        name,
     );
-    assert!(rt;
-        interface.input.missed().is_none(),
-        "the interface of case {name} waits in vain"
-    );
-    assert!(rt; status.code == case.code, "the status of case {name}");
-    assert!(rt;
-        interface.output.taken() == case.output.as_bytes(),
-        "the output of case {name}"
-    );
-    assert!(rt;
+    expect(
+        rt,
         diag.taken() == case.diag.as_bytes(),
-        "the diagnostic of case {name}"
+        "the diagnostic of case",
+        name,
     );
     host
 }
 
 const SHOWS_HELP: Case = Case {
-    words: &["--help"],
+    words: "--help",
     starts: true,
     failing: &[],
     code: 0,
@@ -95,13 +92,13 @@ const SHOWS_HELP: Case = Case {
 };
 
 const SHOWS_VERSION: Case = Case {
-    words: &["--version"],
+    words: "--version",
     output: "wineravine 0.1\n",
     ..SHOWS_HELP
 };
 
 const IS_NOT_STARTED: Case = Case {
-    words: &["no\nsuch\rtoy", "-x"],
+    words: "no\nsuch\rtoy|-x",
     starts: false,
     code: 8,
     output: "tellusererror Engine not started: nosuchtoy\n",
@@ -126,12 +123,12 @@ const LONG_NAME_SHOWN: &str = "tellusererror Engine not started: \
 const CASES: [Case; 8] = [
     SHOWS_HELP,
     Case {
-        words: &["-h"],
+        words: "-h",
         ..SHOWS_HELP
     },
     SHOWS_VERSION,
     Case {
-        words: &["-V"],
+        words: "-V",
         ..SHOWS_VERSION
     },
     // help that cannot be written is a failure
@@ -144,7 +141,7 @@ const CASES: [Case; 8] = [
     },
     // wrong words are shown to the user
     Case {
-        words: &["--NoSuch", "toy"],
+        words: "--NoSuch|toy",
         code: 2,
         output: "tellusererror wineravine: wrong arguments\n",
         diag: "\
@@ -160,7 +157,7 @@ const CASES: [Case; 8] = [
     // an engine that is not started is shown to the user, a long name in part
     IS_NOT_STARTED,
     Case {
-        words: &[LONG_NAME],
+        words: LONG_NAME,
         output: LONG_NAME_SHOWN,
         ..IS_NOT_STARTED
     },
@@ -169,10 +166,15 @@ const CASES: [Case; 8] = [
 #[test]
 fn each_case_is_told(rt: HostRuntime) {
     for (name, case) in CASES.iter().enumerate() {
-        let lines = AtomicU64::new(0);
-        run_case(&rt, rt.alloc(), case, &lines, name);
+        let counts = Counts::new();
+        run_case(&rt, rt.alloc(), case, &counts, name);
     }
     let mut diag = MemSink::make(rt.alloc(), 100, &[]).expect(&rt, "memory");
-    assert!(rt; refuse_for_memory(&mut diag).code == 3);
-    assert!(rt; diag.taken() == b"wineravine: no memory\n".as_slice());
+    expect(
+        &rt,
+        refuse_for_memory(&mut diag).code == 3,
+        "the status of case",
+        8,
+    );
+    expect_bytes(&rt, diag.taken(), b"wineravine: no memory\n");
 }
