@@ -82,13 +82,17 @@ const THINKING_LINES: &str = "\
     x stop||exit\nping 1\n;\
     u pong 1|bestmove b1c3\n|";
 
+fn expect_session(rt: &impl Abort, alloc: Global, rows: &str) {
+    let mut driver = Driver::make(alloc).expect(rt, "memory for the driver");
+    expect_played(rt, &mut driver, OPENING);
+    expect_played(rt, &mut driver, rows);
+}
+
 #[test]
 fn sessions_are_played(rt: HostRuntime) {
-    for rows in [A_GAME, AN_ANALYSIS, THINKING_LINES] {
-        let mut driver = Driver::make(rt.alloc()).expect(&rt, "memory for the driver");
-        expect_played(&rt, &mut driver, OPENING);
-        expect_played(&rt, &mut driver, rows);
-    }
+    expect_session(&rt, rt.alloc(), A_GAME);
+    expect_session(&rt, rt.alloc(), AN_ANALYSIS);
+    expect_session(&rt, rt.alloc(), THINKING_LINES);
 }
 
 fn plays_line(driver: &mut Driver, line: &'static [u8], text: &mut Out) -> bool

@@ -82,7 +82,8 @@ const LOG: &[u8] = b"\
     x.\n\
     u.\n";
 
-/// How many lines the log took, and how many calls of the engine's input and of the output are over.
+/// How many lines the log took, and how many calls of the engine's input and of the output are
+/// over.
 #[derive(Drop)]
 struct Counts {
     lines: AtomicU64,
