@@ -1,0 +1,6 @@
+// The driver.
+mod calls;
+mod loops;
+mod program;
+mod talks;
+mod turns;

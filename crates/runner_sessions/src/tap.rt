@@ -1,0 +1,4 @@
+// The tap.
+mod directions;
+mod order;
+mod program;

@@ -1,0 +1,141 @@
+// The mark of a line is sent to the log before its bytes are handed on, and the mark of an end
+// before the sink is let go. A sink waits here until the log has the mark: were the mark sent after
+// that, it would wait in vain, and say so in what it took.
+use crate::expected::{expect_bytes, expect_true};
+use crate::paced_sink::PacedSink;
+use crate::tap::directions::{is_end, run_both};
+use line_io::MemSink;
+use paced_host::{DueText, PacedLog, PacedTexts};
+use sink_offers::{HandedStreams, Interface};
+use std::alloc::Global;
+use std::process::Abort;
+use std::sync::Wait;
+use std::sync::atomic::AtomicU64;
+use std::thread::Threads;
+
+/// After how many lines of the log each call of the engine's input and of the output is due.
+#[derive(Clone, Copy)]
+struct Row {
+    name: &'static str,
+    engine: &'static [DueText],
+    output: &'static [DueText],
+}
+
+const ROWS: [Row; 2] = [
+    Row {
+        name: "the engine's input waits for the log",
+        engine: &[
+            DueText {
+                lines: 1,
+                text: b"",
+            },
+            DueText {
+                lines: 3,
+                text: b"",
+            },
+        ],
+        output: &[],
+    },
+    Row {
+        name: "the output waits for the log",
+        engine: &[],
+        output: &[
+            DueText {
+                lines: 2,
+                text: b"",
+            },
+            DueText {
+                lines: 4,
+                text: b"",
+            },
+        ],
+    },
+];
+
+// By the lines of the log.
+const BRIDGE: [DueText; 2] = [
+    DueText {
+        lines: 0,
+        text: b"isready\n",
+    },
+    DueText {
+        lines: 2,
+        text: b"",
+    },
+];
+
+// By the calls of its input that are over: it answers what it was given.
+const ENGINE: [DueText; 2] = [
+    DueText {
+        lines: 1,
+        text: b"readyok\n",
+    },
+    DueText {
+        lines: 2,
+        text: b"",
+    },
+];
+
+const LOG: &[u8] = b"\
+    U isready\n\
+    u readyok\n\
+    x.\n\
+    u.\n";
+
+/// How many lines the log took, and how many calls of the engine's input and of the output are
+/// over.
+#[derive(Drop)]
+struct Counts {
+    lines: AtomicU64,
+    orders: AtomicU64,
+    answers: AtomicU64,
+}
+
+fn expect_order<R: Threads + Wait + Sync + Abort>(
+    rt: &R,
+    alloc: Global,
+    row: &Row,
+    counts: &Counts,
+) {
+    let log = MemSink::make(alloc, 1_000, &[]).expect(rt, "memory for a log");
+    let mut interface = Interface {
+        input: PacedTexts::new(&counts.lines, &BRIDGE),
+        output: PacedSink::new(
+            alloc,
+            PacedTexts::new(&counts.lines, row.output),
+            &counts.answers,
+            b"",
+        ),
+    };
+    let mut handed = HandedStreams {
+        source: PacedTexts::new(&counts.orders, &ENGINE),
+        engine: PacedSink::new(
+            alloc,
+            PacedTexts::new(&counts.lines, row.engine),
+            &counts.orders,
+            b"",
+        ),
+        log: Some(PacedLog::new(log, &counts.lines)),
+    };
+    let end = run_both(rt, alloc, &mut interface, &mut handed);
+    expect_bytes(rt, row.name, handed.engine.bytes(), b"isready\n");
+    expect_bytes(rt, row.name, interface.output.bytes(), b"readyok\n");
+    match &handed.log {
+        Some(log) => expect_bytes(rt, row.name, log.sink.taken(), LOG),
+        None => expect_true(rt, row.name, false),
+    }
+    let is_done = is_end(&end.bridge, false) && is_end(&end.engine, false);
+    expect_true(rt, row.name, is_done && !end.log_failed);
+}
+
+#[test]
+fn marks_come_before_their_bytes(rt: HostRuntime) {
+    for row in &ROWS {
+        let counts = Counts {
+            lines: AtomicU64::new(0),
+            orders: AtomicU64::new(0),
+            answers: AtomicU64::new(0),
+        };
+        expect_order(&rt, rt.alloc(), row, &counts);
+    }
+}
