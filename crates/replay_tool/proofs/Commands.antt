@@ -2,16 +2,16 @@
 use Rattle.std.proofs.Common.{◌≡◌, ℕ, List, Option, Some, None, sym, subst}
 use Rattle.session_judge.specs.declared.listener.Listener.{Listener}
 use Rattle.policy_rules.specs.declared.settings.Settings.{Settings}
-use Rattle.replay_tool.specs.Checked.{Checked}
-use Rattle.replay_tool.specs.Commands.{ReplayRequest}
-use Rattle.replay_tool.specs.Commands as asked
+use Rattle.replay_commands.specs.Checked.{Checked}
+use Rattle.replay_commands.specs.Commands.{ReplayRequest}
+use Rattle.replay_commands.specs.Commands as asked
 use Rattle.replay_tool.specs.Does.{Does}
-use Rattle.replay_tool.specs.Drilled.{Drilled}
+use Rattle.replay_commands.specs.Drilled.{Drilled}
 use Rattle.replay_tool.specs.Driving.{DrivesTheOrdered}
-use Rattle.replay_tool.specs.Listed.{Listed}
-use Rattle.replay_tool.specs.OwnScripts.{JudgesOwnTalk, MigratesOwnScripts}
+use Rattle.replay_commands.specs.Listed.{Listed}
+use Rattle.replay_commands.specs.OwnScripts.{JudgesOwnTalk, MigratesOwnScripts}
 use Rattle.command_endings.specs.Ran.{Refused}
-use Rattle.replay_tool.specs.Replayed.{Replayed}
+use Rattle.replay_commands.specs.Replayed.{Replayed}
 use Rattle.command_endings.specs.Streams.{Streams}
 use Rattle.judge_report.specs.Judged.{Judged}
 use Rattle.script_migration.specs.Migrated.{Migrated}
@@ -23,12 +23,12 @@ use Rattle.line_io.specs.Lines.{items}
 use Rattle.line_io.specs.declared.limits.TheConstants.{SCRIPT_LINE}
 use Rattle.session_games.specs.GamesWritten.{GamesWritten}
 use Rattle.session_positions.specs.PositionsWritten.{PositionsWritten}
-use Rattle.replay_tool.proofs.Answers as ran
-use Rattle.replay_tool.proofs.Verdicts as checks
-use Rattle.replay_tool.proofs.Listing as listing
-use Rattle.replay_tool.proofs.Drilling as drilling
-use Rattle.replay_tool.proofs.OwnTalk.{judges_own_talk}
-use Rattle.replay_tool.proofs.OwnMigrations.{migrates_own}
+use Rattle.replay_commands.proofs.Answers as ran
+use Rattle.replay_commands.proofs.Verdicts as checks
+use Rattle.replay_commands.proofs.Listing as listing
+use Rattle.replay_commands.proofs.Drilling as drilling
+use Rattle.replay_commands.proofs.OwnTalk.{judges_own_talk}
+use Rattle.replay_commands.proofs.OwnMigrations.{migrates_own}
 use Rattle.command_endings.proofs.Telling as told
 
 module _ (unread kept silent : Type 0) (start now : Streams) (code : ℕ) where

@@ -1,14 +1,14 @@
 -- What a command came to.
 use Rattle.std.specs.Prelude.{ℕ, Option, Some, None}
 use Rattle.fen_text.specs.Fen.{position_of}
-use Rattle.replay_tool.specs.Check.{ChecksAs}
-use Rattle.replay_tool.specs.Commands.{ReplayRequest}
-use Rattle.replay_tool.specs.Commands as asked
-use Rattle.replay_tool.specs.Drilled.{PlaysDrill}
-use Rattle.replay_tool.specs.Moves.{Lists}
-use Rattle.replay_tool.specs.Laws.{HaveLaws}
+use Rattle.replay_commands.specs.Check.{ChecksAs}
+use Rattle.replay_commands.specs.Commands.{ReplayRequest}
+use Rattle.replay_commands.specs.Commands as asked
+use Rattle.replay_commands.specs.Drilled.{PlaysDrill}
+use Rattle.replay_commands.specs.Moves.{Lists}
+use Rattle.replay_commands.specs.Laws.{HaveLaws}
 use Rattle.command_endings.specs.Ran.{Ran, Refused}
-use Rattle.replay_tool.specs.Replay.{EndsAs}
+use Rattle.replay_commands.specs.Replay.{EndsAs}
 use Rattle.command_endings.specs.Streams.{Streams}
 use Rattle.script_migration.specs.Migrated.{Migrated}
 use Rattle.judge_report.specs.Judged.{Judged}

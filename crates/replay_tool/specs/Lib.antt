@@ -1,15 +1,2 @@
-pub mod Check
-pub mod Checked
-pub mod Commands
 pub mod Does
-pub mod Drilled
 pub mod Driving
-pub mod Laws
-pub mod Listed
-pub mod Moves
-pub mod OwnScripts
-pub mod Replay
-pub mod Replayed
-pub mod Verdict
-pub mod Walked
-pub mod Words

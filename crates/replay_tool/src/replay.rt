@@ -1,46 +1,34 @@
 // The program.
-ghost use Rattle.std.specs.Prelude.{◌≡◌, ℕ, List, Some, None, IfOk};
-ghost use Rattle.line_io.specs.Lines.{empty_reader};
-ghost use Rattle.line_io.specs.Out.{empty};
-ghost use Rattle.policy_rules.specs.Policy.{IsProper};
+ghost use Rattle.std.specs.Prelude.{◌≡◌, ℕ, List, Some, None};
 ghost use Rattle.policy_rules.specs.declared.settings.Settings.{Settings as AnySettings};
 ghost use Rattle.session_judge.specs.declared.listener.Listener.{Listener as AnyListener};
-ghost use Rattle.replay_tool.specs.Check.{ChecksAs};
-ghost use Rattle.replay_tool.specs.Checked.{Checked};
-ghost use Rattle.replay_tool.specs.Commands as asked;
-ghost use Rattle.replay_tool.specs.Commands.{command_of, texts};
+ghost use Rattle.replay_commands.specs.Checked.{Checked};
+ghost use Rattle.replay_commands.specs.Commands as asked;
+ghost use Rattle.replay_commands.specs.Commands.{command_of, texts};
 ghost use Rattle.command_endings.specs.Diagnostics.{code_of, tail_of};
 ghost use Rattle.replay_tool.specs.Does.{Does};
 ghost use Rattle.replay_tool.specs.Driving.{DrivesTheOrdered};
-ghost use Rattle.replay_tool.specs.Drilled.{Drilled};
-ghost use Rattle.replay_tool.specs.Listed.{Listed};
-ghost use Rattle.replay_tool.specs.OwnScripts.{JudgesOwnTalk, MigratesOwnScripts};
-ghost use Rattle.replay_tool.specs.Laws.{HaveLaws};
-ghost use Rattle.command_endings.specs.Ran.{Ran, Refused};
-ghost use Rattle.replay_tool.specs.Replay.{EndsAs};
-ghost use Rattle.replay_tool.specs.Replayed.{Replayed};
+ghost use Rattle.replay_commands.specs.Drilled.{Drilled};
+ghost use Rattle.replay_commands.specs.Listed.{Listed};
+ghost use Rattle.replay_commands.specs.OwnScripts.{JudgesOwnTalk, MigratesOwnScripts};
+ghost use Rattle.replay_commands.specs.Laws.{HaveLaws};
+ghost use Rattle.command_endings.specs.Ran.{Refused};
+ghost use Rattle.replay_commands.specs.Replayed.{Replayed};
 ghost use Rattle.command_endings.specs.Streams.{streams};
-ghost use Rattle.replay_tool.specs.Walked.{IsUnread};
 ghost use Rattle.judge_report.specs.Judged.{Judged};
 ghost use Rattle.script_migration.specs.Migrated.{Migrated};
 ghost use Rattle.revival_script.specs.Revived.{Revived};
 ghost use Rattle.driver_script.specs.Driven.{Driven};
 ghost use Rattle.session_games.specs.GamesWritten.{GamesWritten};
 ghost use Rattle.session_positions.specs.PositionsWritten.{PositionsWritten};
-ghost use Rattle.line_io.specs.declared.limits.TheConstants.{SCRIPT_LINE};
 
-use crate::check::Audit;
-use crate::command::{ReplayCommand, read_command};
-use crate::moves::list_moves;
-use crate::play::play_drill;
-use crate::run::ScriptRun;
-use crate::verdict::write_verdict;
-use command_endings::{Ending, tell, tell_short};
+use command_endings::{Ending, tell_short};
 use driver_script::run_drive;
 use driver_wire::engines_hear_the_ordered;
 use judge_report::run_judge;
-use line_io::{NoMemory, Out, Sink, Source, Status};
+use line_io::{Sink, Source, Status};
 use policy_rules::Settings;
+use replay_commands::{ReplayCommand, list_moves, play_drill, read_command, run_check, run_replay};
 use revival_script::run_revive;
 use script_migration::migrate;
 use session_games::write_games;
@@ -52,61 +40,6 @@ fn session_laws(settings: Settings)
     ensures { HaveLaws settings }
 {
     let _ = settings;
-}
-
-// Replays the input.
-fn run_replay<I: Source, O: Sink, D: Sink>(
-    alloc: Global,
-    settings: &Settings,
-    input: &mut I,
-    output: &mut O,
-    diag: &mut D,
-) -> Ending
-    requires { IsProper settings.now }
-    ensures { Ran (λ e. EndsAs settings.now ((input.new ≡ input.old) × (output.new ≡ output.old)) e
-        (streams (I.state input.old) (O.state output.old) (D.state diag.old))
-        (streams (I.state input.new) (O.state output.new) (D.state diag.new)))
-        (streams (I.state input.old) (O.state output.old) (D.state diag.old))
-        (streams (I.state input.new) (O.state output.new) (D.state diag.new)) (code_of result) }
-{
-    let Ok(mut run) = ScriptRun::make(alloc, settings) else {
-        return tell_short(Ending::NoMemory, diag);
-    };
-    let ending = run.go(input, output);
-    run.tell(ending, diag)
-}
-
-// The memory of a check, and room for one line.
-fn make_check(alloc: Global, settings: &Settings) -> Result<(Audit, Out), NoMemory>
-    requires { IsProper settings.now }
-    ensures checker { IfOk result (λ made. IsUnread settings.now made.0.checker) }
-    ensures lines { IfOk result (λ made. made.0.lines ≡ empty_reader SCRIPT_LINE) }
-    ensures room { IfOk result (λ made. made.1 ≡ empty 80) }
-{
-    Ok((Audit::make(alloc, settings)?, Out::make(alloc, 80)?))
-}
-
-// Checks the input.
-fn run_check<I: Source, O: Sink, D: Sink>(
-    alloc: Global,
-    settings: &Settings,
-    input: &mut I,
-    output: &mut O,
-    diag: &mut D,
-) -> Ending
-    requires { IsProper settings.now }
-    ensures { Ran (λ e. ChecksAs settings.now (input.new ≡ input.old) (output.new ≡ output.old) e
-        (streams (I.state input.old) (O.state output.old) (D.state diag.old))
-        (streams (I.state input.new) (O.state output.new) (D.state diag.new)))
-        (streams (I.state input.old) (O.state output.old) (D.state diag.old))
-        (streams (I.state input.new) (O.state output.new) (D.state diag.new)) (code_of result) }
-{
-    let Ok((mut audit, mut text)) = make_check(alloc, settings) else {
-        return tell_short(Ending::NoMemory, diag);
-    };
-    let found = audit.go(input);
-    let ending = write_verdict(found, &mut text, output);
-    tell(ending, &mut text, diag)
 }
 
 // Runs the command of the words.

@@ -1,7 +1,7 @@
 use Rattle.std.proofs.Common.{Some, ◌∙◌, sym, ap, refl}
 use Rattle.std.specs.Option.{option_map}
-use Rattle.replay_tool.specs.declared.command.ReplayCommand.{ReplayCommand}
-use Rattle.replay_tool.specs.Commands.{request_by_command}
+use Rattle.replay_commands.specs.declared.command.ReplayCommand.{ReplayCommand}
+use Rattle.replay_commands.specs.Commands.{request_by_command}
 use Rattle.replay_tool.proofs.Commands.{is_done}
 use Rattle.replay_tool.proofs.replay.run_words.Goals as goal
 

@@ -1,0 +1,127 @@
+-- What the words of the program command.
+use Rattle.std.specs.Prelude.{ℕ, ◌≤◌, List, [], ◌∷◌, length, ◌&&◌, if◌then◌else◌, ◌-◌}
+use Rattle.std.specs.Prelude.{nat_lt, codes, Option, Some, None, Vec, vec_items, map}
+use Rattle.std.specs.Option.{option_map}
+use Rattle.std.specs.Str.{bytes_eq}
+use Rattle.replay_commands.specs.declared.command.ReplayCommand.{ReplayCommand}
+use Rattle.replay_commands.specs.declared.command.ReplayCommand.TheVariants as commands
+use Rattle.replay_commands.specs.declared.command.CommandName.{CommandName}
+use Rattle.replay_commands.specs.declared.command.CommandName.TheVariants as names
+use Rattle.session_judge.specs.declared.listener.Listener.{Listener}
+use Rattle.session_judge.specs.declared.listener.Listener.TheVariants as listeners
+use Rattle.policy_rules.specs.declared.settings.Settings.{Settings}
+use Rattle.policy_rules.specs.Policy.{IsProper}
+use Rattle.replay_commands.specs.Moves.{fen_of}
+use Rattle.policy_rules.specs.Words.{number_in}
+use Rattle.replay_commands.specs.Words.{settings_of}
+use Rattle.drill.specs.declared.generator.TheConstants.{MODULUS}
+use Rattle.drill.specs.declared.run.TheConstants.{MOST_ROUNDS}
+
+-- what is asked for: a replay, a check, a migration, the games or the positions with settings, a
+-- judgement of the log that this one wrote, a script played to an engine of so many lives or to a
+-- driver, a drill, or the moves of what a text spells
+pub data ReplayRequest : Type 0 where
+  Replay : (settings : Settings) → ReplayRequest
+  Check : (settings : Settings) → ReplayRequest
+  Migrate : (settings : Settings) → ReplayRequest
+  Judge : (listener : Listener) → ReplayRequest
+  Revive : (lives : ℕ) → ReplayRequest
+  Drive : ReplayRequest
+  Games : (settings : Settings) → ReplayRequest
+  Positions : (settings : Settings) → ReplayRequest
+  Drill : (number : ℕ) → (count : ℕ) → ReplayRequest
+  Moves : (text : List ℕ) → ReplayRequest
+
+-- the bytes of words
+abbrev pub texts : {Z : Type 0} → List (Vec ℕ Z) → List (List ℕ)
+texts words = map vec_items words
+
+abbrev pub drill_by : Option ℕ → Option ℕ → Option ReplayRequest
+drill_by (Some number) (Some count) = Some (Drill number count)
+drill_by number count = None
+
+-- a number of the generator and a count of rounds
+abbrev pub drill_of : List (List ℕ) → Option ReplayRequest
+drill_of (number ∷ count ∷ []) = drill_by (number_in 10 0 (MODULUS - 1) number)
+    (number_in 10 0 MOST_ROUNDS count)
+drill_of words = None
+
+-- how many lives may be begun: one digit from 1 to 9
+abbrev pub revive_of : List (List ℕ) → Option ReplayRequest
+revive_of (lives ∷ []) = option_map (λ n. Revive n) (number_in 1 1 9 lives)
+revive_of words = None
+
+-- who wrote the log that is judged: the bridge, or a tap
+abbrev pub judge_of : List (List ℕ) → Option ReplayRequest
+judge_of [] = Some (Judge listeners.Bridge)
+judge_of (word ∷ []) = if bytes_eq word (codes "tap") then Some (Judge listeners.Tap) else None
+judge_of words = None
+
+-- a command that takes no words
+abbrev pub alone : ReplayRequest → List (List ℕ) → Option ReplayRequest
+alone command [] = Some command
+alone command (word ∷ words) = None
+
+-- the moves of what one or more words spell
+abbrev pub moves_of : List (List ℕ) → Option ReplayRequest
+moves_of words = if nat_lt 0 (length words) then Some (Moves (fen_of words)) else None
+
+-- a command with these words, by which name it has
+abbrev pub command_by : Option CommandName → List (List ℕ) → Option ReplayRequest
+command_by None words = None
+command_by (Some names.Replay) words = option_map (λ s. Replay s) (settings_of words)
+command_by (Some names.Check) words = option_map (λ s. Check s) (settings_of words)
+command_by (Some names.Migrate) words = option_map (λ s. Migrate s) (settings_of words)
+command_by (Some names.Judge) words = judge_of words
+command_by (Some names.Revive) words = revive_of words
+command_by (Some names.Drive) words = alone Drive words
+command_by (Some names.Games) words = option_map (λ s. Games s) (settings_of words)
+command_by (Some names.Positions) words = option_map (λ s. Positions s) (settings_of words)
+command_by (Some names.Drill) words = drill_of words
+command_by (Some names.Moves) words = moves_of words
+
+-- the command of this name with these words: settings stand after `replay`, `check`,
+-- `migrate`, `games` and `positions`, nothing or `tap` after `judge`, nothing after `drive`, one
+-- digit after `revive`, one or more words after `moves`, and two numbers after `drill`
+abbrev pub command_named : List ℕ → List (List ℕ) → Option ReplayRequest
+command_named name words =
+    if bytes_eq name (codes "replay") then option_map (λ s. Replay s) (settings_of words)
+    else (if bytes_eq name (codes "check") then option_map (λ s. Check s) (settings_of words)
+    else (if bytes_eq name (codes "migrate") then option_map (λ s. Migrate s) (settings_of words)
+    else (if bytes_eq name (codes "judge") then judge_of words
+    else (if bytes_eq name (codes "revive") then revive_of words
+    else (if bytes_eq name (codes "drive") then alone Drive words
+    else (if bytes_eq name (codes "games") then option_map (λ s. Games s) (settings_of words)
+    else (if bytes_eq name (codes "positions")
+    then option_map (λ s. Positions s) (settings_of words)
+    else (if bytes_eq name (codes "drill") then drill_of words
+    else (if bytes_eq name (codes "moves") && nat_lt 0 (length words) then Some (Moves
+    (fen_of words)) else None)))))))))
+
+-- the command of the words, if they fit one
+abbrev pub command_of : List (List ℕ) → Option ReplayRequest
+command_of [] = None
+command_of (name ∷ words) = command_named name words
+
+-- what a command asks for
+abbrev pub request_by_command : ReplayCommand → ReplayRequest
+request_by_command (commands.Replay s) = Replay s
+request_by_command (commands.Check s) = Check s
+request_by_command (commands.Migrate s) = Migrate s
+request_by_command (commands.Judge listener) = Judge listener
+request_by_command (commands.Revive lives) = Revive lives
+request_by_command commands.Drive = Drive
+request_by_command (commands.Games s) = Games s
+request_by_command (commands.Positions s) = Positions s
+request_by_command (commands.Drill number count) = Drill number count
+request_by_command (commands.Moves words) = Moves (fen_of (texts words.now))
+
+-- the settings and the count of a command are within their ranges
+abbrev pub HasProper : ReplayCommand → Type 0
+HasProper (commands.Replay s) = IsProper s
+HasProper (commands.Check s) = IsProper s
+HasProper (commands.Migrate s) = IsProper s
+HasProper (commands.Games s) = IsProper s
+HasProper (commands.Positions s) = IsProper s
+HasProper (commands.Drill number count) = count ≤ MOST_ROUNDS
+HasProper command = Unit {0}
