@@ -14,10 +14,16 @@ use line_io::NoMemory;
 use std::alloc::Global;
 use std::collections::LinkedList;
 use std::sync::Wait;
+use std::sync::atomic::AtomicU64;
 use std::thread;
+use std::time::Duration;
 
 /// So many events fit into the channel. A sender that finds it full waits.
 pub const CHANNEL_ROOM: usize = 64;
+
+// So many microseconds a sender rests when it finds the channel full, and so lets the taker make
+// room for many events: it need not wake the sender for each.
+const REST_WHILE_FULL: u64 = 100;
 
 /// What a pass knows. Contracts speak of it; no value of it is made.
 pub struct KnownOfPass {
@@ -131,6 +137,10 @@ impl Join<KnownOfPass> for JoinEngine {
     ghost spent = { sender 3 };
 }
 
+fn rest_while_full<R: Wait>(rt: &R) {
+    AtomicU64::new(0).park_timeout(rt, 0, Duration::from_micros(REST_WHILE_FULL));
+}
+
 /// One peer's end of the channel: it sends that peer's lines.
 #[derive(Drop)]
 pub struct PipeSend {
@@ -156,7 +166,15 @@ impl PipeSend {
         ensures adds { events_sent self.new
             ≡ events_sent self.old ++ sent_event self.old.peer what ∷ [] }
     {
-        let mut message = Sent::new(self.peer, what);
+        let message = Sent::new(self.peer, what);
+        let Err(full) = self
+            .sender
+            .try_send_as::<Sending, R>(rt, &mut self.pass, message)
+        else {
+            return;
+        };
+        rest_while_full(rt);
+        let mut message = full.into_inner();
         for _ in rt.forever() {
             match self
                 .sender
