@@ -6,7 +6,7 @@ use Rattle.cecp_lines.specs.Replies.{Reply}
 use Rattle.cecp_lines.specs.Replies as told
 use Rattle.uci_lines.specs.Orders.{Order}
 use Rattle.think_text.specs.Kept.{nothing_seen}
-use Rattle.feature_talk.specs.Features.{reply_lines}
+use Rattle.option_map.specs.Features.{reply_lines}
 use Rattle.policy_rules.specs.declared.scores.Scores.{Scores}
 use Rattle.search_epochs.specs.declared.words.Call.{Call}
 use Rattle.search_epochs.specs.declared.words.Orders.{Orders}

@@ -20,7 +20,7 @@ use Rattle.search_epochs.proofs.Whole.{mid_kept, kept_mid, is_unsent, settled_by
 use Rattle.search_epochs.proofs.Turns.{TicketWithin}
 use Rattle.search_epochs.proofs.Rests.{rested, hit_chosen, batch_chosen, begun}
 use Rattle.search_epochs.proofs.Histories.{quit_sent}
-use Rattle.feature_talk.specs.Features.{reply_lines}
+use Rattle.option_map.specs.Features.{reply_lines}
 use Rattle.think_text.specs.Kept.{nothing_seen}
 use Rattle.desk_rules.specs.declared.desk.Desk.{Desk}
 use Rattle.desk_rules.specs.Desk.{Situation}

@@ -5,7 +5,7 @@ use Rattle.line_io.specs.Event.{Event}
 use Rattle.line_io.specs.Out.{empty, with}
 use Rattle.uci_lines.specs.Orders.{Order}
 use Rattle.uci_lines.specs.Orders as orders
-use Rattle.feature_talk.specs.Features.{reply_lines}
+use Rattle.option_map.specs.Features.{reply_lines}
 use Rattle.policy_rules.specs.declared.settings.Settings.{Settings}
 use Rattle.policy_rules.specs.declared.scores.Scores.{Scores}
 use Rattle.policy_rules.specs.Scores.{Score, no_scores, after_shown, resigns_by, accepts_by}

@@ -19,7 +19,7 @@ use Rattle.desk_rules.specs.Steps.{Effect, classify, what_of, begins_epoch}
 use Rattle.desk_rules.specs.Steps.{call_after, desk_after, scores_after, is_death}
 use Rattle.desk_rules.specs.Orders.{orders_waiting, search_orders, word_of}
 use Rattle.desk_rules.specs.Replies.{replies_of}
-use Rattle.feature_talk.specs.Features.{reply_lines}
+use Rattle.option_map.specs.Features.{reply_lines}
 use Rattle.desk_rules.specs.Texts.{order_lines}
 use Rattle.adapter_core.specs.declared.ends.Ends.{Ends}
 use Rattle.adapter_core.specs.Ends.{may, ends_after, is_open, at_start}

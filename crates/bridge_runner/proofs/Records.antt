@@ -19,10 +19,10 @@ use Rattle.mediator.specs.Turns.{Turn, given, log_of_turn}
 use Rattle.mediator.specs.Turns as turns
 use Rattle.mediator.specs.First.{first_events, ArrivedBehind}
 use Rattle.mediator.proofs.Firsts.{by_engine, by_iface, arrived_behind}
-use Rattle.mediator_host.specs.Mediated.{Mediated}
-use Rattle.mediator_host.specs.Mediated as hosts
-use Rattle.mediator_host.specs.Recorded.{RecordedAs}
-use Rattle.mediator_host.proofs.Wholes.{recorded_as, whole_as, when_whole, nothing_left}
+use Rattle.mediator.specs.Mediated.{Mediated}
+use Rattle.mediator.specs.Mediated as hosts
+use Rattle.mediator.specs.Recorded.{RecordedAs}
+use Rattle.mediator.proofs.Wholes.{recorded_as, whole_as, when_whole, nothing_left}
 use Rattle.bridge_runner.specs.declared.session.Session.{Session}
 use Rattle.bridge_runner.specs.Texts.{events_of_steps, has_loss, texts}
 use Rattle.bridge_runner.specs.Plays.{turns_of, IsNew, plays}

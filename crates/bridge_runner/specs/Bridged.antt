@@ -5,7 +5,7 @@ use Rattle.adapter_core.specs.Trace.{Step, Lawful, event_in}
 use Rattle.host_run.specs.declared.failures.Failures.{Failures}
 use Rattle.host_run.specs.Early.{no_failure}
 use Rattle.host_run.specs.Outside.{Outside, AreTold, IsClosed}
-use Rattle.mediator_host.specs.Mediated.{Mediated}
+use Rattle.mediator.specs.Mediated.{Mediated}
 use Rattle.bridge_runner.specs.declared.session.Session.{Session}
 use Rattle.bridge_runner.specs.Plays.{IsNew, plays}
 use Rattle.bridge_runner.specs.Recorded.{Recorded, IsWhole}

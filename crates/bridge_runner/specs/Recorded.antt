@@ -15,7 +15,7 @@ use Rattle.child_engine.specs.Hosts.{Books}
 use Rattle.host_run.specs.declared.failures.Failures.{Failures}
 use Rattle.host_run.specs.Outside.{Outside}
 use Rattle.mediator.specs.First.{first_events, ArrivedBehind}
-use Rattle.mediator_host.specs.Recorded.{RecordedAs}
+use Rattle.mediator.specs.Recorded.{RecordedAs}
 use Rattle.bridge_runner.specs.Texts.{events_of_steps, has_loss, texts}
 
 -- What the books say of a run that made this trace, if the host tells its bytes: the log is the

@@ -11,7 +11,7 @@ use crate::Session;
 use child_engine::Host;
 use host_run::{Failures, only_memory};
 use line_io::{Sink, Source};
-use mediator_host::{RunRequest, run_mediator};
+use mediator::{RunRequest, run_mediator};
 use policy_rules::Settings;
 use sink_offers::Interface;
 use std::alloc::Global;

@@ -1,7 +1,7 @@
 // The program over any host.
 ghost use Rattle.std.specs.Prelude.{◌≡◌, [], true, IfSome};
 ghost use Rattle.program_words.specs.Words.{bytes_of};
-ghost use Rattle.bridge_words.specs.Words.{AreAsked, AreTaken, engine_words, log_named, values_found};
+ghost use Rattle.setting_words.specs.BridgeWords.{AreAsked, AreTaken, engine_words, log_named, values_found};
 ghost use Rattle.child_engine.specs.Hosts.{IsUnused};
 ghost use Rattle.host_run.specs.Asked.{AsksAsTold};
 ghost use Rattle.host_run.specs.Endings.{code_of, diagnostic};
@@ -11,11 +11,11 @@ ghost use Rattle.host_run.specs.declared.ending.ProgramEnding.TheVariants as end
 ghost use Rattle.bridge_runner.specs.Program.{RunsAsAsked, RunsWhole, program};
 
 use crate::running::run_bridge;
-use bridge_words::read_words;
 use child_engine::Host;
 use host_run::{ProgramEnding, finish};
 use line_io::{Sink, Source, Status};
-use mediator_host::RunRequest;
+use mediator::RunRequest;
+use setting_words::read_bridge_words;
 use sink_offers::Interface;
 use std::alloc::Global;
 use std::sync::Wait;
@@ -42,7 +42,7 @@ fn end_of<I: Source + Send, O: Sink + Send, H: Host, R: Threads + Wait + Sync>(
         (H.asked host.old) (H.asked host.new)
         (H.faults host.old) (H.faults host.new) (H.books host.new) }
 {
-    match read_words(alloc, words) {
+    match read_bridge_words(alloc, words) {
         Ok(asked) => {
             let request = RunRequest {
                 first: b"",

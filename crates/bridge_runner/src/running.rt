@@ -12,7 +12,7 @@ use child_engine::Host;
 use dialogue_laws::laws_hold;
 use host_run::Failures;
 use line_io::{Sink, Source};
-use mediator_host::RunRequest;
+use mediator::RunRequest;
 use policy_rules::Settings;
 use session_script::scripts_have_one_trace;
 use sink_offers::Interface;

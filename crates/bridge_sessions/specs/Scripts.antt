@@ -3,7 +3,7 @@ use Rattle.std.specs.Prelude.{◌≡◌, ℕ, List, []}
 use Rattle.clap.specs.Words.{Text}
 use Rattle.session_script.specs.Script.{script2}
 use Rattle.host_run.specs.Outside.{Outside}
-use Rattle.bridge_words.specs.Words.{AreAsked, values_found}
+use Rattle.setting_words.specs.BridgeWords.{AreAsked, values_found}
 use Rattle.bridge_runner.specs.Program.{RunsWhole}
 
 -- these bytes are the script of a whole run with the settings that the words ask

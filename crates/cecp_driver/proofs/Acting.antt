@@ -6,16 +6,16 @@ use Rattle.driver_talk.specs.declared.talk.DriverStage.TheVariants as stages
 use Rattle.driver_talk.specs.declared.talk.DriverCall.{DriverCall}
 use Rattle.driver_talk.specs.declared.talk.DriverCall.TheVariants as calls
 use Rattle.driver_talk.specs.Talk.{turn_of, is_free, is_free_at}
-use Rattle.driver_lines.specs.declared.words.OrderWord.{OrderWord}
-use Rattle.driver_lines.specs.declared.words.OrderWord.TheVariants as orders
+use Rattle.driver_talk.specs.declared.order_words.OrderWord.{OrderWord}
+use Rattle.driver_talk.specs.declared.order_words.OrderWord.TheVariants as orders
 use Rattle.peer_words.specs.Tokens.{first_token}
-use Rattle.driver_lines.specs.Words.{ordered_in as order_in}
-use Rattle.driver_lines.specs.Says.{Says, Move as SaysMove, Over, Pong, Report, Feature, says_in}
-use Rattle.driver_lines.specs.Says as says
+use Rattle.driver_talk.specs.Words.{ordered_in as order_in}
+use Rattle.driver_talk.specs.Says.{Says, Move as SaysMove, Over, Pong, Report, Feature, says_in}
+use Rattle.driver_talk.specs.Says as says
 use Rattle.game_record.specs.Game.{Game, now_of}
 use Rattle.chess_board.specs.declared.board.Move.{Move}
 use Rattle.chess_board.specs.Position.{Position}
-use Rattle.driver_lines.specs.Moves.{IsShown}
+use Rattle.driver_talk.specs.Moves.{IsShown}
 use Rattle.cecp_driver.specs.declared.driver.DriverParts.{DriverParts}
 use Rattle.cecp_driver.specs.SetUp.{ToldGame}
 use Rattle.cecp_driver.specs.Driver.{driver_without_lines, driver_after_call, CanAct, driver_after_position, placed_if, driver_after_features, features_at, IsAsked, IsHeard, OrdersBy, Orders, HeardBy, IsPlain, Hears}

@@ -12,11 +12,11 @@ use Rattle.driver_talk.specs.declared.talk.DriverCall.TheVariants as calls
 use Rattle.driver_talk.specs.Talk.{turn_of, is_free, quiet}
 use Rattle.driver_talk.specs.Laws.{run}
 use Rattle.driver_talk.proofs.Busy.{open_is_busy}
-use Rattle.driver_lines.specs.declared.words.OrderWord.{OrderWord}
-use Rattle.driver_lines.specs.declared.words.OrderWord.TheVariants as orders
-use Rattle.driver_lines.specs.Words.{ordered_in as order_in}
-use Rattle.driver_lines.specs.Says.{Says, Move as SaysMove, Over, Pong, Report, Feature, says_in}
-use Rattle.driver_lines.specs.Says as says
+use Rattle.driver_talk.specs.declared.order_words.OrderWord.{OrderWord}
+use Rattle.driver_talk.specs.declared.order_words.OrderWord.TheVariants as orders
+use Rattle.driver_talk.specs.Words.{ordered_in as order_in}
+use Rattle.driver_talk.specs.Says.{Says, Move as SaysMove, Over, Pong, Report, Feature, says_in}
+use Rattle.driver_talk.specs.Says as says
 use Rattle.cecp_driver.specs.declared.driver.DriverParts.{DriverParts}
 use Rattle.cecp_driver.specs.Driver.{Orders, Ends, HeardBy, IsHeard, driver_after_call, driver_without_lines, features_at, opening, placed_if}
 use Rattle.cecp_driver.specs.Script.{Comes, Goes}

@@ -19,8 +19,8 @@ use Rattle.san_text.proofs.Alone.{promotions-Decides}
 use Rattle.driver_talk.specs.declared.words.GoClocks.{GoClocks}
 use Rattle.driver_talk.specs.declared.words.ToEngine.{ToEngine}
 use Rattle.driver_talk.specs.declared.words.ToEngine.TheVariants as downs
-use Rattle.driver_lines.specs.Lines.{DownLine, SetBoard, Sd, Go, Analyze, lines_text}
-use Rattle.driver_lines.specs.Clocks.{clock_lines, control_lines, depth_lines}
+use Rattle.driver_talk.specs.Lines.{DownLine, SetBoard, Sd, Go, Analyze, lines_text}
+use Rattle.driver_talk.specs.Clocks.{clock_lines, control_lines, depth_lines}
 use Rattle.cecp_driver.specs.Same.{same_position, same_ply}
 use Rattle.cecp_driver.specs.SetUp.{ToldGame, further, continued, ply_lines, start_lines, setup_lines, set_up, told_with_limit}
 use Rattle.cecp_driver.specs.Deeds.{has_depth, hurry_lines, leave_lines, think_lines, play_lines, analyse_lines, down_lines, down_told}

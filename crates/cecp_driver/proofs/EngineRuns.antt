@@ -13,14 +13,14 @@ use Rattle.driver_talk.specs.declared.talk.DriverCall.{DriverCall}
 use Rattle.driver_talk.specs.declared.talk.DriverCall.TheVariants as calls
 use Rattle.driver_talk.specs.Talk.{turn_of, is_free, is_thinking}
 use Rattle.peer_words.specs.Tokens.{first_token}
-use Rattle.driver_lines.specs.declared.words.OrderWord.{OrderWord}
-use Rattle.driver_lines.specs.declared.words.OrderWord.TheVariants as orders
-use Rattle.driver_lines.specs.Words.{ordered_in as order_in}
-use Rattle.driver_lines.specs.Says.{Says, Move as SaysMove, Over, Pong, Report, Feature, says_in}
-use Rattle.driver_lines.specs.Says as says
-use Rattle.driver_lines.specs.Moves.{IsShown}
-use Rattle.driver_lines.specs.Parts.{Feature as AFeature, parts}
-use Rattle.driver_lines.specs.Lines.{DownLine, Accepted, Rejected, lines_text}
+use Rattle.driver_talk.specs.declared.order_words.OrderWord.{OrderWord}
+use Rattle.driver_talk.specs.declared.order_words.OrderWord.TheVariants as orders
+use Rattle.driver_talk.specs.Words.{ordered_in as order_in}
+use Rattle.driver_talk.specs.Says.{Says, Move as SaysMove, Over, Pong, Report, Feature, says_in}
+use Rattle.driver_talk.specs.Says as says
+use Rattle.driver_talk.specs.Moves.{IsShown}
+use Rattle.driver_talk.specs.Parts.{Feature as AFeature, parts}
+use Rattle.driver_talk.specs.Lines.{DownLine, Accepted, Rejected, lines_text}
 use Rattle.cecp_driver.specs.declared.driver.DriverParts.{DriverParts}
 use Rattle.cecp_driver.specs.SetUp.{ToldGame}
 use Rattle.cecp_driver.specs.Features.{rejects, answers}

@@ -8,8 +8,8 @@ use Rattle.line_io.specs.Event.{has_feed}
 use Rattle.line_io.specs.Lines.{line_feed}
 use Rattle.peer_words.specs.Tokens.{first_token, is_blank, is_white, rest, token_end, tokens, trim_left, trim_right, trimmed}
 use Rattle.peer_words.proofs.Lengths.{rest_length, trim_left_length}
-use Rattle.driver_lines.specs.Numbers.{next_number}
-use Rattle.driver_lines.specs.Says.{Says, Feature, is_over, or_other, pong_by, pong_in, report_by, report_fourth, report_in, report_second, report_third, says_in}
+use Rattle.driver_talk.specs.Numbers.{next_number}
+use Rattle.driver_talk.specs.Says.{Says, Feature, is_over, or_other, pong_by, pong_in, report_by, report_fourth, report_in, report_second, report_third, says_in}
 
 -- it has no line feed, and is no longer than a line may be
 pub record IsWhole (text : List ℕ) : Type 0 where

@@ -1,8 +1,8 @@
 -- What is cut off the front, and then the rest.
 use Rattle.std.proofs.Common.{◌≡◌, ℕ, List, [], ◌∷◌, ◌++◌, length, ◌+◌, ◌*◌, ◌≤◌, Option, Some, None, IfSome, refl, sym, ap, ◌∙◌, append_assoc, append-nil, arith}
 use Rattle.line_io.specs.Out.{Text, with}
-use Rattle.driver_lines.specs.Parts.{Feature, CutFeature, onto, FitsIn, IsNamed}
-use Rattle.driver_lines.specs.Lines.{DownLine, line_text, lines_text}
+use Rattle.driver_talk.specs.Parts.{Feature, CutFeature, onto, FitsIn, IsNamed}
+use Rattle.driver_talk.specs.Lines.{DownLine, line_text, lines_text}
 use Rattle.cecp_driver.specs.declared.features.HasFeatures.{HasFeatures}
 use Rattle.cecp_driver.specs.Features.{has_after, name_after, answer_line, greeting, has_all, name_all, answers, greetings, weight, weight_by}
 

@@ -16,11 +16,11 @@ use Rattle.driver_talk.specs.declared.talk.Reach.{Reach}
 use Rattle.driver_talk.specs.declared.talk.Reach.TheVariants as reaches
 use Rattle.driver_talk.specs.declared.talk.DriverCall.{DriverCall}
 use Rattle.driver_talk.specs.declared.talk.DriverCall.TheVariants as calls
-use Rattle.driver_lines.specs.declared.words.OrderWord.{OrderWord}
-use Rattle.driver_lines.specs.declared.words.OrderWord.TheVariants as orders
-use Rattle.driver_lines.specs.Says.{Says, Move as SaysMove, Over, Pong, Report, Feature}
-use Rattle.driver_lines.specs.Says as says
-use Rattle.driver_lines.specs.Moves.{if_legal, coordinates, Writes, Names, NamesNone, IsShown, IsThought, IsFirstMove}
+use Rattle.driver_talk.specs.declared.order_words.OrderWord.{OrderWord}
+use Rattle.driver_talk.specs.declared.order_words.OrderWord.TheVariants as orders
+use Rattle.driver_talk.specs.Says.{Says, Move as SaysMove, Over, Pong, Report, Feature}
+use Rattle.driver_talk.specs.Says as says
+use Rattle.driver_talk.specs.Moves.{if_legal, coordinates, Writes, Names, NamesNone, IsShown, IsThought, IsFirstMove}
 use Rattle.cecp_driver.specs.declared.driver.DriverParts.{DriverParts}
 use Rattle.cecp_driver.specs.declared.told.TheConstants.{MOST_PLIES}
 use Rattle.cecp_driver.specs.Deeds.{CanSay}

@@ -5,7 +5,7 @@ use Rattle.std.specs.List.{AllByRecursion, before_first, after_first, list_all, 
 use Rattle.peer_words.specs.Tokens.{is_token, is_white, token_end, trim_left}
 use Rattle.cecp_driver.specs.Said.{IsName}
 use Rattle.cecp_driver.proofs.Fed.{IsWhole, dropped, later, taken, trimmed_first}
-use Rattle.driver_lines.specs.Parts.{CutFeature, Feature, cut_by, cut_of, ends_name, cut_with_feature, is_quote, onto, parts, parts_from, parts_within, cut_without_feature, value_cut}
+use Rattle.driver_talk.specs.Parts.{CutFeature, Feature, cut_by, cut_of, ends_name, cut_with_feature, is_quote, onto, parts, parts_from, parts_within, cut_without_feature, value_cut}
 
 abbrev IsBlack : List ℕ → Type 0
 IsBlack xs = list_all (λ b. not (is_white b)) xs ≡ true

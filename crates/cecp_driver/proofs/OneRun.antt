@@ -16,12 +16,12 @@ use Rattle.driver_talk.specs.declared.talk.Reach.{Reach}
 use Rattle.driver_talk.specs.declared.talk.WantedSearch.{WantedSearch}
 use Rattle.driver_talk.specs.declared.talk.DriverCall.{DriverCall}
 use Rattle.driver_talk.specs.declared.talk.DriverCall.TheVariants as calls
-use Rattle.driver_lines.specs.declared.words.OrderWord.{OrderWord}
-use Rattle.driver_lines.specs.declared.words.OrderWord.TheVariants as orders
-use Rattle.driver_lines.specs.Words.{ordered_in as order_in}
-use Rattle.driver_lines.specs.Says.{Says, Move as SaysMove, Over, Pong, Report, Feature, says_in}
-use Rattle.driver_lines.specs.Says as says
-use Rattle.driver_lines.specs.Moves.{IsFirstMove, IsShown, IsThought, Names, NamesNone, Writes, WritesNone}
+use Rattle.driver_talk.specs.declared.order_words.OrderWord.{OrderWord}
+use Rattle.driver_talk.specs.declared.order_words.OrderWord.TheVariants as orders
+use Rattle.driver_talk.specs.Words.{ordered_in as order_in}
+use Rattle.driver_talk.specs.Says.{Says, Move as SaysMove, Over, Pong, Report, Feature, says_in}
+use Rattle.driver_talk.specs.Says as says
+use Rattle.driver_talk.specs.Moves.{IsFirstMove, IsShown, IsThought, Names, NamesNone, Writes, WritesNone}
 use Rattle.cecp_driver.specs.declared.driver.DriverParts.{DriverParts}
 use Rattle.cecp_driver.specs.Driver.{Hears, HeardBy, IsAsked, IsHeard, Orders, Wants, driver_after_call, driver_without_lines, placed_if, thought_call}
 use Rattle.cecp_driver.specs.Script.{Comes, Goes, Takes, last_of, may_come, script_text}

@@ -26,8 +26,8 @@ use Rattle.driver_talk.specs.declared.talk.DriverTurn.{DriverTurn}
 use Rattle.driver_talk.specs.declared.talk.DriverCall.{DriverCall}
 use Rattle.driver_talk.specs.declared.talk.DriverCall.TheVariants as calls
 use Rattle.driver_talk.specs.Talk.{turn_of, after_moved}
-use Rattle.driver_lines.specs.Lines.{DownLine, Quit, SetBoard, Played, Sd, Go, Analyze}
-use Rattle.driver_lines.specs.Clocks.{clock_lines, control_lines, depth_lines}
+use Rattle.driver_talk.specs.Lines.{DownLine, Quit, SetBoard, Played, Sd, Go, Analyze}
+use Rattle.driver_talk.specs.Clocks.{clock_lines, control_lines, depth_lines}
 use Rattle.cecp_driver.specs.declared.told.TheConstants.{MOST_PLIES}
 use Rattle.cecp_driver.specs.SetUp.{ToldGame, continued, ply_lines, setup_lines, start_lines}
 use Rattle.cecp_driver.specs.Deeds.{down_lines, has_depth, hurry_lines, leave_lines, think_lines}

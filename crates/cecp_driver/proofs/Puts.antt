@@ -8,7 +8,7 @@ use Rattle.chess_board.specs.Position.{Position}
 use Rattle.chess_board.specs.Play.{start_position}
 use Rattle.game_record.specs.Game.{Ply, Game}
 use Rattle.game_record.proofs.Lines.{standard_test}
-use Rattle.driver_lines.specs.Lines.{DownLine, New, Force, Post, SetBoard, line_text, lines_text}
+use Rattle.driver_talk.specs.Lines.{DownLine, New, Force, Post, SetBoard, line_text, lines_text}
 use Rattle.cecp_driver.specs.SetUp.{ToldGame, continued, ply_lines, start_lines, setup_lines}
 
 pub two_lines : (o a b : Text) (x y : List ℕ) → a ≡ with o x → b ≡ with a y → b ≡ with o (x ++ (y ++ []))

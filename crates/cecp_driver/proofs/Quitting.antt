@@ -26,7 +26,7 @@ use Rattle.driver_talk.specs.declared.talk.DriverCall.{DriverCall}
 use Rattle.driver_talk.specs.declared.talk.DriverCall.TheVariants as calls
 use Rattle.driver_talk.specs.Talk.{turn_of, quiet, next_ping, board_of, closed, pinged, resume_in, without_awaited, is_free, is_open_stage, is_awaited, is_thinking, open_search, stopped, stop_in, hit, hit_by, hit_in, resumed, kept, thought_in, ended_in, without_engine, played_by, opened_by, begin_by, begin_from, begun, quit_at, uci_at, ready_at, after_begin, unless_gone}
 use Rattle.game_record.specs.Game.{Game}
-use Rattle.driver_lines.specs.Lines.{DownLine}
+use Rattle.driver_talk.specs.Lines.{DownLine}
 use Rattle.cecp_driver.specs.SetUp.{ToldGame}
 use Rattle.cecp_driver.specs.Deeds.{down_lines}
 use Rattle.cecp_driver.specs.EngineGame.{IsNoQuit, QuitIsLast, has_quit}

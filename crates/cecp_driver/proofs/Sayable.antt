@@ -20,8 +20,8 @@ use Rattle.uci_talk.specs.Lines.{Line as SpokenLine, line_of}
 use Rattle.driver_talk.specs.declared.words.GoClocks.{GoClocks}
 use Rattle.driver_talk.specs.declared.words.ToEngine.{ToEngine}
 use Rattle.driver_talk.specs.declared.words.ToEngine.TheVariants as downs
-use Rattle.driver_lines.specs.Lines.{DownLine, SetBoard, Played, Go, Analyze, Hurry, Exit, Ping, Sd}
-use Rattle.driver_lines.specs.Clocks.{capped, clock_lines, control_lines, depth_lines, increment, mine, seconds_up, theirs}
+use Rattle.driver_talk.specs.Lines.{DownLine, SetBoard, Played, Go, Analyze, Hurry, Exit, Ping, Sd}
+use Rattle.driver_talk.specs.Clocks.{capped, clock_lines, control_lines, depth_lines, increment, mine, seconds_up, theirs}
 use Rattle.cecp_driver.specs.Said.{CanBeSaid, IsMove}
 use Rattle.cecp_driver.specs.SetUp.{ToldGame, continued, further, ply_lines, setup_lines, start_lines}
 use Rattle.cecp_driver.specs.Same.{same_ply, same_position}

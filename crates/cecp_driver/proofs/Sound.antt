@@ -25,13 +25,13 @@ use Rattle.driver_talk.specs.Laws.{is_accepted, is_answer, is_open, one_if, open
 use Rattle.driver_talk.specs.Laws as talks
 use Rattle.driver_talk.proofs.Counts.{call_counts}
 use Rattle.driver_talk.proofs.Silent.{moves_are_ignored, no_move_has_cause}
-use Rattle.driver_lines.specs.declared.words.OrderWord.{OrderWord}
-use Rattle.driver_lines.specs.declared.words.OrderWord.TheVariants as orders
-use Rattle.driver_lines.specs.Words.{ordered_in as order_in}
-use Rattle.driver_lines.specs.Says.{Says, Move as SaysMove, Over, Pong, Report, Feature, says_in}
-use Rattle.driver_lines.specs.Says as says
-use Rattle.driver_lines.specs.Moves.{IsFirstMove, IsShown}
-use Rattle.driver_lines.specs.Parts.{Feature as AFeature, parts}
+use Rattle.driver_talk.specs.declared.order_words.OrderWord.{OrderWord}
+use Rattle.driver_talk.specs.declared.order_words.OrderWord.TheVariants as orders
+use Rattle.driver_talk.specs.Words.{ordered_in as order_in}
+use Rattle.driver_talk.specs.Says.{Says, Move as SaysMove, Over, Pong, Report, Feature, says_in}
+use Rattle.driver_talk.specs.Says as says
+use Rattle.driver_talk.specs.Moves.{IsFirstMove, IsShown}
+use Rattle.driver_talk.specs.Parts.{Feature as AFeature, parts}
 use Rattle.cecp_driver.specs.declared.driver.DriverParts.{DriverParts}
 use Rattle.cecp_driver.specs.declared.features.HasFeatures.{HasFeatures}
 use Rattle.cecp_driver.specs.Features.{greets, greeting, greetings, has_after, name_after}

@@ -6,8 +6,8 @@ use Rattle.driver_talk.specs.declared.words.OpenSearch.{OpenSearch}
 use Rattle.driver_talk.specs.declared.talk.DriverCall.{DriverCall}
 use Rattle.driver_talk.specs.declared.talk.DriverCall.TheVariants as calls
 use Rattle.driver_talk.specs.Laws.{IsBusy, run}
-use Rattle.driver_lines.specs.Words.{ordered_in as order_in}
-use Rattle.driver_lines.specs.Says.{says_in}
+use Rattle.driver_talk.specs.Words.{ordered_in as order_in}
+use Rattle.driver_talk.specs.Says.{says_in}
 use Rattle.cecp_driver.specs.declared.driver.DriverParts.{DriverParts}
 use Rattle.cecp_driver.specs.Driver.{IsAsked, IsHeard, driver_without_lines, placed_if}
 

@@ -11,9 +11,9 @@ use Rattle.driver_talk.specs.declared.words.ToEngine.{ToEngine}
 use Rattle.driver_talk.specs.declared.words.ToEngine.TheVariants as downs
 use Rattle.driver_talk.specs.declared.words.BoardChange.{BoardChange}
 use Rattle.driver_talk.specs.declared.words.BoardChange.TheVariants as boards
-use Rattle.driver_lines.specs.Lines.{DownLine, XBoard, Protover, Quit, Force, Go, Analyze}
-use Rattle.driver_lines.specs.Lines.{Hurry, Exit, Ping, best_text, info_text, line_with_feed}
-use Rattle.driver_lines.specs.Clocks.{clock_lines}
+use Rattle.driver_talk.specs.Lines.{DownLine, XBoard, Protover, Quit, Force, Go, Analyze}
+use Rattle.driver_talk.specs.Lines.{Hurry, Exit, Ping, best_text, info_text, line_with_feed}
+use Rattle.driver_talk.specs.Clocks.{clock_lines}
 use Rattle.cecp_driver.specs.SetUp.{ToldGame, continued, setup_lines, set_up}
 use Rattle.cecp_driver.specs.SetUp.{told_with_limit, told_after_ply, told_without_game}
 use Rattle.cecp_driver.specs.declared.told.TheConstants.{MOST_PLIES}

@@ -19,15 +19,15 @@ use Rattle.driver_talk.specs.declared.talk.WantedSearch.{WantedSearch}
 use Rattle.driver_talk.specs.declared.talk.DriverCall.{DriverCall}
 use Rattle.driver_talk.specs.declared.talk.DriverCall.TheVariants as calls
 use Rattle.driver_talk.specs.Talk.{first_talk, turn_of, is_free}
-use Rattle.driver_lines.specs.declared.words.OrderWord.{OrderWord}
-use Rattle.driver_lines.specs.declared.words.OrderWord.TheVariants as orders
-use Rattle.driver_lines.specs.Words.{ordered_in as order_in}
-use Rattle.driver_lines.specs.Clocks.{clocks_in}
-use Rattle.driver_lines.specs.Says.{Says, Move as SaysMove, Over, Pong, Report, Feature, says_in}
-use Rattle.driver_lines.specs.Says as says
-use Rattle.driver_lines.specs.Parts.{parts}
-use Rattle.driver_lines.specs.Moves.{IsFirstMove, IsShown, IsThought}
-use Rattle.driver_lines.specs.Lines.{lines_text}
+use Rattle.driver_talk.specs.declared.order_words.OrderWord.{OrderWord}
+use Rattle.driver_talk.specs.declared.order_words.OrderWord.TheVariants as orders
+use Rattle.driver_talk.specs.Words.{ordered_in as order_in}
+use Rattle.driver_talk.specs.Clocks.{clocks_in}
+use Rattle.driver_talk.specs.Says.{Says, Move as SaysMove, Over, Pong, Report, Feature, says_in}
+use Rattle.driver_talk.specs.Says as says
+use Rattle.driver_talk.specs.Parts.{parts}
+use Rattle.driver_talk.specs.Moves.{IsFirstMove, IsShown, IsThought}
+use Rattle.driver_talk.specs.Lines.{lines_text}
 use Rattle.cecp_driver.specs.declared.features.HasFeatures.{HasFeatures}
 use Rattle.cecp_driver.specs.declared.driver.DriverParts.{DriverParts}
 use Rattle.cecp_driver.specs.declared.driver.TheConstants.{LINE_LIMIT, UP_ROOM, DOWN_ROOM}

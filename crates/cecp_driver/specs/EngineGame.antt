@@ -11,9 +11,9 @@ use Rattle.line_io.specs.Event.{Event, Engine}
 use Rattle.driver_talk.specs.declared.talk.DriverStage.{DriverStage}
 use Rattle.driver_talk.specs.declared.talk.DriverStage.TheVariants as stages
 use Rattle.driver_talk.specs.Talk.{is_thinking}
-use Rattle.driver_lines.specs.Lines.{DownLine, Quit, New, SetBoard, Played, Go, Analyze, lines_text}
-use Rattle.driver_lines.specs.Says.{Says, Move as SaysMove, says_in}
-use Rattle.driver_lines.specs.Moves.{IsShown}
+use Rattle.driver_talk.specs.Lines.{DownLine, Quit, New, SetBoard, Played, Go, Analyze, lines_text}
+use Rattle.driver_talk.specs.Says.{Says, Move as SaysMove, says_in}
+use Rattle.driver_talk.specs.Moves.{IsShown}
 use Rattle.cecp_driver.specs.declared.driver.DriverParts.{DriverParts}
 use Rattle.cecp_driver.specs.Driver.{opening}
 use Rattle.cecp_driver.specs.Said.{CanBeSaid}

@@ -2,8 +2,8 @@
 use Rattle.std.specs.Prelude.{ℕ, Bool, ◌&&◌, ◌||◌, not, if◌then◌else◌, List, []}
 use Rattle.std.specs.Prelude.{◌∷◌, ◌++◌, ◌+◌, length, codes, Option, Some, None}
 use Rattle.std.specs.Str.{bytes_eq}
-use Rattle.driver_lines.specs.Parts.{Feature, CutFeature}
-use Rattle.driver_lines.specs.Lines.{DownLine, Accepted, Rejected, name_or_usual}
+use Rattle.driver_talk.specs.Parts.{Feature, CutFeature}
+use Rattle.driver_talk.specs.Lines.{DownLine, Accepted, Rejected, name_or_usual}
 use Rattle.cecp_driver.specs.declared.features.HasFeatures.{HasFeatures}
 use Rattle.line_io.specs.Lines.{line_feed}
 

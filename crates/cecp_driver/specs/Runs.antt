@@ -13,12 +13,12 @@ use Rattle.driver_talk.specs.declared.words.Thought.{Thought}
 use Rattle.driver_talk.specs.declared.talk.Reach.TheVariants as reaches
 use Rattle.driver_talk.specs.Talk.{is_free, is_thinking, open_search}
 use Rattle.driver_talk.specs.Laws.{is_open, one_if, open_count}
-use Rattle.driver_lines.specs.declared.words.OrderWord.{OrderWord}
-use Rattle.driver_lines.specs.declared.words.OrderWord.TheVariants as orders
-use Rattle.driver_lines.specs.Words.{ordered_in as order_in}
-use Rattle.driver_lines.specs.Says.{Says, Move as SaysMove, Over, says_in}
-use Rattle.driver_lines.specs.Moves.{NamesNone}
-use Rattle.driver_lines.specs.Lines.{best_text, info_text, name_or_usual, line_with_feed}
+use Rattle.driver_talk.specs.declared.order_words.OrderWord.{OrderWord}
+use Rattle.driver_talk.specs.declared.order_words.OrderWord.TheVariants as orders
+use Rattle.driver_talk.specs.Words.{ordered_in as order_in}
+use Rattle.driver_talk.specs.Says.{Says, Move as SaysMove, Over, says_in}
+use Rattle.driver_talk.specs.Moves.{NamesNone}
+use Rattle.driver_talk.specs.Lines.{best_text, info_text, name_or_usual, line_with_feed}
 use Rattle.cecp_driver.specs.declared.driver.DriverParts.{DriverParts}
 use Rattle.cecp_driver.specs.declared.driver.TheConstants.{LINE_LIMIT}
 use Rattle.cecp_driver.specs.Driver.{driver_without_lines, opening, reach_of}

@@ -6,8 +6,8 @@ use Rattle.chess_board.specs.Text.{IsOfficer}
 use Rattle.game_record.specs.Game.{Ply, ply_of}
 use Rattle.line_io.specs.Event.{has_feed}
 use Rattle.peer_words.specs.Tokens.{is_token}
-use Rattle.driver_lines.specs.Lines.{DownLine, SetBoard, Played, St, Level}
-use Rattle.driver_lines.specs.Lines.{Time, Otim, Sd, Ping, Accepted, Rejected}
+use Rattle.driver_talk.specs.Lines.{DownLine, SetBoard, Played, St, Level}
+use Rattle.driver_talk.specs.Lines.{Time, Otim, Sd, Ping, Accepted, Rejected}
 use Rattle.cecp_driver.specs.declared.driver.TheConstants.{LINE_LIMIT}
 
 -- a move of squares and officers

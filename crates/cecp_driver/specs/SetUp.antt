@@ -5,7 +5,7 @@ use Rattle.chess_board.specs.Position.{Position}
 use Rattle.chess_board.specs.Play.{start_position}
 use Rattle.game_record.specs.Game.{Ply, Game, game_from, with_ply}
 use Rattle.game_record.specs.Line.{is_standard}
-use Rattle.driver_lines.specs.Lines.{DownLine, New, Force, Post, SetBoard, Played}
+use Rattle.driver_talk.specs.Lines.{DownLine, New, Force, Post, SetBoard, Played}
 use Rattle.cecp_driver.specs.Same.{same_position, same_ply}
 
 -- Whether the engine's game is known, whether it has a depth limit, and the

@@ -2,15 +2,17 @@
 ghost use Rattle.std.specs.Prelude.{◌≡◌, ◌+◌, ◌≤◌, ◌∷◌, ◌++◌, [], length, not};
 ghost use Rattle.line_io.specs.Out.{with};
 ghost use Rattle.game_record.specs.Game.{ply_of};
-ghost use Rattle.driver_lines.specs.Lines.{line_text, lines_text};
+ghost use Rattle.driver_talk.specs.Lines.{line_text, lines_text};
 ghost use Rattle.cecp_driver.specs.SetUp.{told_with_limit, set_up, continued, setup_lines, told_after_ply, told_without_game};
 ghost use Rattle.cecp_driver.specs.Deeds.{has_depth, up_text, CanSay, down_lines, FitsDown, down_told, hurry_lines, leave_lines, board_told, CanPush, play_lines, think_lines, analyse_lines};
 ghost use Rattle.cecp_driver.specs.declared.told.TheConstants.{SETUP, MOST_PLIES};
 ghost use Rattle.cecp_driver.specs.declared.deeds.TheConstants.{STEP};
 
 use crate::told::ToldGame;
-use driver_lines::{write_best, write_clocks, write_info, write_numbered, write_word};
-use driver_talk::{BoardChange, GoClocks, ToEngine, ToIface};
+use driver_talk::{
+    BoardChange, GoClocks, ToEngine, ToIface, write_best, write_clocks, write_info, write_numbered,
+    write_word,
+};
 use game_record::Game;
 use line_io::Out;
 
@@ -175,4 +177,4 @@ pub(crate) fn note_board(board: BoardChange, told: &mut ToldGame)
     }
 }
 
-ghost use Rattle.driver_lines.specs.Lines.{Force, Ping, XBoard, Protover};
+ghost use Rattle.driver_talk.specs.Lines.{Force, Ping, XBoard, Protover};

@@ -3,7 +3,7 @@ ghost use Rattle.std.specs.Prelude.{◌≡◌, ◌+◌, ◌*◌, ◌≤◌, leng
 ghost use Rattle.std.specs.Borrow.{sem};
 ghost use Rattle.line_io.specs.Out.{empty, with};
 ghost use Rattle.driver_talk.specs.Talk.{turn_of, is_free};
-ghost use Rattle.driver_lines.specs.Says.{engine_message_of, Report, Feature};
+ghost use Rattle.driver_talk.specs.Says.{engine_message_of, Report, Feature};
 ghost use Rattle.peer_words.specs.Tokens.{tokens};
 ghost use Rattle.cecp_driver.specs.Driver.{driver_without_lines, driver_after_turn, driver_after_call, opening, CanTake, CanAct, reach_of, Wants, driver_after_position, IsAsked, IsHeard, driver_after_features, HeardBy, IsPlain};
 ghost use Rattle.cecp_driver.specs.declared.driver.TheConstants.{LINE_LIMIT, UP_ROOM, DOWN_ROOM};
@@ -12,11 +12,10 @@ use crate::deeds::{note_board, write_down, write_up};
 use crate::features::{HasFeatures, hear_features};
 use crate::ordered::take_position;
 use crate::told::{MOST_PLIES, ToldGame};
-use driver_lines::{
-    EngineSaid, OrderWord, first_move, read_clocks, read_ordered, read_said, shown_move,
-    thought_move,
+use driver_talk::{
+    DriverCall, DriverStage, DriverTalk, DriverTurn, EngineSaid, OrderWord, Reach, Thought,
+    WantedSearch, first_move, read_clocks, read_ordered, read_said, shown_move, thought_move,
 };
-use driver_talk::{DriverCall, DriverStage, DriverTalk, DriverTurn, Reach, Thought, WantedSearch};
 use game_record::Game;
 use line_io::{NoMemory, Out, PEER_LINE, SCRIPT_LINE};
 use std::alloc::Global;

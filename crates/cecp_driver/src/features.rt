@@ -1,11 +1,11 @@
 // The features of the engine.
 ghost use Rattle.std.specs.Prelude.{◌≡◌, ◌+◌, ◌*◌, ◌≤◌, ◌∷◌, [], length, IfSome, false};
 ghost use Rattle.line_io.specs.Out.{with};
-ghost use Rattle.driver_lines.specs.Parts.{feature_of, parts, cut_seen, onto, IsNamed};
-ghost use Rattle.driver_lines.specs.Lines.{lines_text};
+ghost use Rattle.driver_talk.specs.Parts.{feature_of, parts, cut_seen, onto, IsNamed};
+ghost use Rattle.driver_talk.specs.Lines.{lines_text};
 ghost use Rattle.cecp_driver.specs.Features.{has_word, is_on, rejects, answer_line, has_after, name_after, greeting, has_all, name_all, answers, greetings, weight};
 
-use driver_lines::{CutFeature, NamedFeature, next_cut, write_answer, write_id, write_word};
+use driver_talk::{CutFeature, NamedFeature, next_cut, write_answer, write_id, write_word};
 use line_io::Out;
 
 /// The features that the engine has said it has, and that it has said all.

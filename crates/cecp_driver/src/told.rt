@@ -6,7 +6,7 @@ ghost use Rattle.line_io.specs.Out.{with};
 ghost use Rattle.chess_board.specs.Text.{IsOfficer};
 ghost use Rattle.chess_board.specs.Place.{legal};
 ghost use Rattle.game_record.specs.Game.{game_from, ply_of, plies_of, with_ply};
-ghost use Rattle.driver_lines.specs.Lines.{SetBoard, line_text, lines_text};
+ghost use Rattle.driver_talk.specs.Lines.{SetBoard, line_text, lines_text};
 ghost use Rattle.cecp_driver.specs.SetUp.{continued, start_lines, setup_lines, set_up, told_with_limit, told_after_ply, told_without_game, none_told};
 ghost use Rattle.cecp_driver.specs.declared.told.TheConstants.{SETUP, MOST_TOLD, MOST_PLIES};
 
@@ -14,7 +14,7 @@ use crate::further::further_moves;
 use crate::played::write_played;
 use crate::same::is_same_position;
 use chess_board::{Move, Position};
-use driver_lines::write_word;
+use driver_talk::write_word;
 use fen_text::write_fen;
 use game_record::Game;
 use line_io::{NoMemory, Out};

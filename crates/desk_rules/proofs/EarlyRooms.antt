@@ -9,7 +9,7 @@ use Rattle.uci_lines.specs.Orders.{Order}
 use Rattle.option_map.specs.declared.fault.OptionFault.{OptionFault}
 use Rattle.option_map.specs.declared.fault.OptionFault.TheVariants.{UnknownOption, BadValue}
 use Rattle.option_map.specs.Settings.{OptionSetting}
-use Rattle.feature_talk.specs.Features.{reply_line, reply_lines}
+use Rattle.option_map.specs.Features.{reply_line, reply_lines}
 use Rattle.desk_rules.specs.declared.desk.Desk.{Desk}
 use Rattle.desk_rules.specs.Early.{lines_with_feeds, AreEarly}
 use Rattle.desk_rules.specs.Lines.{refused_option, early_answer}

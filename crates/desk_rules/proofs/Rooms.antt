@@ -17,8 +17,8 @@ use Rattle.think_text.specs.declared.line.Pondered.{Pondered}
 use Rattle.think_text.specs.Line.{thinking_line, with_line, HasRoom, IsPlayable}
 use Rattle.think_text.specs.Short.{most_bytes}
 use Rattle.option_map.specs.Settings.{OptionSetting, text_size}
-use Rattle.feature_talk.specs.Features.{feature_list, reply_line, reply_lines}
-use Rattle.feature_talk.proofs.Lists.{short_list}
+use Rattle.option_map.specs.Features.{feature_list, reply_line, reply_lines}
+use Rattle.option_map.proofs.Lists.{short_list}
 use Rattle.desk_rules.specs.Fits.{IsSaid}
 use Rattle.think_text.proofs.Short.{lines_short}
 

@@ -17,7 +17,7 @@ use Rattle.clock_map.specs.Clocks.{first_clocks}
 use Rattle.think_text.specs.Kept.{nothing_seen}
 use Rattle.option_map.specs.Settings.{OptionSetting}
 use Rattle.option_map.specs.Shown.{check_named}
-use Rattle.feature_talk.specs.Features.{shown_name}
+use Rattle.option_map.specs.Features.{shown_name}
 use Rattle.policy_rules.specs.declared.settings.Settings.{Settings}
 use Rattle.search_epochs.specs.declared.words.Call.{Call}
 use Rattle.search_epochs.specs.declared.words.Call.TheVariants as calls

@@ -27,7 +27,7 @@ use Rattle.option_map.specs.Settings.{OptionSetting}
 use Rattle.option_map.specs.Shown.{check_named}
 use Rattle.option_map.specs.Asked.{asked}
 use Rattle.option_map.specs.Held.{can_join}
-use Rattle.feature_talk.specs.Due.{due_after}
+use Rattle.option_map.specs.Due.{due_after}
 use Rattle.policy_rules.specs.declared.settings.Settings.{Settings}
 use Rattle.desk_rules.specs.declared.mode.Mode.{Mode}
 use Rattle.desk_rules.specs.declared.mode.Mode.TheVariants as modes

@@ -28,10 +28,10 @@ use Rattle.policy_rules.specs.declared.settings.Settings.{Settings}
 use Rattle.think_text.specs.declared.line.Pondered.{Pondered}
 use Rattle.think_text.specs.Line.{thinking_line}
 use Rattle.think_text.specs.Kept.{stat01_of}
-use Rattle.feature_talk.specs.declared.talk.ProtoverAnswer.{ProtoverAnswer}
-use Rattle.feature_talk.specs.declared.talk.ProtoverAnswer.TheVariants as say
-use Rattle.feature_talk.specs.Due.{answer}
-use Rattle.feature_talk.specs.Features.{feature_list}
+use Rattle.option_map.specs.declared.talk.ProtoverAnswer.{ProtoverAnswer}
+use Rattle.option_map.specs.declared.talk.ProtoverAnswer.TheVariants as say
+use Rattle.option_map.specs.Due.{answer}
+use Rattle.option_map.specs.Features.{feature_list}
 use Rattle.desk_rules.specs.declared.effect.Refusal.{Refusal}
 use Rattle.desk_rules.specs.declared.effect.Refusal.TheVariants as refusals
 use Rattle.desk_rules.specs.declared.desk.Desk.{Desk}

@@ -20,7 +20,7 @@ use Rattle.uci_lines.specs.Engine.{engine_message}
 use Rattle.game_record.specs.Game.{Game, now_of}
 use Rattle.think_text.specs.Kept.{nothing_seen, after_info}
 use Rattle.option_map.specs.Settings.{after_declared}
-use Rattle.feature_talk.specs.Features.{shown_name}
+use Rattle.option_map.specs.Features.{shown_name}
 use Rattle.policy_rules.specs.declared.scores.Scores.{Scores}
 use Rattle.policy_rules.specs.Scores.{Score, no_scores, after_shown}
 use Rattle.search_epochs.specs.declared.words.Call.{Call}

@@ -5,10 +5,9 @@ ghost use Rattle.desk_rules.specs.Desk.{opening_desk};
 use crate::{Early, EngineName, Mode, Pings};
 use chess_board::{Move, Side};
 use clock_map::Clocks;
-use feature_talk::FeatureTalk;
 use game_record::Game;
 use line_io::NoMemory;
-use option_map::Options;
+use option_map::{FeatureTalk, Options};
 use std::alloc::Global;
 use think_text::SeenThinking;
 

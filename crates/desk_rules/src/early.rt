@@ -6,7 +6,7 @@ ghost use Rattle.line_io.specs.Lines.{parts, is_feed};
 ghost use Rattle.line_io.specs.Out.{with};
 ghost use Rattle.option_map.specs.Data.{answer_seen};
 ghost use Rattle.option_map.specs.Held.{with_orders};
-ghost use Rattle.feature_talk.specs.Features.{reply_lines};
+ghost use Rattle.option_map.specs.Features.{reply_lines};
 ghost use Rattle.desk_rules.specs.Lines.{early_answer, refused_option};
 ghost use Rattle.desk_rules.specs.Orders.{AllJoin, early_orders};
 ghost use Rattle.desk_rules.specs.Replies.{early_refusal, early_refusals};

@@ -1,10 +1,10 @@
 // The name that the engine is shown by.
 ghost use Rattle.std.specs.Prelude.{◌≡◌, ◌≤◌, length};
-ghost use Rattle.feature_talk.specs.Features.{shown_name};
-ghost use Rattle.feature_talk.specs.declared.features.TheConstants.{MOST_NAME};
+ghost use Rattle.option_map.specs.Features.{shown_name};
+ghost use Rattle.option_map.specs.declared.feature_list.TheConstants.{MOST_NAME};
 
 use arrayvec::ArrayVec;
-use feature_talk::shown_name;
+use option_map::shown_name;
 use std::marker::Model;
 
 /// The name that the engine is shown by: the last one it gave, if that can be shown.

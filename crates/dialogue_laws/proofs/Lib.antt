@@ -8,3 +8,12 @@ pub mod Calls
 pub mod Steadily
 pub mod Asked
 pub mod All
+pub mod Numerals
+pub mod Pieces
+pub mod OptionTexts
+pub mod Boards
+pub mod Games
+pub mod Sans
+pub mod ReplyLines
+pub mod OrderLines
+pub mod OneLine

@@ -16,10 +16,10 @@ use Rattle.option_map.specs.Settings.{OptionSetting}
 use Rattle.option_map.specs.Shown.{takes_tables}
 use Rattle.uci_lines.specs.declared.messages.Score.{Score}
 use Rattle.think_text.specs.Line.{thinking_line, line_with, legal_run, run_texts, hint_text}
-use Rattle.feature_talk.specs.declared.talk.ProtoverAnswer.{ProtoverAnswer}
-use Rattle.feature_talk.specs.declared.talk.ProtoverAnswer.TheVariants as say
-use Rattle.feature_talk.specs.Due.{answer}
-use Rattle.feature_talk.specs.Features.{feature_list, tables, option_feature, shown_options}
+use Rattle.option_map.specs.declared.talk.ProtoverAnswer.{ProtoverAnswer}
+use Rattle.option_map.specs.declared.talk.ProtoverAnswer.TheVariants as say
+use Rattle.option_map.specs.Due.{answer}
+use Rattle.option_map.specs.Features.{feature_list, tables, option_feature, shown_options}
 use Rattle.policy_rules.specs.declared.settings.Settings.{Settings}
 use Rattle.search_epochs.specs.Tickets.{is_move}
 use Rattle.desk_rules.specs.declared.effect.Refusal.{Refusal}

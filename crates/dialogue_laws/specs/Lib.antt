@@ -5,3 +5,4 @@ pub mod Dialogue
 pub mod Pings
 pub mod Values
 pub mod Laws
+pub mod OneLine

@@ -5,9 +5,9 @@ use adapter_core::{
 use dialogue_laws::{
     cores_within_limits, engine_on_wire, last_settings_stand, laws_hold, order_places,
     pings_get_pongs, searches_end_once, searches_serve, traces_are_dialogues, traces_exist,
+    written_texts_are_lines,
 };
 use drill::drills_are_one;
-use line_laws::written_texts_are_lines;
 use policy_rules::Settings;
 use search_epochs::{open_search, served_call, whole_dialogue, whole_turn};
 use session_script::scripts_have_one_trace;

@@ -2,9 +2,9 @@
 #![tactic(auto)]
 
 use driver_runner::{drive_main, refuse_for_memory};
+use host_run::ProgramStart;
 use program_edges::{NO_MEMORY, WORDS_ROOM, words_of};
-use program_start::ProgramStart;
-use program_texts::{About, answer_about};
+use program_words::{About, answer_about};
 use std::process::ExitCode;
 
 const ABOUT: About = About {

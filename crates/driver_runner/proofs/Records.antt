@@ -14,9 +14,9 @@ use Rattle.host_run.specs.Early.{no_failure, only_memory}
 use Rattle.host_run.specs.Outside.{Outside, outside}
 use Rattle.mediator.specs.Turns.{events_of_turns}
 use Rattle.mediator.proofs.Loops.{filter_swap}
-use Rattle.mediator_host.specs.Mediated.{Mediated}
-use Rattle.mediator_host.specs.Mediated as hosts
-use Rattle.mediator_host.proofs.Wholes.{recorded_as, whole_as, when_whole, nothing_left}
+use Rattle.mediator.specs.Mediated.{Mediated}
+use Rattle.mediator.specs.Mediated as hosts
+use Rattle.mediator.proofs.Wholes.{recorded_as, whole_as, when_whole, nothing_left}
 use Rattle.driver_runner.specs.declared.driving.Driving.{Driving}
 use Rattle.driver_runner.specs.Told.{is_told, without_long}
 use Rattle.driver_runner.specs.Drives.{drives}

@@ -10,9 +10,9 @@ use Rattle.event_pipe.specs.Rule.{of, has_last_event, Follows}
 use Rattle.driver_talk.specs.declared.talk.DriverStage.{DriverStage}
 use Rattle.driver_talk.specs.declared.talk.DriverStage.TheVariants as stages
 use Rattle.driver_talk.specs.declared.talk.DriverCall.{DriverCall}
-use Rattle.driver_lines.specs.declared.words.OrderWord.{OrderWord}
-use Rattle.driver_lines.specs.declared.words.OrderWord.TheVariants as orders
-use Rattle.driver_lines.specs.Says.{Says, Move as SaysMove, Over, Pong, Report, Feature, Other as SaysOther}
+use Rattle.driver_talk.specs.declared.order_words.OrderWord.{OrderWord}
+use Rattle.driver_talk.specs.declared.order_words.OrderWord.TheVariants as orders
+use Rattle.driver_talk.specs.Says.{Says, Move as SaysMove, Over, Pong, Report, Feature, Other as SaysOther}
 use Rattle.cecp_driver.specs.declared.driver.DriverParts.{DriverParts}
 use Rattle.cecp_driver.specs.Driver.{driver_without_lines, placed_if, driver_after_call, IsAsked, IsHeard, thought_call, features_at, OrdersBy, HeardBy}
 use Rattle.cecp_driver.specs.Script.{Comes, IsLine, may_come}

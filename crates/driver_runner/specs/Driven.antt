@@ -6,7 +6,7 @@ use Rattle.host_run.specs.declared.failures.Failures.{Failures}
 use Rattle.host_run.specs.Early.{no_failure}
 use Rattle.host_run.specs.Outside.{Outside, AreTold, IsClosed}
 use Rattle.mediator.specs.Turns.{events_of_turns}
-use Rattle.mediator_host.specs.Mediated.{Mediated}
+use Rattle.mediator.specs.Mediated.{Mediated}
 use Rattle.driver_runner.specs.declared.driving.Driving.{Driving}
 use Rattle.driver_runner.specs.Drives.{drives}
 use Rattle.driver_runner.specs.Recorded.{Recorded, IsWhole}

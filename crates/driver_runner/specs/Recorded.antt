@@ -17,7 +17,7 @@ use Rattle.cecp_driver.specs.Script.{Goes, script_text, lines_up, lines_down}
 use Rattle.child_engine.specs.Hosts.{Books}
 use Rattle.host_run.specs.declared.failures.Failures.{Failures}
 use Rattle.host_run.specs.Outside.{Outside}
-use Rattle.mediator_host.specs.Recorded.{RecordedAs}
+use Rattle.mediator.specs.Recorded.{RecordedAs}
 use Rattle.driver_runner.specs.Told.{without_long}
 
 -- The peer's events among these are all that arrived from it, except long lines.

@@ -10,7 +10,7 @@ use cecp_driver::Driver;
 use child_engine::Host;
 use host_run::{Failures, only_memory};
 use line_io::{Sink, Source};
-use mediator_host::{RunRequest, run_mediator};
+use mediator::{RunRequest, run_mediator};
 use sink_offers::Interface;
 use std::alloc::Global;
 use std::sync::Wait;

@@ -2,3 +2,8 @@ pub mod Counts
 pub mod Busy
 pub mod Silent
 mod Pings
+mod Cuts
+mod Named
+mod First
+mod Puts
+pub mod FeatureText

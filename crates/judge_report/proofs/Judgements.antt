@@ -4,11 +4,11 @@ use Rattle.std.proofs.Math.Seq.{take-length}
 use Rattle.std.specs.Io.KnownBytes.{Appends}
 use Rattle.line_io.specs.Lines.{Piece, items}
 use Rattle.line_io.specs.Runs.{whole}
-use Rattle.command_endings.specs.declared.ending.Ending.{Ending}
-use Rattle.command_endings.specs.declared.ending.Ending.TheVariants as endings
-use Rattle.command_endings.specs.Ran.{Ran}
-use Rattle.command_endings.specs.Reads.{AreRead}
-use Rattle.command_endings.specs.Streams.{Streams}
+use Rattle.line_scribe.specs.declared.ending.Ending.{Ending}
+use Rattle.line_scribe.specs.declared.ending.Ending.TheVariants as endings
+use Rattle.line_scribe.specs.Ran.{Ran}
+use Rattle.line_scribe.specs.Reads.{AreRead}
+use Rattle.line_scribe.specs.Streams.{Streams}
 use Rattle.line_scribe.specs.Putting.{IsOfLine}
 use Rattle.line_scribe.specs.Scribed.{AreAll, EndsBy, EndsRightly, HasReason, IsText, WroteAll, WroteFront, WroteTo, WroteWhole}
 use Rattle.line_scribe.specs.Outcomes.{Outcome, LineReported, WroteLast}

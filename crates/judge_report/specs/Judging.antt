@@ -1,7 +1,7 @@
 -- The report of a judge as what a scribe puts.
 use Rattle.std.specs.Prelude.{◌≡◌, ◌⊎◌, ⊤, ℕ, List}
 use Rattle.line_io.specs.Lines.{Piece}
-use Rattle.command_endings.specs.declared.ending.Ending.{Ending}
+use Rattle.line_scribe.specs.declared.ending.Ending.{Ending}
 use Rattle.line_scribe.specs.Putting.{Putting, IsOfLine}
 use Rattle.session_judge.specs.declared.listener.Listener.{Listener}
 use Rattle.session_judge.specs.declared.talk.JudgedTalk.{JudgedTalk}

@@ -10,9 +10,8 @@ ghost use Rattle.judge_report.specs.Reports.{brought_out, is_passed, kind_of, la
 ghost use Rattle.judge_report.specs.declared.report.TheConstants.{LAST_LINES};
 
 use crate::text::{put_lawful, put_refusal, put_search};
-use command_endings::Ending;
 use line_io::Out;
-use line_scribe::Scribe;
+use line_scribe::{Ending, Scribe};
 use script_lines::{read_header, read_mark, read_step};
 use session_judge::{Deed, Judge, Listener, OrderKind, Search};
 use std::alloc::Global;

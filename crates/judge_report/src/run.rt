@@ -1,13 +1,12 @@
 // The run of a judge over an input.
 ghost use Rattle.std.specs.Prelude.{◌≡◌};
-ghost use Rattle.command_endings.specs.Diagnostics.{code_of};
-ghost use Rattle.command_endings.specs.Streams.{streams};
+ghost use Rattle.line_scribe.specs.Diagnostics.{code_of};
+ghost use Rattle.line_scribe.specs.Streams.{streams};
 ghost use Rattle.judge_report.specs.Judged.{Judged};
 
 use crate::report::Report;
-use command_endings::Ending;
 use line_io::{Sink, Source};
-use line_scribe::run_scribe;
+use line_scribe::{Ending, run_scribe};
 use session_judge::Listener;
 use std::alloc::Global;
 

@@ -25,7 +25,7 @@ use Rattle.uci_talk.specs.Lines.{Line, line_of}
 use Rattle.uci_talk.specs.Speaks.{Leads, Starts}
 use Rattle.uci_talk.proofs.Saying.{speaks_line}
 use Rattle.desk_rules.specs.Orders.{start_of}
-use Rattle.line_laws.proofs.Games.{IsGame}
+use Rattle.dialogue_laws.proofs.Games.{IsGame}
 
 -- THE LINE
 

@@ -7,3 +7,7 @@ pub mod Steps
 pub mod Settles
 pub mod Scripts
 pub mod Marked
+mod Fed
+mod Spelled
+mod Held
+mod Heard

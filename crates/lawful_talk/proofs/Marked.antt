@@ -15,15 +15,15 @@ use Rattle.script_lines.proofs.Scripts.{parts_line}
 use Rattle.script_lines.proofs.Spelled.{spelled_read}
 use Rattle.cecp_lines.specs.Replies.{Reply, reply_text}
 use Rattle.uci_lines.specs.Orders.{Order, order_text}
-use Rattle.feature_talk.specs.Features.{reply_lines}
+use Rattle.option_map.specs.Features.{reply_lines}
 use Rattle.desk_rules.specs.Texts.{order_lines}
 use Rattle.policy_rules.specs.declared.settings.Settings.{Settings}
 use Rattle.adapter_core.specs.Trace.{Step, Lawful, iface_text, engine_text}
 use Rattle.session_script.proofs.Lines.{behind, event_lines, written_lines, IsTold, step_lines, lines_of, AreTold, script1_lines}
 use Rattle.session_script.proofs.Scripts.{all_told}
 use Rattle.session_script.proofs.Numbered.{number_line, numbered_lines, script2_lines}
-use Rattle.line_laws.specs.OneLine.{IsOneLine, WritesLines}
-use Rattle.line_laws.proofs.OneLine.{write_lines}
+use Rattle.dialogue_laws.specs.OneLine.{IsOneLine, WritesLines}
+use Rattle.dialogue_laws.proofs.OneLine.{write_lines}
 use Rattle.lawful_talk.specs.Logs.{event_marks, iface_mark, engine_mark, step_marks, marks_of}
 use Rattle.lawful_talk.specs.Scripts.{marks_told, Scripts1AreClean, Scripts2AreClean}
 use Rattle.lawful_talk.proofs.Scripts.{logs_are_clean}

@@ -27,7 +27,7 @@ use Rattle.session_judge.specs.Talks.{opening}
 use Rattle.lawful_talk.specs.Logs.{NoOrderCrosses, SearchesAt, SearchesTheDesk, step_marks, marks_in, marks_of, LogsAreClean}
 use Rattle.lawful_talk.proofs.Runs.{Runs, apart_runs, more_runs, both_run, clean_runs}
 use Rattle.lawful_talk.proofs.Writes.{Is, Shows, Agrees}
-use Rattle.line_laws.proofs.Games.{game_is}
+use Rattle.dialogue_laws.proofs.Games.{game_is}
 use Rattle.lawful_talk.proofs.Steps.{open_parts, opening_parts, closing_parts, closed_parts}
 use Rattle.lawful_talk.proofs.Settles.{settles}
 

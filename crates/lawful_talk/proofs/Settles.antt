@@ -51,7 +51,7 @@ use Rattle.lawful_talk.specs.Logs.{SearchesAt, engine_mark}
 use Rattle.lawful_talk.proofs.Runs.{Runs, more_runs}
 use Rattle.lawful_talk.proofs.Texts.{as_order, kind_heard}
 use Rattle.lawful_talk.proofs.Writes.{Shows as Told, Agrees, plain_runs, search_runs}
-use Rattle.line_laws.proofs.Games.{IsGame, played_is, effect_is}
+use Rattle.dialogue_laws.proofs.Games.{IsGame, played_is, effect_is}
 use Rattle.lawful_talk.proofs.Games.{line_leads}
 
 -- WHAT STAYS

@@ -27,7 +27,7 @@ use Rattle.session_judge.specs.declared.deed.OrderKind.{OrderKind as Heard}
 use Rattle.session_judge.specs.declared.deed.OrderKind.TheVariants as hears
 use Rattle.session_judge.specs.declared.deed.Deed.TheVariants as deeds
 use Rattle.session_judge.specs.Deeds.{deed_of, end_of, shown_by, told_move}
-use Rattle.line_laws.proofs.Numerals.{AreDigits, numeral}
+use Rattle.dialogue_laws.proofs.Numerals.{AreDigits, numeral}
 use Rattle.lawful_talk.specs.Logs.{iface_mark, engine_mark}
 
 -- ORDERS

@@ -1,2 +1,4 @@
 pub mod Logs
 pub mod Scripts
+pub mod Wire
+pub mod Runs

@@ -1,10 +1,14 @@
-//! The talk of this bridge with its engine is lawful: in the log of a lawful trace the judge finds no mark that breaks a
-//! rule, whether it takes the log for the bridge's own or for a tap's.
+//! Laws on the talk with an engine, which no program calls. In the log of a lawful trace the judge finds no mark that breaks a
+//! rule, whether it takes the log for the bridge's own or for a tap's; and what the lines say that a driver writes to its
+//! engine, as an engine reads them (Chess Engine Communication Protocol, version 2).
 #![tactic(auto)]
+
+mod laws;
 
 ghost use Rattle.lawful_talk.specs.Logs.{LogsAreClean, NoOrderCrosses, SearchesTheDesk};
 ghost use Rattle.lawful_talk.specs.Scripts.{Scripts1AreClean, Scripts2AreClean};
 
+pub use laws::{engines_hear_the_ordered, lines_are_cecp};
 use policy_rules::Settings;
 
 /// A law: in the log of a lawful trace no mark breaks a rule of the dialogue with the engine, no order crosses a line of the

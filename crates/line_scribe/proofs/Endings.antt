@@ -8,12 +8,12 @@ use Rattle.line_io.specs.Runs.{whole}
 use Rattle.line_io.specs.Source.{Received, Supplied}
 use Rattle.line_io.specs.Taken.{Place, Taken}
 use Rattle.line_io.specs.declared.taker.LinesEnd.TheVariants as ends
-use Rattle.command_endings.specs.declared.ending.Ending.{Ending}
-use Rattle.command_endings.specs.declared.ending.Ending.TheVariants as endings
-use Rattle.command_endings.specs.Ran.{Causes}
-use Rattle.command_endings.specs.Reads.{AreFirst, AreRead, IsAll}
-use Rattle.command_endings.specs.Streams.{Streams, streams}
-use Rattle.command_endings.proofs.Readings.{ended_all, ended_read, read_front, stopped_read, whole_read}
+use Rattle.line_scribe.specs.declared.ending.Ending.{Ending}
+use Rattle.line_scribe.specs.declared.ending.Ending.TheVariants as endings
+use Rattle.line_scribe.specs.Ran.{Causes}
+use Rattle.line_scribe.specs.Reads.{AreFirst, AreRead, IsAll}
+use Rattle.line_scribe.specs.Streams.{Streams, streams}
+use Rattle.line_scribe.proofs.Readings.{ended_all, ended_read, read_front, stopped_read, whole_read}
 use Rattle.line_scribe.specs.Putting.{Putting, IsOfLine}
 use Rattle.line_scribe.specs.Scribed.{AreAll, EndsRightly, HasReason, IsText, Scribed, EndsBy, WroteTo, WroteWhole}
 use Rattle.line_scribe.specs.Writing.{Broke, Finished, Left, Said, writes}

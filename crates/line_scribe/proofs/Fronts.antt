@@ -1,7 +1,7 @@
 -- Fronts of what is due for all lines of an input.
 use Rattle.std.proofs.Common.{◌≡◌, ℕ, zero, suc, List, [], ◌∷◌, ◌++◌, take, Option, None, Some, append-nil, append_assoc, refl, sym, ap, subst, ◌∙◌}
 use Rattle.line_io.specs.Lines.{Piece}
-use Rattle.command_endings.specs.Reads.{AreFirst}
+use Rattle.line_scribe.specs.Reads.{AreFirst}
 use Rattle.line_scribe.specs.Scribed.{AreAll}
 
 -- one text is a front of the other

@@ -4,13 +4,13 @@ use Rattle.std.specs.Io.KnownBytes.{Appends}
 use Rattle.line_io.specs.Lines.{items}
 use Rattle.line_io.specs.Runs.{whole}
 use Rattle.line_io.specs.Source.{Received, Supplied}
-use Rattle.command_endings.specs.declared.ending.Ending.{Ending}
-use Rattle.command_endings.specs.declared.ending.Ending.TheVariants as endings
-use Rattle.command_endings.specs.Diagnostics.{code_of, diagnostic, tail_of}
-use Rattle.command_endings.specs.Ran.{Ran, WritingBroke}
-use Rattle.command_endings.specs.Streams.{Streams, AreSame, IsSteady}
-use Rattle.command_endings.specs.Told.{Told}
-use Rattle.command_endings.proofs.Readings.{few_got, items_read, whole_lines_read}
+use Rattle.line_scribe.specs.declared.ending.Ending.{Ending}
+use Rattle.line_scribe.specs.declared.ending.Ending.TheVariants as endings
+use Rattle.line_scribe.specs.Diagnostics.{code_of, diagnostic, tail_of}
+use Rattle.line_scribe.specs.Ran.{Ran, WritingBroke}
+use Rattle.line_scribe.specs.Streams.{Streams, AreSame, IsSteady}
+use Rattle.line_scribe.specs.Told.{Told}
+use Rattle.line_scribe.proofs.Readings.{few_got, items_read, whole_lines_read}
 use Rattle.line_scribe.specs.Putting.{Putting, IsOfLine}
 use Rattle.line_scribe.specs.Scribed.{EndsBy, EndsRightly, WroteAll, WroteFront, WroteTo, WroteWhole}
 use Rattle.line_scribe.specs.Outcomes.{LineReported, Outcome, WroteLast}

@@ -9,8 +9,8 @@ use Rattle.line_io.specs.Lines.{Piece}
 use Rattle.line_io.specs.Out.{Text, with}
 use Rattle.line_io.specs.Source.{Received}
 use Rattle.line_io.specs.Takers.{Then}
-use Rattle.command_endings.specs.declared.ending.Ending.{Ending}
-use Rattle.command_endings.specs.declared.ending.Ending.TheVariants as endings
+use Rattle.line_scribe.specs.declared.ending.Ending.{Ending}
+use Rattle.line_scribe.specs.declared.ending.Ending.TheVariants as endings
 use Rattle.line_scribe.specs.Putting.{Putting, Puts, Closes, IsOfLine}
 use Rattle.line_scribe.specs.Scribed.{HasReason, IsText}
 use Rattle.line_scribe.specs.Writing.{Moved, Cut, Stood, Said, Broke, Came, Halted, Finished, Left, MayTake, is_cut, writes}

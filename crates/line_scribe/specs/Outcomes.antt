@@ -3,12 +3,12 @@ use Rattle.std.specs.Prelude.{◌≡◌, ◌⊎◌, ℕ, ◌^◌, ◌<◌, List,
 use Rattle.std.specs.Io.KnownBytes.{Appends}
 use Rattle.line_io.specs.Causes.{Rose}
 use Rattle.line_io.specs.Lines.{Piece}
-use Rattle.command_endings.specs.declared.ending.Ending.{Ending}
-use Rattle.command_endings.specs.declared.ending.Ending.TheVariants as endings
-use Rattle.command_endings.specs.Diagnostics.{code_of, diagnostic}
-use Rattle.command_endings.specs.Ran.{WritingBroke}
-use Rattle.command_endings.specs.Reads.{AreRead}
-use Rattle.command_endings.specs.Streams.{Streams, AreSame, IsSteady}
+use Rattle.line_scribe.specs.declared.ending.Ending.{Ending}
+use Rattle.line_scribe.specs.declared.ending.Ending.TheVariants as endings
+use Rattle.line_scribe.specs.Diagnostics.{code_of, diagnostic}
+use Rattle.line_scribe.specs.Ran.{WritingBroke}
+use Rattle.line_scribe.specs.Reads.{AreRead}
+use Rattle.line_scribe.specs.Streams.{Streams, AreSame, IsSteady}
 use Rattle.line_scribe.specs.Putting.{Putting, IsOfLine}
 use Rattle.line_scribe.specs.Scribed.{EndsRightly, WroteAll, WroteFront, WroteTo, WroteWhole}
 

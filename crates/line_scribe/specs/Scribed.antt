@@ -4,10 +4,10 @@ use Rattle.std.specs.Prelude.{◌≡◌, ◌⊎◌, ⊤, ℕ, ◌^◌, ◌≤◌
 use Rattle.std.specs.Io.KnownBytes.{Appends}
 use Rattle.line_io.specs.Lines.{Piece, items}
 use Rattle.line_io.specs.Runs.{whole}
-use Rattle.command_endings.specs.declared.ending.Ending.{Ending}
-use Rattle.command_endings.specs.declared.ending.Ending.TheVariants as endings
-use Rattle.command_endings.specs.Reads.{Got, IsAll, AreFirst, AreRead}
-use Rattle.command_endings.specs.Streams.{Streams}
+use Rattle.line_scribe.specs.declared.ending.Ending.{Ending}
+use Rattle.line_scribe.specs.declared.ending.Ending.TheVariants as endings
+use Rattle.line_scribe.specs.Reads.{Got, IsAll, AreFirst, AreRead}
+use Rattle.line_scribe.specs.Streams.{Streams}
 use Rattle.line_scribe.specs.Putting.{Putting}
 use Rattle.line_io.specs.declared.limits.TheConstants.{SCRIPT_LINE}
 

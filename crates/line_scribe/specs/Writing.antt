@@ -7,11 +7,11 @@ use Rattle.line_io.specs.Lines.{Piece}
 use Rattle.line_io.specs.Out.{Text}
 use Rattle.line_io.specs.Source.{Received, TakesPrefix}
 use Rattle.line_io.specs.Takers.{Meaning}
-use Rattle.command_endings.specs.declared.ending.Ending.{Ending}
-use Rattle.command_endings.specs.declared.ending.Ending.TheVariants as endings
+use Rattle.line_scribe.specs.declared.ending.Ending.{Ending}
+use Rattle.line_scribe.specs.declared.ending.Ending.TheVariants as endings
 use Rattle.line_scribe.specs.Putting.{Putting, IsOfLine}
 use Rattle.line_scribe.specs.Scribed.{HasReason, IsText}
-use Rattle.command_endings.specs.declared.limits.TheConstants.{TEXT_ROOM}
+use Rattle.line_scribe.specs.declared.limits.TheConstants.{TEXT_ROOM}
 
 -- A front of what was held was written, and the rest is held.
 pub record Moved (held held' : Text) (before after : Received) : Type 0 where

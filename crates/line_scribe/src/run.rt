@@ -3,16 +3,16 @@ ghost use Rattle.std.specs.Prelude.{◌≡◌, [], IfOk};
 ghost use Rattle.line_io.specs.Lines.{empty_reader};
 ghost use Rattle.line_io.specs.Out.{empty};
 ghost use Rattle.line_io.specs.Source.{Received};
-ghost use Rattle.command_endings.specs.Diagnostics.{code_of};
-ghost use Rattle.command_endings.specs.Ran.{Causes, Ran};
-ghost use Rattle.command_endings.specs.Streams.{streams};
+ghost use Rattle.line_scribe.specs.Diagnostics.{code_of};
+ghost use Rattle.line_scribe.specs.Ran.{Causes, Ran};
+ghost use Rattle.line_scribe.specs.Streams.{streams};
 ghost use Rattle.line_scribe.specs.Scribed.{EndsBy, Scribed};
 ghost use Rattle.line_io.specs.declared.limits.TheConstants.{SCRIPT_LINE};
-ghost use Rattle.command_endings.specs.declared.limits.TheConstants.{DIAGNOSTIC_ROOM, TEXT_ROOM};
+ghost use Rattle.line_scribe.specs.declared.limits.TheConstants.{DIAGNOSTIC_ROOM, TEXT_ROOM};
 
 use crate::scribe::Scribe;
 use crate::writer::Writer;
-use command_endings::{DIAGNOSTIC_ROOM, Ending, TEXT_ROOM, tell, tell_short};
+use crate::{DIAGNOSTIC_ROOM, Ending, TEXT_ROOM, tell, tell_short};
 use line_io::{Lines, LinesEnd, NoMemory, Out, SCRIPT_LINE, Sink, Source, take_lines};
 use std::alloc::Global;
 

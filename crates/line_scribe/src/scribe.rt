@@ -2,9 +2,9 @@
 ghost use Rattle.std.specs.Prelude.{◌≡◌, ◌+◌, ◌≤◌, length, None, IfSome};
 ghost use Rattle.line_io.specs.Lines.{Whole, TooLong};
 ghost use Rattle.line_scribe.specs.Putting.{IsInputEnd, Closes, IsOfLine, Putting, Puts};
-ghost use Rattle.command_endings.specs.declared.limits.TheConstants.{LINE_ROOM};
+ghost use Rattle.line_scribe.specs.declared.limits.TheConstants.{LINE_ROOM};
 
-use command_endings::Ending;
+use crate::Ending;
 use line_io::Out;
 
 /// What puts a text for the lines that it takes.

@@ -3,10 +3,10 @@ ghost use Rattle.std.specs.Prelude.{◌≡◌, ◌+◌, ◌≤◌, [], length, O
 ghost use Rattle.line_io.specs.Source.{Received};
 ghost use Rattle.line_scribe.specs.Putting.{IsInputEnd, IsOfLine};
 ghost use Rattle.line_scribe.specs.Writing.{Cut, Moved, is_cut};
-ghost use Rattle.command_endings.specs.declared.limits.TheConstants.{TEXT_ROOM, LINE_ROOM};
+ghost use Rattle.line_scribe.specs.declared.limits.TheConstants.{TEXT_ROOM, LINE_ROOM};
 
 use crate::scribe::Scribe;
-use command_endings::{Ending, LINE_ROOM};
+use crate::{Ending, LINE_ROOM};
 use line_io::{Failed, Out, Sink, TakesLines, write_all};
 
 // Writes what is held.

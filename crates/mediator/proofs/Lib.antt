@@ -3,3 +3,5 @@ mod Joins
 mod Opens
 mod Runs
 pub mod Firsts
+mod Starts
+pub mod Wholes

@@ -4,3 +4,5 @@ pub mod First
 pub mod Looped
 pub mod Reached
 pub mod Ran
+pub mod Mediated
+pub mod Recorded

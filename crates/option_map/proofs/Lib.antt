@@ -10,3 +10,4 @@ pub mod Usable
 pub mod Asking
 pub mod Short
 pub mod KeptOrders
+pub mod Lists

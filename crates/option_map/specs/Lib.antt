@@ -8,3 +8,5 @@ pub mod Spelled
 pub mod Held
 pub mod Data
 pub mod KeptOrders
+pub mod Features
+pub mod Due

@@ -3,7 +3,7 @@
 
 use line_io::{ReadAdapter, WriteAdapter};
 use program_edges::words_of;
-use program_texts::{About, answer_about};
+use program_words::{About, answer_about};
 use replay_tool::{refuse_for_memory, replay_main};
 use std::process::ExitCode;
 

@@ -4,9 +4,9 @@ use Rattle.std.specs.Io.KnownBytes.{Appends}
 use Rattle.line_io.specs.Causes.{Rose}
 use Rattle.line_io.specs.Lines.{Piece, items, piece_of}
 use Rattle.line_io.specs.Runs.{whole}
-use Rattle.command_endings.specs.declared.ending.Ending.{Ending}
-use Rattle.command_endings.specs.declared.ending.Ending.TheVariants as endings
-use Rattle.command_endings.specs.Diagnostics.{code_of, diagnostic}
+use Rattle.line_scribe.specs.declared.ending.Ending.{Ending}
+use Rattle.line_scribe.specs.declared.ending.Ending.TheVariants as endings
+use Rattle.line_scribe.specs.Diagnostics.{code_of, diagnostic}
 use Rattle.std.proofs.KnownBytes.{Appends-nil, Appends-trans}
 use Rattle.policy_rules.specs.declared.settings.Settings.{Settings}
 use Rattle.script_player.specs.Versions.{Version, beginning, behind_header, events_by, events_of, fault_by, script_by, script_events, script_fault, settings_by, version_in}
@@ -17,16 +17,16 @@ use Rattle.std.proofs.Math.Seq.{take-append-add}
 use Rattle.session_script.proofs.Scripts.{all_told, same_trace}
 use Rattle.replay_commands.proofs.HeaderLines.{fault_version, script_behind, script_version}
 use Rattle.replay_commands.proofs.Replayed.{all_read, lines_behind, no_fault_in}
-use Rattle.command_endings.specs.Told.{Told}
-use Rattle.command_endings.specs.Reads.{AreFirst, AreRead, IsAll}
+use Rattle.line_scribe.specs.Told.{Told}
+use Rattle.line_scribe.specs.Reads.{AreFirst, AreRead, IsAll}
 use Rattle.replay_commands.specs.Replay.{EndsAs, IsScripted, ReplaysAll, ReplaysTo, ReplaysWhole, ReplaysMuch, CutShort}
-use Rattle.command_endings.specs.Ran.{Ran, WritingBroke}
-use Rattle.command_endings.specs.Streams.{Streams, AreSame, IsSteady}
+use Rattle.line_scribe.specs.Ran.{Ran, WritingBroke}
+use Rattle.line_scribe.specs.Streams.{Streams, AreSame, IsSteady}
 use Rattle.replay_commands.specs.Replayed.{IsTheSession, WritesScript, AllReplayed, FaultReported, WholeReplayed, MuchReplayed, FrontWritten, CompletesReplay, TellsFault, IsProperIn, WritesItAgain, Replayed}
 use Rattle.replay_commands.specs.Laws.{HaveLaws}
 use Rattle.session_script.specs.Script.{events}
 use Rattle.script_player.proofs.VersionLines.{behind_more, not_none, one_fault, same_fault, no_fault}
-use Rattle.command_endings.proofs.Readings.{few_got, whole_first}
+use Rattle.line_scribe.proofs.Readings.{few_got, whole_first}
 
 module _ (o : Settings) (unread kept : Type 0) (start now : Streams) where
   abbrev untouched : Type 0

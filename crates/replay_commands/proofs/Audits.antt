@@ -3,13 +3,13 @@ use Rattle.std.proofs.Common.{◌≡◌, ℕ, ◌+◌, ◌<◌, ◌==◌, List, 
 use Rattle.line_io.specs.Taken.{Place, Taken}
 use Rattle.line_io.specs.declared.taker.LinesEnd.TheVariants as ends
 use Rattle.policy_rules.specs.declared.settings.Settings.{Settings}
-use Rattle.command_endings.specs.declared.ending.Ending.{Ending}
-use Rattle.command_endings.specs.declared.ending.Ending.TheVariants as endings
-use Rattle.command_endings.specs.Streams.{Streams, with_input}
+use Rattle.line_scribe.specs.declared.ending.Ending.{Ending}
+use Rattle.line_scribe.specs.declared.ending.Ending.TheVariants as endings
+use Rattle.line_scribe.specs.Streams.{Streams, with_input}
 use Rattle.script_player.specs.declared.stage.ScriptStage.{ScriptStage}
 use Rattle.script_player.specs.declared.stage.ScriptStage.TheVariants as stages
 use Rattle.adapter_core.specs.Parts.{CoreParts}
-use Rattle.command_endings.proofs.Readings.{ended_all, stopped_read}
+use Rattle.line_scribe.proofs.Readings.{ended_all, stopped_read}
 use Rattle.replay_commands.specs.declared.check.Checker.{Checker}
 use Rattle.replay_commands.specs.Check.{Finds}
 use Rattle.replay_commands.specs.Walked.{EndsAt, IsUnread, MayTake, at_end as ending_at, checks}

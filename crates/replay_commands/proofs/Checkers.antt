@@ -15,17 +15,17 @@ use Rattle.adapter_core.specs.Stands.{Stands}
 use Rattle.session_script.specs.Script.{written_text, events_in}
 use Rattle.session_script.proofs.Lines.{written_lines, event_lines}
 use Rattle.session_script.proofs.Scripts.{some_opened}
-use Rattle.command_endings.specs.declared.ending.Ending.{Ending}
-use Rattle.command_endings.specs.declared.ending.Ending.TheVariants as endings
+use Rattle.line_scribe.specs.declared.ending.Ending.{Ending}
+use Rattle.line_scribe.specs.declared.ending.Ending.TheVariants as endings
 use Rattle.script_player.specs.declared.stage.ScriptStage.{ScriptStage}
 use Rattle.script_player.specs.declared.stage.ScriptStage.TheVariants as stages
 use Rattle.replay_commands.specs.declared.check.Checker.{Checker}
 use Rattle.replay_commands.specs.Check.{lines_by, AreScript, BeginScript, ScriptBy, BeginBy, Parts, ByLine, AtEnd, BeginsWhole, BeginsMuch, Finds, kind_in}
 use Rattle.script_player.specs.Versions.{Version, First, Second, version_by, version_in, HasNone}
 use Rattle.replay_commands.specs.Walked.{Fills, Heads, TakesFirst, TakesLater, TakesAny, OpensAtEnd, EndsAt, IsUnread, MayTake, Standing, Placed, Shown, Walked, checks}
-use Rattle.command_endings.specs.Streams.{Streams}
-use Rattle.command_endings.specs.Reads.{Got, IsAll, AreRead}
-use Rattle.command_endings.proofs.Readings.{whole_lines_read}
+use Rattle.line_scribe.specs.Streams.{Streams}
+use Rattle.line_scribe.specs.Reads.{Got, IsAll, AreRead}
+use Rattle.line_scribe.proofs.Readings.{whole_lines_read}
 use Rattle.replay_commands.proofs.ProperHeaders.{header_spells}
 use Rattle.replay_commands.proofs.Opens.{settings_at_first}
 use Rattle.replay_commands.proofs.StageLines.{unread_takes}

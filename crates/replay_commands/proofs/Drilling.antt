@@ -3,9 +3,9 @@ use Rattle.std.proofs.Common.{◌≡◌, ◌⊎◌, ℕ, inl, inr}
 use Rattle.line_io.specs.Causes.{Rose}
 use Rattle.line_io.specs.Source.{Received}
 use Rattle.replay_commands.specs.Drilled.{Drilled, PlaysDrill, DrillsAll, DrillsFront, Plays, WantsMemory}
-use Rattle.command_endings.specs.Streams.{Streams}
+use Rattle.line_scribe.specs.Streams.{Streams}
 use Rattle.drill.proofs.Alike.{drills_alike}
-use Rattle.command_endings.proofs.Telling as told
+use Rattle.line_scribe.proofs.Telling as told
 
 module _ (number count : ℕ) (kept silent : Type 0) (code : ℕ) (output output_now diag diag_now : Received) where
   abbrev P : Type 0

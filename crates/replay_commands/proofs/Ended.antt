@@ -1,9 +1,9 @@
 -- How a replay ended.
 use Rattle.policy_rules.specs.declared.settings.Settings.{Settings}
-use Rattle.command_endings.specs.declared.ending.Ending.{Ending}
-use Rattle.command_endings.specs.declared.ending.Ending.TheVariants as endings
+use Rattle.line_scribe.specs.declared.ending.Ending.{Ending}
+use Rattle.line_scribe.specs.declared.ending.Ending.TheVariants as endings
 use Rattle.replay_commands.specs.Replay.{EndsAs, Stopped}
-use Rattle.command_endings.specs.Streams.{Streams}
+use Rattle.line_scribe.specs.Streams.{Streams}
 
 pub ended : (o : Settings) (untouched : Type 0) (e : Ending) (start now : Streams) → Stopped o e start now → EndsAs o untouched e start now
 ended o untouched endings.NoMemory start now x = absurd x

@@ -12,7 +12,7 @@ use Rattle.adapter_core.specs.Trace.{Step, state}
 use Rattle.session_script.specs.Script.{events, event_told}
 use Rattle.session_script.proofs.Numbered.{header_quiet}
 use Rattle.session_script.proofs.Scripts.{later_events, events_later}
-use Rattle.command_endings.specs.declared.ending.Ending.TheVariants as endings
+use Rattle.line_scribe.specs.declared.ending.Ending.TheVariants as endings
 use Rattle.script_player.specs.declared.stage.ScriptStage.{ScriptStage}
 use Rattle.script_player.specs.declared.stage.ScriptStage.TheVariants as stages
 use Rattle.replay_commands.specs.Check.{lines_by, BeginBy, BeginScript, AwaitBy, AwaitEvent, kind_in, kind_under}

@@ -8,18 +8,18 @@ use Rattle.line_io.specs.Taken.{Place, Taken}
 use Rattle.line_io.specs.declared.taker.LinesEnd.TheVariants as ends
 use Rattle.policy_rules.specs.declared.settings.Settings.{Settings}
 use Rattle.adapter_core.specs.Parts.{CoreParts}
-use Rattle.command_endings.specs.declared.ending.Ending.{Ending}
-use Rattle.command_endings.specs.declared.ending.Ending.TheVariants as endings
+use Rattle.line_scribe.specs.declared.ending.Ending.{Ending}
+use Rattle.line_scribe.specs.declared.ending.Ending.TheVariants as endings
 use Rattle.script_player.specs.declared.player.Player.{Player}
 use Rattle.script_player.specs.declared.stage.ScriptStage.{ScriptStage}
-use Rattle.command_endings.specs.Streams.{Streams, streams}
+use Rattle.line_scribe.specs.Streams.{Streams, streams}
 use Rattle.script_player.specs.Versions.{script_fault}
 use Rattle.script_player.specs.Playing.{Scripted, Took}
 use Rattle.script_player.specs.Replaying.{IsFresh, Broke, Finished, Left, replays}
-use Rattle.command_endings.specs.Reads.{AreFirst, AreRead, IsAll}
-use Rattle.command_endings.specs.Ran.{Causes}
+use Rattle.line_scribe.specs.Reads.{AreFirst, AreRead, IsAll}
+use Rattle.line_scribe.specs.Ran.{Causes}
 use Rattle.replay_commands.specs.Replay.{ReplaysTo, ReplaysWhole, Stopped}
-use Rattle.command_endings.proofs.Readings.{ended_all, ended_read, read_front, stopped_read, whole_read}
+use Rattle.line_scribe.proofs.Readings.{ended_all, ended_read, read_front, stopped_read, whole_read}
 use Rattle.script_player.proofs.LineFaults.{IsLineFault, no_cut, no_reading, script_has}
 
 to_fault : (o : Settings) (start now : Streams) (f : Ending) → IsLineFault f → ReplaysTo o f start now → Stopped o f start now

@@ -10,7 +10,7 @@ use Rattle.script_lines.proofs.Headers.{header_again, header_length}
 use Rattle.adapter_core.specs.Trace.{Step, iface_text, engine_text}
 use Rattle.session_script.proofs.Lines.{AreTold, behind, event_lines, lines_of, script1_lines, step_lines, written_lines}
 use Rattle.session_script.proofs.Numbered.{numbered_lines, script2_lines}
-use Rattle.command_endings.specs.declared.ending.Ending.{Ending}
+use Rattle.line_scribe.specs.declared.ending.Ending.{Ending}
 use Rattle.script_player.specs.Versions.{Version, First, Second, version_by, version_in, behind_header, script_by, script_fault}
 use Rattle.script_player.proofs.VersionLines.{version_stays}
 use Rattle.replay_commands.specs.Replayed.{IsProperIn}

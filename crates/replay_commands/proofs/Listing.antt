@@ -7,10 +7,10 @@ use Rattle.chess_board.specs.Position.{Position}
 use Rattle.fen_text.specs.declared.fault.FenFault.{FenFault}
 use Rattle.replay_commands.specs.Moves.{WritesMoves, move_lines, Lists, WantsMemory, Refuses, Writes_all, ListsAll, ListsFront, FindsNoPosition}
 use Rattle.fen_text.specs.Fen.{position_of}
-use Rattle.command_endings.specs.Diagnostics.{position_fault}
+use Rattle.line_scribe.specs.Diagnostics.{position_fault}
 use Rattle.replay_commands.specs.Listed.{Listed}
-use Rattle.command_endings.specs.Streams.{Streams}
-use Rattle.command_endings.proofs.Telling as told
+use Rattle.line_scribe.specs.Streams.{Streams}
+use Rattle.line_scribe.proofs.Telling as told
 
 module _ (spelled : Result Position FenFault) (kept silent : Type 0) (code : ℕ) (output output_now diag diag_now : Received) where
   abbrev L : Type 0

@@ -17,8 +17,8 @@ use Rattle.adapter_core.specs.Parts.{CoreParts}
 use Rattle.session_script.proofs.Lines.{written_lines}
 use Rattle.session_script.proofs.Numbered.{number_line}
 use Rattle.session_script.proofs.Scripts.{event_line, some_opened}
-use Rattle.command_endings.specs.declared.ending.Ending.{Ending}
-use Rattle.command_endings.specs.declared.ending.Ending.TheVariants as endings
+use Rattle.line_scribe.specs.declared.ending.Ending.{Ending}
+use Rattle.line_scribe.specs.declared.ending.Ending.TheVariants as endings
 use Rattle.script_player.specs.declared.stage.ScriptStage.{ScriptStage}
 use Rattle.script_player.specs.declared.stage.ScriptStage.TheVariants as stages
 use Rattle.replay_commands.specs.Check.{lines_before, lines_by, BeginBy, AwaitBy, kind_in}

@@ -14,12 +14,12 @@ use Rattle.adapter_core.specs.Trace.{Step, Lawful, state, iface_text, engine_tex
 use Rattle.session_script.specs.OneWay.{IsOpened}
 use Rattle.session_script.proofs.Lines.{told}
 use Rattle.session_script.proofs.Scripts.{some_opened, only_open}
-use Rattle.command_endings.specs.Streams.{Streams}
-use Rattle.line_laws.specs.OneLine.{IsOneLine, WritesLines}
-use Rattle.line_laws.proofs.OneLine.{write_lines}
+use Rattle.line_scribe.specs.Streams.{Streams}
+use Rattle.dialogue_laws.specs.OneLine.{IsOneLine, WritesLines}
+use Rattle.dialogue_laws.proofs.OneLine.{write_lines}
 use Rattle.lawful_talk.proofs.Marked.{can_be_marked, reply_parts, order_parts}
-use Rattle.script_migration.specs.Migrated.{MigratesScripts}
-use Rattle.script_migration.specs.Traces.{AreEventsMarked, IsMarked, IsWrittenMarked}
+use Rattle.script_commands.specs.Migrated.{MigratesScripts}
+use Rattle.script_commands.specs.Traces.{AreEventsMarked, IsMarked, IsWrittenMarked}
 use Rattle.replay_commands.specs.OwnScripts.{MigratesOwnScripts}
 
 -- an event of an opened session that may come has a mark

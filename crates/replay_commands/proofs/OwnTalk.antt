@@ -18,8 +18,8 @@ use Rattle.session_script.specs.Script.{script1, script2}
 use Rattle.session_script.proofs.Lines.{lines_of, script1_lines}
 use Rattle.session_script.proofs.Numbered.{numbered_lines, script2_lines}
 use Rattle.session_script.proofs.Scripts.{all_told}
-use Rattle.command_endings.specs.declared.ending.Ending.{Ending}
-use Rattle.command_endings.specs.Streams.{Streams}
+use Rattle.line_scribe.specs.declared.ending.Ending.{Ending}
+use Rattle.line_scribe.specs.Streams.{Streams}
 use Rattle.script_player.specs.Versions.{Version, First, Second, script_by, settings_by}
 use Rattle.session_judge.specs.declared.listener.Listener.{Listener}
 use Rattle.session_judge.specs.declared.rule.Rule.{Rule}
@@ -28,7 +28,7 @@ use Rattle.session_judge.specs.Deeds.{deed_of}
 use Rattle.session_judge.specs.Talks.{opening}
 use Rattle.judge_report.specs.Texts.{search_report, crossings_line, lawful_line}
 use Rattle.judge_report.specs.Reports.{LogLineKind, Passes, HasNone, Course, kind_by, is_passed, of_deed, of_kind, with_outcome, read_on, over, report}
-use Rattle.command_endings.specs.declared.ending.Ending.TheVariants as endings
+use Rattle.line_scribe.specs.declared.ending.Ending.TheVariants as endings
 use Rattle.judge_report.specs.Judged.{AllJudged, FaultFound, Judged, whole_report}
 use Rattle.lawful_talk.specs.Scripts.{marks_told}
 use Rattle.lawful_talk.proofs.Runs.{Runs}

@@ -19,8 +19,8 @@ use Rattle.adapter_core.specs.Parts.{CoreParts}
 use Rattle.session_script.specs.Script.{written_text, events_in, event_told}
 use Rattle.session_script.proofs.Lines.{written_lines, written_parts, step_lines}
 use Rattle.session_script.proofs.Scripts.{event_line, some_opened, written_quiet}
-use Rattle.command_endings.specs.declared.ending.Ending.{Ending}
-use Rattle.command_endings.specs.declared.ending.Ending.TheVariants as endings
+use Rattle.line_scribe.specs.declared.ending.Ending.{Ending}
+use Rattle.line_scribe.specs.declared.ending.Ending.TheVariants as endings
 use Rattle.script_player.specs.declared.stage.ScriptStage.{ScriptStage}
 use Rattle.script_player.specs.declared.stage.ScriptStage.TheVariants as stages
 use Rattle.replay_commands.specs.Check.{lines_by, ScriptBy, BeginBy, AwaitBy, kind_in, kind_under}

@@ -21,7 +21,7 @@ use Rattle.session_script.proofs.Short.{HaveMarks, written_marked}
 use Rattle.session_script.proofs.Lines.{behind, written_lines, event_lines, lines_of}
 use Rattle.session_script.proofs.Numbered.{number_line, numbered_lines, numbered_lines_added}
 use Rattle.session_script.proofs.Scripts.{goes_on, lines_added, later_event, later_events, some_opened, events_later, event_line, one_later, only_open}
-use Rattle.command_endings.specs.declared.ending.Ending.{Ending}
+use Rattle.line_scribe.specs.declared.ending.Ending.{Ending}
 use Rattle.script_player.specs.declared.stage.ScriptStage.{ScriptStage}
 use Rattle.script_player.specs.declared.stage.ScriptStage.TheVariants as stages
 use Rattle.script_player.specs.Versions.{Tells, Writes, Numbers, kind_by, kind_of, Version, First, Second, header_lines, settings_by, ScriptPlace, LineSaid, Comes, Passes, Starts, IsOutOfStep, Cannot, kind_says, line_says, place_said, place_over, fault_said, or_later, first_fault, events_said, events_of, ends_once_open, beginning}

@@ -6,21 +6,21 @@ use Rattle.line_io.specs.Causes.{Rose}
 use Rattle.line_io.specs.Lines.{Piece, items}
 use Rattle.line_io.specs.Source.{TakesPrefix}
 use Rattle.policy_rules.specs.declared.settings.Settings.{Settings}
-use Rattle.command_endings.specs.declared.ending.Ending.{Ending}
-use Rattle.command_endings.specs.declared.ending.Ending.TheVariants as endings
-use Rattle.command_endings.specs.Diagnostics.{code_of, diagnostic}
+use Rattle.line_scribe.specs.declared.ending.Ending.{Ending}
+use Rattle.line_scribe.specs.declared.ending.Ending.TheVariants as endings
+use Rattle.line_scribe.specs.Diagnostics.{code_of, diagnostic}
 use Rattle.replay_commands.specs.Verdict.{verdict}
-use Rattle.command_endings.specs.Reads.{AreFirst, IsAll}
+use Rattle.line_scribe.specs.Reads.{AreFirst, IsAll}
 use Rattle.script_player.specs.Versions.{Version, version_in, script_fault}
 use Rattle.replay_commands.proofs.Faults.{no_bare, may_behind, version_front}
 use Rattle.replay_commands.specs.Check.{AreScript, BeginBy, BeginScript, Parts, Differs, ByLine, AtEnd, BeginsWhole, BeginsMuch, Finds, ChecksAs, WritesPart}
-use Rattle.command_endings.specs.Told.{Told}
+use Rattle.line_scribe.specs.Told.{Told}
 use Rattle.replay_commands.specs.Verdict.{Wrote}
 use Rattle.replay_commands.specs.Laws.{HaveLaws}
-use Rattle.command_endings.specs.Ran.{Ran, WritingBroke}
+use Rattle.line_scribe.specs.Ran.{Ran, WritingBroke}
 use Rattle.replay_commands.specs.Checked.{FoundLawful, FoundDifference, FoundBadLine, IsExactCheck, CompletesCheck, CompletesMarked, Checked}
-use Rattle.command_endings.specs.Streams.{Streams, AreSame, IsSteady}
-use Rattle.command_endings.proofs.Readings.{few_got}
+use Rattle.line_scribe.specs.Streams.{Streams, AreSame, IsSteady}
+use Rattle.line_scribe.proofs.Readings.{few_got}
 
 module _ (o : Settings) (unread kept : Type 0) (start now : Streams) where
   abbrev Ends : Ending → Type 0

@@ -12,13 +12,13 @@ use Rattle.line_io.specs.Source.{TakesPrefix}
 use Rattle.policy_rules.specs.declared.settings.Settings.{Settings}
 use Rattle.adapter_core.specs.Ends.{is_over, may}
 use Rattle.adapter_core.specs.Trace.{Step, Lawful, state}
-use Rattle.command_endings.specs.declared.ending.Ending.{Ending}
-use Rattle.command_endings.specs.declared.ending.Ending.TheVariants as endings
+use Rattle.line_scribe.specs.declared.ending.Ending.{Ending}
+use Rattle.line_scribe.specs.declared.ending.Ending.TheVariants as endings
 use Rattle.replay_commands.specs.Verdict.{verdict}
-use Rattle.command_endings.specs.Streams.{Streams}
+use Rattle.line_scribe.specs.Streams.{Streams}
 use Rattle.script_player.specs.Versions.{LineKind, Tells, Writes, HasNone, kind_of, Version}
 use Rattle.script_player.specs.Versions.{First, Second, version_in, settings_by, script_by}
-use Rattle.command_endings.specs.Reads.{Got, IsAll, AreRead, AreFirst}
+use Rattle.line_scribe.specs.Reads.{Got, IsAll, AreRead, AreFirst}
 use Rattle.line_io.specs.declared.limits.TheConstants.{SCRIPT_LINE}
 
 -- the lines of a script: none of them is too long

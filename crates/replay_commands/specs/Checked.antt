@@ -4,15 +4,15 @@ use Rattle.std.specs.Io.KnownBytes.{Appends}
 use Rattle.line_io.specs.Causes.{Rose}
 use Rattle.line_io.specs.Lines.{items}
 use Rattle.policy_rules.specs.declared.settings.Settings.{Settings}
-use Rattle.command_endings.specs.declared.ending.Ending.{Ending}
-use Rattle.command_endings.specs.declared.ending.Ending.TheVariants as endings
+use Rattle.line_scribe.specs.declared.ending.Ending.{Ending}
+use Rattle.line_scribe.specs.declared.ending.Ending.TheVariants as endings
 use Rattle.replay_commands.specs.Check.{AreScript, BeginsWhole, BeginsMuch, ChecksAs}
 use Rattle.replay_commands.specs.Check.{Differs, Finds, IsLawfulScript, WritesPart}
-use Rattle.command_endings.specs.Diagnostics.{code_of, diagnostic}
+use Rattle.line_scribe.specs.Diagnostics.{code_of, diagnostic}
 use Rattle.replay_commands.specs.Verdict.{verdict}
 use Rattle.replay_commands.specs.Laws.{HaveLaws}
-use Rattle.command_endings.specs.Ran.{Ran, WritingBroke}
-use Rattle.command_endings.specs.Streams.{Streams, AreSame, IsSteady}
+use Rattle.line_scribe.specs.Ran.{Ran, WritingBroke}
+use Rattle.line_scribe.specs.Streams.{Streams, AreSame, IsSteady}
 use Rattle.script_player.specs.Versions.{script_fault}
 use Rattle.line_io.specs.declared.limits.TheConstants.{SCRIPT_LINE}
 

@@ -3,11 +3,11 @@ use Rattle.std.specs.Prelude.{◌≡◌, ◌⊎◌, ℕ, List}
 use Rattle.std.specs.Io.KnownBytes.{Appends}
 use Rattle.line_io.specs.Source.{Received, TakesPrefix}
 use Rattle.drill.specs.Played.{Drills}
-use Rattle.command_endings.specs.declared.ending.Ending.TheVariants as endings
-use Rattle.command_endings.specs.Diagnostics.{tail_of}
-use Rattle.command_endings.specs.Ran.{WritingBroke}
-use Rattle.command_endings.specs.Streams.{Streams, IsSteady}
-use Rattle.command_endings.specs.Told.{Told, Writes}
+use Rattle.line_scribe.specs.declared.ending.Ending.TheVariants as endings
+use Rattle.line_scribe.specs.Diagnostics.{tail_of}
+use Rattle.line_scribe.specs.Ran.{WritingBroke}
+use Rattle.line_scribe.specs.Streams.{Streams, IsSteady}
+use Rattle.line_scribe.specs.Told.{Told, Writes}
 
 -- How a drill was played. Nothing is written to the output if there is no memory.
 pub data PlaysDrill (number count : ℕ) (kept silent : Type 0) (code : ℕ)

@@ -4,10 +4,10 @@ use Rattle.std.specs.Io.KnownBytes.{Appends}
 use Rattle.chess_board.specs.Position.{Position}
 use Rattle.fen_text.specs.Fen.{position_of}
 use Rattle.fen_text.specs.declared.fault.FenFault.{FenFault}
-use Rattle.command_endings.specs.Diagnostics.{position_fault}
+use Rattle.line_scribe.specs.Diagnostics.{position_fault}
 use Rattle.replay_commands.specs.Moves.{FindsNoPosition, Lists, ListsAll, ListsFront}
-use Rattle.command_endings.specs.Ran.{WritingBroke}
-use Rattle.command_endings.specs.Streams.{Streams, IsSteady}
+use Rattle.line_scribe.specs.Ran.{WritingBroke}
+use Rattle.line_scribe.specs.Streams.{Streams, IsSteady}
 
 -- The moves of a text that spells a position are written, or there was no memory.
 abbrev pub CompletesList : Result Position FenFault → Streams → Streams → ℕ → Type 0

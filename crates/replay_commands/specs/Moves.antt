@@ -7,9 +7,9 @@ use Rattle.chess_board.specs.declared.board.Move.{Move}
 use Rattle.chess_board.specs.Position.{Position}
 use Rattle.chess_board.specs.Text.{text_of, AreLegalMoves}
 use Rattle.fen_text.specs.declared.fault.FenFault.{FenFault}
-use Rattle.command_endings.specs.declared.ending.Ending.TheVariants as endings
-use Rattle.command_endings.specs.Diagnostics.{one_line, position_fault, tail_of}
-use Rattle.command_endings.specs.Told.{Told, Writes}
+use Rattle.line_scribe.specs.declared.ending.Ending.TheVariants as endings
+use Rattle.line_scribe.specs.Diagnostics.{one_line, position_fault, tail_of}
+use Rattle.line_scribe.specs.Told.{Told, Writes}
 use Rattle.peer_words.specs.Bytes.{blank}
 
 -- each word after a blank

@@ -7,7 +7,7 @@ use Rattle.policy_rules.specs.declared.settings.Settings.{Settings}
 use Rattle.adapter_core.specs.Trace.{Step, Lawful}
 use Rattle.session_script.specs.OneWay.{IsOpened}
 use Rattle.session_script.specs.Script.{script1, script2}
-use Rattle.command_endings.specs.Streams.{Streams, IsSteady}
+use Rattle.line_scribe.specs.Streams.{Streams, IsSteady}
 use Rattle.session_judge.specs.declared.listener.Listener.{Listener}
 use Rattle.judge_report.specs.Reports.{report}
 use Rattle.judge_report.specs.Texts.{lawful_line, search_report}

@@ -6,13 +6,13 @@ use Rattle.line_io.specs.Runs.{whole}
 use Rattle.policy_rules.specs.declared.settings.Settings.{Settings}
 use Rattle.adapter_core.specs.Trace.{Step, Lawful}
 use Rattle.session_script.specs.Script.{events}
-use Rattle.command_endings.specs.Reads.{Got, IsAll, AreFirst, AreRead}
-use Rattle.command_endings.specs.Streams.{Streams}
+use Rattle.line_scribe.specs.Reads.{Got, IsAll, AreFirst, AreRead}
+use Rattle.line_scribe.specs.Streams.{Streams}
 use Rattle.script_player.specs.Playing.{Scripted}
 use Rattle.script_player.specs.Versions.{script_by, script_events}
 use Rattle.script_player.specs.Versions.{script_fault, settings_by, version_in}
-use Rattle.command_endings.specs.declared.ending.Ending.{Ending}
-use Rattle.command_endings.specs.declared.ending.Ending.TheVariants as endings
+use Rattle.line_scribe.specs.declared.ending.Ending.{Ending}
+use Rattle.line_scribe.specs.declared.ending.Ending.TheVariants as endings
 use Rattle.line_io.specs.declared.limits.TheConstants.{SCRIPT_LINE}
 
 -- the output got the script of a lawful trace whose events are those of the lines

@@ -10,13 +10,13 @@ use Rattle.policy_rules.specs.Policy.{IsProper}
 use Rattle.policy_rules.specs.declared.settings.Settings.{Settings}
 use Rattle.adapter_core.specs.Trace.{Step, Lawful, state}
 use Rattle.session_script.specs.Script.{events, AreShort}
-use Rattle.command_endings.specs.declared.ending.Ending.{Ending}
-use Rattle.command_endings.specs.Diagnostics.{diagnostic}
+use Rattle.line_scribe.specs.declared.ending.Ending.{Ending}
+use Rattle.line_scribe.specs.Diagnostics.{diagnostic}
 use Rattle.replay_commands.specs.Laws.{HaveLaws}
-use Rattle.command_endings.specs.Ran.{Ran, WritingBroke}
-use Rattle.command_endings.specs.Reads.{AreFirst, AreRead, Got, IsAll}
+use Rattle.line_scribe.specs.Ran.{Ran, WritingBroke}
+use Rattle.line_scribe.specs.Reads.{AreFirst, AreRead, Got, IsAll}
 use Rattle.replay_commands.specs.Replay.{EndsAs}
-use Rattle.command_endings.specs.Streams.{Streams, AreSame, IsSteady}
+use Rattle.line_scribe.specs.Streams.{Streams, AreSame, IsSteady}
 use Rattle.script_player.specs.Versions.{Version, First, Second, script_by, script_events}
 use Rattle.script_player.specs.Versions.{script_fault, settings_by, version_in}
 use Rattle.line_io.specs.declared.limits.TheConstants.{SCRIPT_LINE}

@@ -15,16 +15,16 @@ use Rattle.adapter_core.specs.Trace.{Step, Lawful, state}
 use Rattle.adapter_core.specs.Parts.{CoreParts}
 use Rattle.adapter_core.specs.Stands.{Stands}
 use Rattle.session_script.specs.Script.{written_text, events_in}
-use Rattle.command_endings.specs.declared.ending.Ending.{Ending}
-use Rattle.command_endings.specs.declared.ending.Ending.TheVariants as endings
+use Rattle.line_scribe.specs.declared.ending.Ending.{Ending}
+use Rattle.line_scribe.specs.declared.ending.Ending.TheVariants as endings
 use Rattle.replay_commands.specs.declared.check.Checker.{Checker}
 use Rattle.script_player.specs.declared.stage.ScriptStage.{ScriptStage}
 use Rattle.script_player.specs.declared.stage.ScriptStage.TheVariants as stages
 use Rattle.replay_commands.specs.Check.{Finds, lines_by}
 use Rattle.replay_commands.specs.Replayed.{IsProperIn}
 use Rattle.script_player.specs.Playing.{Adds}
-use Rattle.command_endings.specs.Streams.{Streams}
-use Rattle.command_endings.specs.Reads.{AreRead}
+use Rattle.line_scribe.specs.Streams.{Streams}
+use Rattle.line_scribe.specs.Reads.{AreRead}
 use Rattle.script_player.specs.Versions.{LineKind, Tells, LineSaid, Comes, Passes}
 use Rattle.script_player.specs.Versions.{Starts, HasNoMark, IsOutOfStep, Cannot, Version}
 use Rattle.script_player.specs.Versions.{First, Second, kind_of, kind_says, settings_by}

@@ -10,21 +10,21 @@ ghost use Rattle.policy_rules.specs.Policy.{IsProper};
 ghost use Rattle.policy_rules.specs.declared.settings.Settings.{Settings as AnySettings};
 ghost use Rattle.adapter_core.specs.Ends.{may};
 ghost use Rattle.adapter_core.specs.Stands.{Stands};
-ghost use Rattle.command_endings.specs.declared.ending.Ending.TheVariants as endings;
+ghost use Rattle.line_scribe.specs.declared.ending.Ending.TheVariants as endings;
 ghost use Rattle.replay_commands.specs.Check.{ChecksAs, Finds};
-ghost use Rattle.command_endings.specs.Diagnostics.{code_of};
-ghost use Rattle.command_endings.specs.Ran.{Ran};
-ghost use Rattle.command_endings.specs.Streams.{Streams, streams, with_input};
+ghost use Rattle.line_scribe.specs.Diagnostics.{code_of};
+ghost use Rattle.line_scribe.specs.Ran.{Ran};
+ghost use Rattle.line_scribe.specs.Streams.{Streams, streams, with_input};
 ghost use Rattle.replay_commands.specs.Walked.{EndsAt, Fills, astray, Followed, Heads, IsOpen, IsUnread, MayTake, TakesAny, TakesFirst, fault_in, fit, number_undue, undue};
 ghost use Rattle.line_io.specs.declared.limits.TheConstants.{SCRIPT_LINE};
 
 use crate::expected_lines::ExpectedLines;
 use crate::verdict::write_verdict;
 use adapter_core::Core;
-use command_endings::{Ending, tell, tell_short};
 use line_io::{
     Event, Lines, LinesEnd, NoMemory, Out, SCRIPT_LINE, Sink, Source, TakesLines, take_lines,
 };
+use line_scribe::{Ending, tell, tell_short};
 use policy_rules::Settings;
 use script_lines::{Mark, read_header, read_mark};
 use script_player::{LineSaid, ScriptStage};

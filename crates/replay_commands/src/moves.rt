@@ -5,14 +5,14 @@ ghost use Rattle.chess_board.specs.declared.board.Move.{Move as AnyMove};
 ghost use Rattle.chess_board.specs.Text.{IsOfficer, text_of};
 ghost use Rattle.fen_text.specs.Fen.{position_of};
 ghost use Rattle.replay_commands.specs.Commands.{texts};
-ghost use Rattle.command_endings.specs.Diagnostics.{code_of, one_line};
+ghost use Rattle.line_scribe.specs.Diagnostics.{code_of, one_line};
 ghost use Rattle.replay_commands.specs.Moves.{Lists, WritesMoves, fen_of, move_lines};
 ghost use Rattle.replay_commands.specs.declared.moves.TheConstants.{LINES_ROOM};
 
 use chess_board::{Move, Position, move_texts_are_exact, move_texts_are_short, write_move};
-use command_endings::{Ending, tell_short, write_lines};
 use fen_text::read_fen;
 use line_io::{NoMemory, Out, Sink};
+use line_scribe::{Ending, tell_short, write_lines};
 use std::alloc::Global;
 
 // A position has at most 512 legal moves, each of at most five bytes and a line feed.

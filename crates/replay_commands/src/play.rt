@@ -1,12 +1,12 @@
 // The command `drill`.
 ghost use Rattle.std.specs.Prelude.{◌≡◌, ◌≤◌};
 ghost use Rattle.replay_commands.specs.Drilled.{PlaysDrill};
-ghost use Rattle.command_endings.specs.Diagnostics.{code_of};
+ghost use Rattle.line_scribe.specs.Diagnostics.{code_of};
 ghost use Rattle.drill.specs.declared.run.TheConstants.{MOST_ROUNDS};
 
-use command_endings::{Ending, tell_short, write_lines};
 use drill::drill_line;
 use line_io::Sink;
+use line_scribe::{Ending, tell_short, write_lines};
 use std::alloc::Global;
 
 /// Plays the drill of a number with so many rounds, and writes its line.

@@ -1,12 +1,12 @@
 // What `check` writes of what it found.
 ghost use Rattle.std.specs.Prelude.{◌≡◌, ◌+◌, ◌≤◌, length};
 ghost use Rattle.line_io.specs.Out.{with};
-ghost use Rattle.command_endings.specs.declared.ending.Ending.TheVariants as endings;
+ghost use Rattle.line_scribe.specs.declared.ending.Ending.TheVariants as endings;
 ghost use Rattle.replay_commands.specs.Verdict.{Wrote, verdict};
 
-use command_endings::Ending;
 use itoa::Buffer;
 use line_io::{Out, Sink, write_all};
+use line_scribe::Ending;
 
 fn put_difference(line: u64, out: &mut Out)
     requires { length out.old.text + 80 ≤ out.old.room }

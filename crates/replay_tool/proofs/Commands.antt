@@ -10,26 +10,26 @@ use Rattle.replay_commands.specs.Drilled.{Drilled}
 use Rattle.replay_tool.specs.Driving.{DrivesTheOrdered}
 use Rattle.replay_commands.specs.Listed.{Listed}
 use Rattle.replay_commands.specs.OwnScripts.{JudgesOwnTalk, MigratesOwnScripts}
-use Rattle.command_endings.specs.Ran.{Refused}
+use Rattle.line_scribe.specs.Ran.{Refused}
 use Rattle.replay_commands.specs.Replayed.{Replayed}
-use Rattle.command_endings.specs.Streams.{Streams}
+use Rattle.line_scribe.specs.Streams.{Streams}
 use Rattle.judge_report.specs.Judged.{Judged}
-use Rattle.script_migration.specs.Migrated.{Migrated}
-use Rattle.revival_script.specs.Revived.{Revived}
-use Rattle.driver_script.specs.Driven.{Driven}
-use Rattle.driver_script.specs.Scripts.{events_of}
-use Rattle.driver_wire.specs.Runs.{HearsTheOrdered}
+use Rattle.script_commands.specs.Migrated.{Migrated}
+use Rattle.script_commands.specs.Revived.{Revived}
+use Rattle.script_commands.specs.Driven.{Driven}
+use Rattle.script_commands.specs.Scripts.{events_of}
+use Rattle.lawful_talk.specs.Runs.{HearsTheOrdered}
 use Rattle.line_io.specs.Lines.{items}
 use Rattle.line_io.specs.declared.limits.TheConstants.{SCRIPT_LINE}
-use Rattle.session_games.specs.GamesWritten.{GamesWritten}
-use Rattle.session_positions.specs.PositionsWritten.{PositionsWritten}
+use Rattle.session_writer.specs.GamesWritten.{GamesWritten}
+use Rattle.session_writer.specs.PositionsWritten.{PositionsWritten}
 use Rattle.replay_commands.proofs.Answers as ran
 use Rattle.replay_commands.proofs.Verdicts as checks
 use Rattle.replay_commands.proofs.Listing as listing
 use Rattle.replay_commands.proofs.Drilling as drilling
 use Rattle.replay_commands.proofs.OwnTalk.{judges_own_talk}
 use Rattle.replay_commands.proofs.OwnMigrations.{migrates_own}
-use Rattle.command_endings.proofs.Telling as told
+use Rattle.line_scribe.proofs.Telling as told
 
 module _ (unread kept silent : Type 0) (start now : Streams) (code : ℕ) where
   abbrev D : Option ReplayRequest → Type 0

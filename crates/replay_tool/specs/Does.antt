@@ -7,15 +7,15 @@ use Rattle.replay_commands.specs.Commands as asked
 use Rattle.replay_commands.specs.Drilled.{PlaysDrill}
 use Rattle.replay_commands.specs.Moves.{Lists}
 use Rattle.replay_commands.specs.Laws.{HaveLaws}
-use Rattle.command_endings.specs.Ran.{Ran, Refused}
+use Rattle.line_scribe.specs.Ran.{Ran, Refused}
 use Rattle.replay_commands.specs.Replay.{EndsAs}
-use Rattle.command_endings.specs.Streams.{Streams}
-use Rattle.script_migration.specs.Migrated.{Migrated}
+use Rattle.line_scribe.specs.Streams.{Streams}
+use Rattle.script_commands.specs.Migrated.{Migrated}
 use Rattle.judge_report.specs.Judged.{Judged}
-use Rattle.revival_script.specs.Revived.{Revived}
-use Rattle.driver_script.specs.Driven.{Driven}
-use Rattle.session_games.specs.GamesWritten.{GamesWritten}
-use Rattle.session_positions.specs.PositionsWritten.{PositionsWritten}
+use Rattle.script_commands.specs.Revived.{Revived}
+use Rattle.script_commands.specs.Driven.{Driven}
+use Rattle.session_writer.specs.GamesWritten.{GamesWritten}
+use Rattle.session_writer.specs.PositionsWritten.{PositionsWritten}
 
 abbrev pub Does : Option ReplayRequest → Type 0 → Type 0 → Type 0 → Streams → Streams → ℕ → Type 0
 Does None unread kept silent before after code = Refused unread kept before after code

@@ -7,10 +7,10 @@ use Rattle.line_io.specs.declared.limits.TheConstants.{SCRIPT_LINE}
 use Rattle.policy_rules.specs.declared.settings.Settings.{Settings}
 use Rattle.adapter_core.specs.Alone.{alone}
 use Rattle.cecp_driver.specs.Driver.{opening}
-use Rattle.command_endings.specs.Reads.{Got, IsAll}
-use Rattle.command_endings.specs.Streams.{Streams}
-use Rattle.driver_script.specs.Scripts.{IsDriven, events_of}
-use Rattle.driver_wire.specs.Runs.{AllHeard}
+use Rattle.line_scribe.specs.Reads.{Got, IsAll}
+use Rattle.line_scribe.specs.Streams.{Streams}
+use Rattle.script_commands.specs.Scripts.{IsDriven, events_of}
+use Rattle.lawful_talk.specs.Runs.{AllHeard}
 
 -- All of the input was read and the script of a driver that takes its events was written. A bridge
 -- that took these events before, and then takes the lines that the driver writes to its engine as

@@ -5,34 +5,31 @@ ghost use Rattle.session_judge.specs.declared.listener.Listener.{Listener as Any
 ghost use Rattle.replay_commands.specs.Checked.{Checked};
 ghost use Rattle.replay_commands.specs.Commands as asked;
 ghost use Rattle.replay_commands.specs.Commands.{command_of, texts};
-ghost use Rattle.command_endings.specs.Diagnostics.{code_of, tail_of};
+ghost use Rattle.line_scribe.specs.Diagnostics.{code_of, tail_of};
 ghost use Rattle.replay_tool.specs.Does.{Does};
 ghost use Rattle.replay_tool.specs.Driving.{DrivesTheOrdered};
 ghost use Rattle.replay_commands.specs.Drilled.{Drilled};
 ghost use Rattle.replay_commands.specs.Listed.{Listed};
 ghost use Rattle.replay_commands.specs.OwnScripts.{JudgesOwnTalk, MigratesOwnScripts};
 ghost use Rattle.replay_commands.specs.Laws.{HaveLaws};
-ghost use Rattle.command_endings.specs.Ran.{Refused};
+ghost use Rattle.line_scribe.specs.Ran.{Refused};
 ghost use Rattle.replay_commands.specs.Replayed.{Replayed};
-ghost use Rattle.command_endings.specs.Streams.{streams};
+ghost use Rattle.line_scribe.specs.Streams.{streams};
 ghost use Rattle.judge_report.specs.Judged.{Judged};
-ghost use Rattle.script_migration.specs.Migrated.{Migrated};
-ghost use Rattle.revival_script.specs.Revived.{Revived};
-ghost use Rattle.driver_script.specs.Driven.{Driven};
-ghost use Rattle.session_games.specs.GamesWritten.{GamesWritten};
-ghost use Rattle.session_positions.specs.PositionsWritten.{PositionsWritten};
+ghost use Rattle.script_commands.specs.Migrated.{Migrated};
+ghost use Rattle.script_commands.specs.Revived.{Revived};
+ghost use Rattle.script_commands.specs.Driven.{Driven};
+ghost use Rattle.session_writer.specs.GamesWritten.{GamesWritten};
+ghost use Rattle.session_writer.specs.PositionsWritten.{PositionsWritten};
 
-use command_endings::{Ending, tell_short};
-use driver_script::run_drive;
-use driver_wire::engines_hear_the_ordered;
 use judge_report::run_judge;
+use lawful_talk::engines_hear_the_ordered;
 use line_io::{Sink, Source, Status};
+use line_scribe::{Ending, tell_short};
 use policy_rules::Settings;
 use replay_commands::{ReplayCommand, list_moves, play_drill, read_command, run_check, run_replay};
-use revival_script::run_revive;
-use script_migration::migrate;
-use session_games::write_games;
-use session_positions::write_positions;
+use script_commands::{migrate, run_drive, run_revive};
+use session_writer::{write_games, write_positions};
 use std::alloc::Global;
 
 // What holds of every session with these settings, and with those of a header.
@@ -210,5 +207,5 @@ pub fn refuse_for_memory<D: Sink>(diag: &mut D) -> Status
     }
 }
 
-ghost use Rattle.command_endings.specs.Told.{Told};
-ghost use Rattle.command_endings.specs.declared.ending.Ending.TheVariants as endings;
+ghost use Rattle.line_scribe.specs.Told.{Told};
+ghost use Rattle.line_scribe.specs.declared.ending.Ending.TheVariants as endings;

@@ -2,9 +2,9 @@
 //! when it dies.
 #![tactic(auto)]
 
+use host_run::ProgramStart;
 use program_edges::{NO_MEMORY, WORDS_ROOM, words_of};
-use program_start::ProgramStart;
-use program_texts::{About, answer_about};
+use program_words::{About, answer_about};
 use reviver_runner::{refuse_for_memory, revive_main};
 use std::process::ExitCode;
 

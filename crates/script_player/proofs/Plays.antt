@@ -18,8 +18,8 @@ use Rattle.adapter_core.specs.Trace.{Step, Lawful, state, iface_text, engine_tex
 use Rattle.adapter_core.specs.Parts.{CoreParts}
 use Rattle.adapter_core.specs.Stands.{Stands}
 use Rattle.session_script.specs.Script.{numbered_text, numbered_texts, step_text}
-use Rattle.command_endings.specs.declared.ending.Ending.{Ending}
-use Rattle.command_endings.specs.declared.ending.Ending.TheVariants as endings
+use Rattle.line_scribe.specs.declared.ending.Ending.{Ending}
+use Rattle.line_scribe.specs.declared.ending.Ending.TheVariants as endings
 use Rattle.script_player.specs.declared.stage.ScriptStage.{ScriptStage}
 use Rattle.script_player.specs.declared.stage.ScriptStage.TheVariants as stages
 use Rattle.script_player.specs.Versions.{LineKind, Tells, Numbers, kind_of, Version, First, Second, version_by, version_in, behind_header, header_lines, settings_by, script_by, LineSaid, Comes, Passes, Starts, HasNoMark, IsOutOfStep, Cannot, event_says, number_says, kind_says, line_says, stage_started, stage_told, ScriptPlace, place_said, place_over, fault_said, first_fault, events_said, events_of, ends_once_open, beginning, fault_by, events_by, script_fault, script_events}

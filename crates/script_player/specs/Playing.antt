@@ -13,7 +13,7 @@ use Rattle.adapter_core.specs.Trace.{Step, Lawful, iface_text, engine_text}
 use Rattle.adapter_core.specs.Parts.{CoreParts}
 use Rattle.adapter_core.specs.Stands.{Stands}
 use Rattle.session_script.specs.Script.{AreShort, IsShortStep, events, step_text}
-use Rattle.command_endings.specs.declared.ending.Ending.{Ending}
+use Rattle.line_scribe.specs.declared.ending.Ending.{Ending}
 use Rattle.script_player.specs.declared.stage.ScriptStage.{ScriptStage}
 use Rattle.script_player.specs.declared.stage.ScriptStage.TheVariants as stages
 use Rattle.script_player.specs.Stages.{IsNumbered, number_of}
@@ -21,7 +21,7 @@ use Rattle.script_player.specs.Versions.{Version, First, Second, LineSaid, Comes
 use Rattle.script_player.specs.Versions.{beginning, behind_header, place_over, stage_started}
 use Rattle.script_player.specs.Versions.{stage_told, script_by, script_events, script_fault}
 use Rattle.script_player.specs.Versions.{settings_by, version_in}
-use Rattle.command_endings.specs.declared.limits.TheConstants.{TEXT_ROOM}
+use Rattle.line_scribe.specs.declared.limits.TheConstants.{TEXT_ROOM}
 
 -- a step of this event extends each lawful trace for which the core stood
 pub record Adds (old new : CoreParts) (e : Event) (step : Step) : Type 0 where

@@ -11,14 +11,14 @@ use Rattle.policy_rules.specs.declared.settings.Settings.{Settings}
 use Rattle.adapter_core.specs.Trace.{Step, Lawful}
 use Rattle.adapter_core.specs.Stands.{Stands}
 use Rattle.session_script.specs.Script.{events}
-use Rattle.command_endings.specs.declared.ending.Ending.{Ending}
-use Rattle.command_endings.specs.declared.ending.Ending.TheVariants as endings
+use Rattle.line_scribe.specs.declared.ending.Ending.{Ending}
+use Rattle.line_scribe.specs.declared.ending.Ending.TheVariants as endings
 use Rattle.script_player.specs.declared.player.Player.{Player}
 use Rattle.script_player.specs.declared.stage.ScriptStage.TheVariants as stages
 use Rattle.script_player.specs.Playing.{MayTake, Scripted, Took}
 use Rattle.script_player.specs.Versions.{script_by, script_events}
 use Rattle.script_player.specs.Versions.{script_fault, settings_by, version_in}
-use Rattle.command_endings.specs.declared.limits.TheConstants.{TEXT_ROOM}
+use Rattle.line_scribe.specs.declared.limits.TheConstants.{TEXT_ROOM}
 
 -- a session before its first line
 pub record IsFresh (o : Settings) (player : Player) : Type 0 where

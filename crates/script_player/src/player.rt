@@ -18,8 +18,8 @@ ghost use Rattle.script_lines.specs.declared.step_text.TheConstants.{STEP_ROOM};
 
 use crate::stage::{LineSaid, ScriptStage};
 use adapter_core::Core;
-use command_endings::{Ending, TEXT_ROOM, tell};
 use line_io::{Event, Failed, NoMemory, Out, Sink, TakesLines, write_all};
+use line_scribe::{Ending, TEXT_ROOM, tell};
 use policy_rules::Settings;
 use script_lines::{STEP_ROOM, put_numbered_step, put_step, read_header, write_header};
 use std::alloc::Global;
@@ -240,12 +240,12 @@ ghost use Rattle.std.specs.Prelude.{false, OnOk, OnErr};
 ghost use Rattle.std.specs.Io.KnownBytes.{Appends};
 ghost use Rattle.line_io.specs.Causes.{HasCause};
 ghost use Rattle.line_io.specs.Source.{TakesPrefix};
-ghost use Rattle.command_endings.specs.Diagnostics.{code_of, diagnostic};
-ghost use Rattle.command_endings.specs.declared.limits.TheConstants.{DIAGNOSTIC_ROOM};
+ghost use Rattle.line_scribe.specs.Diagnostics.{code_of, diagnostic};
+ghost use Rattle.line_scribe.specs.declared.limits.TheConstants.{DIAGNOSTIC_ROOM};
 ghost use Rattle.script_player.specs.Playing.{Scripted};
 ghost use Rattle.script_player.specs.Replaying.{is_cut, with_text, MayGoOn, Came, Stood, Finished, Halted, Left};
 ghost use Rattle.script_player.specs.Stages.{is_start};
-ghost use Rattle.command_endings.specs.Told.{Told};
+ghost use Rattle.line_scribe.specs.Told.{Told};
 ghost use Rattle.script_player.specs.Versions.{version_in};
 
 fn is_cut(ending: Ending) -> bool

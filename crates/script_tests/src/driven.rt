@@ -1,6 +1,6 @@
 // Scripts of driven engines.
 use crate::runs::{Command, Run, expect_runs};
-use command_endings::Ending;
+use line_scribe::Ending;
 
 const ROWS: [Run; 11] = [
     (

@@ -1,7 +1,7 @@
 // Endings, their statuses and their diagnostics.
 use crate::streams::Streams;
-use command_endings::{Ending, tell, tell_short, write_lines};
 use line_io::{MemSink, Out, SCRIPT_LINE};
+use line_scribe::{Ending, tell, tell_short, write_lines};
 use std::alloc::Global;
 use std::process::Abort;
 

@@ -1,6 +1,6 @@
 // The games of sessions.
 use crate::runs::{Command, Run, expect_runs};
-use command_endings::Ending;
+use line_scribe::Ending;
 
 // A game that Black mates; a game after one that began with a position, and a fault; a game in which a position was
 // refused and a move taken back, then a `new` without moves, and a game from a position that is not over.

@@ -1,6 +1,6 @@
 // Scripts that are migrated.
 use crate::runs::{Command, Run, expect_runs};
-use command_endings::Ending;
+use line_scribe::Ending;
 
 // A script of a session, and of the beginning of one that no bridge would write.
 const ROWS: [Run; 3] = [

@@ -1,6 +1,6 @@
 // The positions of sessions.
 use crate::runs::{Command, Run, expect_runs};
-use command_endings::Ending;
+use line_scribe::Ending;
 
 // A move of each side, of which the engine's stands at its `bestmove`; a refused move, and a fault.
 const ROWS: [Run; 2] = [

@@ -1,8 +1,8 @@
 // Logs and the reports on them.
 use crate::runs::{Command, Run, expect_runs};
-use command_endings::Ending;
 use judge_report::{LAST_LINES, Report};
 use line_io::Out;
+use line_scribe::Ending;
 use session_judge::Listener;
 
 const ROWS: [Run; 9] = [

@@ -1,6 +1,6 @@
 // Scripts that are played to engines that end.
 use crate::runs::{Command, Run, expect_runs, is_run};
-use command_endings::Ending;
+use line_scribe::Ending;
 use std::alloc::Global;
 use std::process::Abort;
 

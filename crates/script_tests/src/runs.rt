@@ -2,15 +2,12 @@
 ghost use Rattle.std.specs.Prelude.{◌<◌};
 
 use crate::streams::Streams;
-use command_endings::Ending;
-use driver_script::run_drive;
 use judge_report::run_judge;
+use line_scribe::Ending;
 use policy_rules::Settings;
-use revival_script::run_revive;
-use script_migration::migrate;
-use session_games::write_games;
+use script_commands::{migrate, run_drive, run_revive};
 use session_judge::Listener;
-use session_positions::write_positions;
+use session_writer::{write_games, write_positions};
 use std::alloc::Global;
 use std::process::Abort;
 

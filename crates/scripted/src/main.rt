@@ -3,7 +3,7 @@
 
 use line_io::{ReadAdapter, WriteAdapter};
 use program_edges::{ClosedStreams, NO_MEMORY, words_of};
-use program_texts::{About, answer_about};
+use program_words::{About, answer_about};
 use scripted_engine::scripted_main;
 use std::fs::File;
 use std::io::{ErrorKind, Read};

@@ -14,12 +14,12 @@ use Rattle.adapter_core.proofs.Holds.{stands_first}
 use Rattle.adapter_core.proofs.Unique.{unique}
 use Rattle.session_script.specs.Script.{events}
 use Rattle.session_script.proofs.Scripts.{same_trace}
-use Rattle.command_endings.specs.declared.ending.Ending.{Ending}
-use Rattle.command_endings.specs.declared.ending.Ending.TheVariants as endings
-use Rattle.command_endings.specs.Diagnostics.{code_of, diagnostic}
-use Rattle.command_endings.specs.Ran.{Ran}
-use Rattle.command_endings.specs.Reads.{AreRead}
-use Rattle.command_endings.specs.Streams.{Streams}
+use Rattle.line_scribe.specs.declared.ending.Ending.{Ending}
+use Rattle.line_scribe.specs.declared.ending.Ending.TheVariants as endings
+use Rattle.line_scribe.specs.Diagnostics.{code_of, diagnostic}
+use Rattle.line_scribe.specs.Ran.{Ran}
+use Rattle.line_scribe.specs.Reads.{AreRead}
+use Rattle.line_scribe.specs.Streams.{Streams}
 use Rattle.script_player.specs.Stages.{IsNumbered, is_start}
 use Rattle.script_player.specs.Versions.{script_events, script_fault, settings_by, version_in}
 use Rattle.script_player.proofs.VersionLines.{not_none, one_fault, same_fault, no_fault}

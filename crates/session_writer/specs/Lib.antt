@@ -2,3 +2,9 @@ pub mod Following
 pub mod Telling
 pub mod Writing
 pub mod Outcomes
+pub mod Games
+pub mod GameTelling
+pub mod GamesWritten
+pub mod Positions
+pub mod PositionTelling
+pub mod PositionsWritten

@@ -7,12 +7,12 @@ use Rattle.line_io.specs.Runs.{whole}
 use Rattle.policy_rules.specs.declared.settings.Settings.{Settings}
 use Rattle.adapter_core.specs.Trace.{Step, Lawful}
 use Rattle.session_script.specs.Script.{events}
-use Rattle.command_endings.specs.declared.ending.Ending.{Ending}
-use Rattle.command_endings.specs.declared.ending.Ending.TheVariants as endings
-use Rattle.command_endings.specs.Diagnostics.{diagnostic}
-use Rattle.command_endings.specs.Ran.{WritingBroke}
-use Rattle.command_endings.specs.Reads.{AreFirst, AreRead, Got, IsAll}
-use Rattle.command_endings.specs.Streams.{Streams, AreSame, IsSteady}
+use Rattle.line_scribe.specs.declared.ending.Ending.{Ending}
+use Rattle.line_scribe.specs.declared.ending.Ending.TheVariants as endings
+use Rattle.line_scribe.specs.Diagnostics.{diagnostic}
+use Rattle.line_scribe.specs.Ran.{WritingBroke}
+use Rattle.line_scribe.specs.Reads.{AreFirst, AreRead, Got, IsAll}
+use Rattle.line_scribe.specs.Streams.{Streams, AreSame, IsSteady}
 use Rattle.line_scribe.specs.Putting.{IsInputEnd}
 use Rattle.line_scribe.specs.Scribed.{EndsRightly}
 use Rattle.script_player.specs.Versions.{script_events, script_fault, settings_by, version_in}

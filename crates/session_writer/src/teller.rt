@@ -6,9 +6,9 @@ ghost use Rattle.game_record.specs.Game.{Game as AnyGame};
 ghost use Rattle.session_writer.specs.Following.{Follows};
 ghost use Rattle.session_writer.specs.Telling.{Telling, game_at};
 
-use command_endings::{Ending, LINE_ROOM};
 use game_record::Game;
 use line_io::{Event, NoMemory, Out};
+use line_scribe::{Ending, LINE_ROOM};
 use std::alloc::Global;
 
 /// How many bytes may be put for one step, or for the end. A line may have two of these: a session

@@ -16,9 +16,8 @@ ghost use Rattle.session_writer.specs.declared.teller.TheConstants.{TELL_ROOM};
 
 use crate::teller::Teller;
 use adapter_core::Core;
-use command_endings::Ending;
 use line_io::{Event, NoMemory, Out};
-use line_scribe::Scribe;
+use line_scribe::{Ending, Scribe};
 use policy_rules::Settings;
 use script_lines::read_header;
 use script_player::{LineSaid, ScriptStage};

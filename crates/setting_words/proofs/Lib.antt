@@ -1,2 +1,5 @@
 pub mod Chain
 mod Numbers
+mod Refused
+mod OneFault
+mod Reading

@@ -5,7 +5,7 @@ use child_engine::{Closing, RealHost};
 use line_io::{ReadAdapter, WriteAdapter};
 use os::FromRawFd;
 use program_edges::{ClosedStreams, NO_MEMORY, WORDS_ROOM, words_of};
-use program_texts::{About, answer_about};
+use program_words::{About, answer_about};
 use sink_offers::Interface;
 use std::os::fd::OwnedFd;
 use std::process::{ChildStdin, ExitCode};

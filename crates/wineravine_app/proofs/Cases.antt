@@ -11,8 +11,8 @@ use Rattle.host_run.specs.declared.ending.ProgramEnding.TheVariants as endings
 use Rattle.host_run.proofs.Causes as causes
 use Rattle.bridge_runner.specs.Program.{RunsAsAsked, RunsWhole}
 use Rattle.bridge_runner.proofs.Whole.{whole_by}
-use Rattle.wineravine_words.specs.Words.{AreTaken, AskForHelp, AskForVersion, AreWrong, AreAsked, first_lines, values_found}
-use Rattle.wineravine_words.specs.declared.help.TheConstants.{HELP}
+use Rattle.setting_words.specs.WineravineWords.{AreTaken, AskForHelp, AskForVersion, AreWrong, AreAsked, first_lines, values_found}
+use Rattle.setting_words.specs.declared.help.TheConstants.{HELP}
 use Rattle.wineravine_app.specs.Program.{Did, Does, Fit, LacksMemory, Refuses, Runs, Shows, IsShown, IsCut, engine_named, not_started, version_text}
 
 -- THE CASES EXCLUDE EACH OTHER

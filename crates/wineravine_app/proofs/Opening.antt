@@ -14,7 +14,7 @@ use Rattle.event_pipe.specs.Rule.{has_last_event}
 use Rattle.line_io.specs.Event.{has_feed}
 use Rattle.line_io.specs.Lines.{Whole, TooLong, is_feed, parts, piece_of, line_feed}
 use Rattle.mediator.specs.First.{AreOpening, first_events}
-use Rattle.wineravine_words.specs.Words.{first_lines, has_feed_within, log_named, option_line, options_set}
+use Rattle.setting_words.specs.WineravineWords.{first_lines, has_feed_within, log_named, option_line, options_set}
 
 not_quit_by : (b : Bool) (name : List ℕ) (value : Option (List ℕ)) → is_empty name ≡ b → is_quit_message (ok_or (setting_of name value) BadArgument) ≡ false
 not_quit_by true name value e = rw e refl

@@ -12,11 +12,11 @@ use Rattle.host_run.specs.Program.{Answers, IsToldTo}
 use Rattle.host_run.specs.declared.ending.ProgramEnding.TheVariants as endings
 use Rattle.bridge_runner.specs.Program.{RunsAsAsked}
 use Rattle.peer_words.specs.Bytes.{carriage_return}
-use Rattle.program_texts.specs.About.{version_line}
+use Rattle.program_words.specs.About.{version_line}
 use Rattle.setting_words.specs.Values.{text_or_empty}
-use Rattle.wineravine_words.specs.Words.{AreTaken, AskForHelp, AskForVersion, AreWrong}
-use Rattle.wineravine_words.specs.Words.{AreAsked, first_lines, values_found}
-use Rattle.wineravine_words.specs.declared.help.TheConstants.{HELP}
+use Rattle.setting_words.specs.WineravineWords.{AreTaken, AskForHelp, AskForVersion, AreWrong}
+use Rattle.setting_words.specs.WineravineWords.{AreAsked, first_lines, values_found}
+use Rattle.setting_words.specs.declared.help.TheConstants.{HELP}
 use Rattle.wineravine_app.specs.declared.telling.TheConstants.{MOST_SHOWN}
 
 -- the name of the program, which stands in a diagnostic

@@ -8,7 +8,7 @@ ghost use Rattle.host_run.specs.Outside.{outside_of};
 ghost use Rattle.host_run.specs.Program.{IsToldTo, StatusSays};
 ghost use Rattle.host_run.specs.declared.ending.ProgramEnding.TheVariants as endings;
 ghost use Rattle.bridge_runner.specs.Program.{RunsAsAsked, RunsWhole};
-ghost use Rattle.wineravine_words.specs.Words.{AreAsked, AreTaken, IsRunnable, engine_words, first_lines, log_named, values_found};
+ghost use Rattle.setting_words.specs.WineravineWords.{AreAsked, AreTaken, IsRunnable, engine_words, first_lines, log_named, values_found};
 ghost use Rattle.wineravine_app.specs.Program.{Did, Does, Fit, engine_named, not_started, program};
 
 use crate::telling::{not_started_line, refuse, show, write_once};
@@ -16,13 +16,13 @@ use bridge_runner::run_bridge;
 use child_engine::Host;
 use host_run::{Failures, ProgramEnding, finish};
 use line_io::{Sink, Source, Status};
-use mediator_host::RunRequest;
-use program_texts::version_line;
+use mediator::RunRequest;
+use program_words::version_line;
+use setting_words::{AskedProgram, HELP, WineravineRequest, WrongWords, read_wineravine_words};
 use sink_offers::Interface;
 use std::alloc::Global;
 use std::sync::Wait;
 use std::thread::Threads;
-use wineravine_words::{AskedProgram, HELP, WineravineRequest, WrongWords, read_words};
 
 /// How a program ends that has no memory for its words.
 pub fn refuse_for_memory<D: Sink>(diag: &mut D) -> Status
@@ -102,7 +102,7 @@ fn answer<I: Source + Send, O: Sink + Send, H: Host, D: Sink, R: Threads + Wait 
         (H.asked host.old) (H.asked host.new)
         (H.faults host.old) (H.faults host.new) (H.books host.new) }
 {
-    match read_words(alloc, words) {
+    match read_wineravine_words(alloc, words) {
         Ok(AskedProgram::Run(request)) => {
             let Ok(line) = not_started_line(alloc, request.engine[0].as_str()) else {
                 return refuse_for_memory(diag);

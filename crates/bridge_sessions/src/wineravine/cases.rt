@@ -4,13 +4,13 @@ use crate::program::Counts;
 use child_engine::{Fails, MemHost};
 use line_io::MemSink;
 use paced_host::{DueText, PacedHost, PacedLog, PacedTexts};
+use setting_words::HELP;
 use sink_offers::Interface;
 use std::alloc::Global;
 use std::process::Abort;
 use std::sync::Wait;
 use std::thread::Threads;
 use wineravine_app::{refuse_for_memory, wineravine_main};
-use wineravine_words::HELP;
 
 /// The words that a program is called with, bars between, whether the host starts its engine, and
 /// the writes to the interface that fail; then its status, what the interface gets, and the

@@ -1,9 +1,9 @@
 // What words ask for.
 use crate::expected::{expect, words_of};
 use policy_rules::Settings;
+use setting_words::{AskedProgram, WrongWords, read_wineravine_words};
 use std::alloc::Global;
 use std::process::Abort;
-use wineravine_words::{AskedProgram, WrongWords, read_words};
 
 /// The defaults.
 const DEFAULTS: Settings = Settings {
@@ -88,7 +88,7 @@ fn are_words(words: &[String], text: &str) -> bool {
 fn is_asked_for(rt: &impl Abort, alloc: Global, run: &Run) -> bool {
     let (words, are_others, log_name, first, engine) = run;
     let words = words_of(rt, alloc, words);
-    let Ok(AskedProgram::Run(request)) = read_words(alloc, words.as_slice()) else {
+    let Ok(AskedProgram::Run(request)) = read_wineravine_words(alloc, words.as_slice()) else {
         return false;
     };
     let settings = if *are_others { OTHERS } else { DEFAULTS };
@@ -120,7 +120,7 @@ const NO_RUNS: [(&str, &str); 15] = [
 
 fn are_read_as(rt: &impl Abort, alloc: Global, words: &str, wanted: &str) -> bool {
     let words = words_of(rt, alloc, words);
-    match read_words(alloc, words.as_slice()) {
+    match read_wineravine_words(alloc, words.as_slice()) {
         Ok(AskedProgram::Help) => wanted == "(help)",
         Ok(AskedProgram::Version) => wanted == "(version)",
         Err(WrongWords::Words(reason)) => reason.as_str().contains(wanted),

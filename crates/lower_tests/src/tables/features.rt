@@ -1,10 +1,10 @@
 //! Engines by their options, and the features that are offered of them.
 use super::options::declared;
 use crate::expect::{expect, room};
-use feature_talk::{
+use line_io::Out;
+use option_map::{
     FeatureTalk, ProtoverAnswer, feature_lists_are_short, shown_name, write_bare_list, write_list,
 };
-use line_io::Out;
 use std::alloc::Global;
 use std::process::Abort;
 

@@ -8,7 +8,7 @@ use cecp_driver::{
     Driver, DriverStep, EVENT_ROOM, LINE_LIMIT, put_marks, runs_are_sound, scripts_are_one,
     searches_are_on_the_ordered_game,
 };
-use driver_wire::{engines_hear_the_ordered, lines_are_cecp};
+use lawful_talk::{engines_hear_the_ordered, lines_are_cecp};
 use line_io::{Event, Out};
 use std::alloc::Global;
 use std::process::Abort;

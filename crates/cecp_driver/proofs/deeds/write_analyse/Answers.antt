@@ -1,4 +1,4 @@
-use Rattle.driver_lines.specs.Lines.{Analyze, line_text, lines_text}
+use Rattle.driver_talk.specs.Lines.{Analyze, line_text, lines_text}
 use Rattle.cecp_driver.specs.Deeds.{leave_lines}
 use Rattle.cecp_driver.proofs.Puts.{setup_then}
 use Rattle.std.proofs.Common.{◌∷◌}

@@ -1,6 +1,6 @@
 use Rattle.std.proofs.Common.{◌≡◌, ◌∙◌, ap, arith, length}
 use Rattle.line_io.specs.Out.{Text}
-use Rattle.driver_lines.specs.Parts.{parts, cut_seen}
+use Rattle.driver_talk.specs.Parts.{parts, cut_seen}
 use Rattle.cecp_driver.specs.Features.{weight}
 use Rattle.cecp_driver.proofs.Heard.{has_step, name_step, up_step, down_step, value_within, down_within, weighs}
 use Rattle.cecp_driver.proofs.features.hear_features.Goals as goal

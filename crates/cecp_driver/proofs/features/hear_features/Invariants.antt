@@ -1,7 +1,7 @@
 -- What is left of the features completes what all change and say.
 use Rattle.std.proofs.Common.{◌≡◌, ◌≤◌, ◌+◌, ◌*◌, ◌++◌, length, false}
-use Rattle.driver_lines.specs.Parts.{parts}
-use Rattle.driver_lines.specs.Lines.{lines_text}
+use Rattle.driver_talk.specs.Parts.{parts}
+use Rattle.driver_talk.specs.Lines.{lines_text}
 use Rattle.cecp_driver.specs.Features.{has_all, name_all, answers, greetings}
 use Rattle.cecp_driver.proofs.features.hear_features.Given as goal
 

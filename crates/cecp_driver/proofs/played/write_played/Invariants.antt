@@ -3,7 +3,7 @@ use Rattle.std.proofs.Common.{◌≡◌, ◌≤◌, ◌+◌, ◌*◌, ◌++◌, 
 use Rattle.std.specs.List.{AllByRecursion}
 use Rattle.chess_board.specs.Text.{IsOfficer}
 use Rattle.game_record.specs.Game.{plies_of}
-use Rattle.driver_lines.specs.Lines.{lines_text}
+use Rattle.driver_talk.specs.Lines.{lines_text}
 use Rattle.cecp_driver.specs.SetUp.{ply_lines}
 use Rattle.cecp_driver.proofs.played.write_played.Given as goal
 

@@ -1,7 +1,7 @@
 use Rattle.std.proofs.Common.{◌≡◌, ◌∷◌, ◌++◌, List, ℕ, ap, ◌∙◌}
 use Rattle.line_io.specs.Lines.{parts}
 use Rattle.option_map.proofs.Rooms.{room_here, put_on}
-use Rattle.feature_talk.specs.Features.{reply_lines}
+use Rattle.option_map.specs.Features.{reply_lines}
 use Rattle.desk_rules.specs.Lines.{refused_option, early_answer}
 use Rattle.desk_rules.specs.Replies.{early_refusal, early_refusals}
 use Rattle.desk_rules.proofs.Rooms.{lines-append}

@@ -1,7 +1,7 @@
 use Rattle.std.proofs.Common.{◌≡◌, length}
 use Rattle.line_io.specs.Lines.{parts}
 use Rattle.line_io.specs.Out.{with}
-use Rattle.feature_talk.specs.Features.{reply_lines}
+use Rattle.option_map.specs.Features.{reply_lines}
 use Rattle.desk_rules.specs.Replies.{early_refusals}
 use Rattle.desk_rules.proofs.early.put_lines.Given as goal
 

@@ -7,7 +7,7 @@ use Rattle.line_io.specs.Out.{Text, with}
 use Rattle.uci_lines.specs.Orders.{Order}
 use Rattle.option_map.specs.declared.fault.OptionFault.{OptionFault}
 use Rattle.option_map.specs.Data.{answer_seen}
-use Rattle.feature_talk.specs.Features.{reply_lines}
+use Rattle.option_map.specs.Features.{reply_lines}
 use Rattle.desk_rules.specs.declared.effect.Refusal.{Refusal}
 use Rattle.desk_rules.specs.Lines.{because, early_answer, refused_option}
 use Rattle.desk_rules.specs.Replies.{early_refusal}

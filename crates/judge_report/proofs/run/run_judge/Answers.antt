@@ -1,8 +1,8 @@
 use Rattle.std.proofs.Common.{ℕ, subst}
 use Rattle.std.specs.Prelude.{◌≡◌}
-use Rattle.command_endings.specs.Diagnostics.{code_of}
-use Rattle.command_endings.specs.Ran.{Ran}
-use Rattle.command_endings.specs.Streams.{streams}
+use Rattle.line_scribe.specs.Diagnostics.{code_of}
+use Rattle.line_scribe.specs.Ran.{Ran}
+use Rattle.line_scribe.specs.Streams.{streams}
 use Rattle.line_scribe.specs.Scribed.{EndsBy}
 use Rattle.session_judge.specs.declared.talk.JudgedTalk.{JudgedTalk}
 use Rattle.judge_report.specs.Judging.{judges}

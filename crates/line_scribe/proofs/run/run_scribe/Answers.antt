@@ -1,4 +1,4 @@
-use Rattle.command_endings.specs.Streams.{Streams, streams}
+use Rattle.line_scribe.specs.Streams.{Streams, streams}
 use Rattle.line_scribe.proofs.Endings.{ended}
 use Rattle.line_scribe.proofs.run.run_scribe.Goals as goal
 

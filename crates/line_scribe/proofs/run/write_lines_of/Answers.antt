@@ -3,8 +3,8 @@ use Rattle.line_io.specs.Lines.{Held}
 use Rattle.line_io.specs.Taken.{Taken, place}
 use Rattle.line_io.specs.declared.taker.LinesEnd.{LinesEnd}
 use Rattle.line_io.specs.declared.taker.LinesEnd.TheVariants as ends
-use Rattle.command_endings.specs.declared.ending.Ending.{Ending}
-use Rattle.command_endings.specs.declared.ending.Ending.TheVariants as endings
+use Rattle.line_scribe.specs.declared.ending.Ending.{Ending}
+use Rattle.line_scribe.specs.declared.ending.Ending.TheVariants as endings
 use Rattle.line_scribe.specs.Writing.{writes}
 use Rattle.line_scribe.proofs.Endings.{causes_by, causes_left, go_ended, go_endless, go_failed, go_left}
 use Rattle.line_scribe.proofs.run.write_lines_of.Goals as goal

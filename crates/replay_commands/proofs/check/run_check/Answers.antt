@@ -1,6 +1,6 @@
 use Rattle.std.proofs.Common.{refl}
-use Rattle.command_endings.specs.declared.ending.Ending.TheVariants as endings
-use Rattle.command_endings.specs.Streams.{Streams, streams}
+use Rattle.line_scribe.specs.declared.ending.Ending.TheVariants as endings
+use Rattle.line_scribe.specs.Streams.{Streams, streams}
 use Rattle.replay_commands.proofs.Verdicts.{ran}
 use Rattle.replay_commands.proofs.check.run_check.Goals as goal
 

@@ -1,5 +1,5 @@
 use Rattle.replay_commands.specs.Drilled.{Plays}
-use Rattle.command_endings.proofs.Telling.{writes_as}
+use Rattle.line_scribe.proofs.Telling.{writes_as}
 use Rattle.replay_commands.proofs.play.play_drill.Goals as goal
 
 pub returns-in-Ok : goal.returns-in-Ok

@@ -4,8 +4,8 @@ use Rattle.host_run.specs.Outside.{outside_of}
 use Rattle.host_run.specs.Program.{IsToldTo}
 use Rattle.host_run.proofs.Causes as causes
 use Rattle.program_words.specs.Words.{bytes_of}
-use Rattle.wineravine_words.specs.Words.{Ask, IsRunnable}
-use Rattle.wineravine_words.specs.declared.request.AskedProgram.{AskedProgram}
+use Rattle.setting_words.specs.WineravineWords.{Ask, IsRunnable}
+use Rattle.setting_words.specs.declared.wineravine_request.AskedProgram.{AskedProgram}
 use Rattle.wineravine_app.specs.Program.{engine_named, not_started}
 use Rattle.wineravine_app.proofs.Parts.{head_named, shown}
 use Rattle.wineravine_app.proofs.main_call.answer.Goals as goal

@@ -5,7 +5,7 @@ use Rattle.search_epochs.specs.Dialogue.{played_of}
 use Rattle.desk_rules.specs.declared.desk.Desk.{Desk}
 use Rattle.line_io.specs.Event.{event_of}
 use Rattle.line_io.specs.Out.{Text, empty, with}
-use Rattle.feature_talk.specs.Features.{reply_lines}
+use Rattle.option_map.specs.Features.{reply_lines}
 use Rattle.search_epochs.specs.declared.words.EngineState.{EngineState}
 use Rattle.search_epochs.specs.declared.words.Orders.{Orders}
 use Rattle.search_epochs.specs.declared.words.Orders.TheVariants as chosen

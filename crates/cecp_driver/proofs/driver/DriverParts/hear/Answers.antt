@@ -1,7 +1,7 @@
 use Rattle.std.proofs.Common.{◌≡◌, ◌∙◌, ap, sym, length, arith}
-use Rattle.driver_lines.specs.Says.{engine_message_of}
+use Rattle.driver_talk.specs.Says.{engine_message_of}
 use Rattle.cecp_driver.specs.declared.driver.DriverParts.{DriverParts}
-use Rattle.driver_lines.proofs.FeatureText.{feature_short}
+use Rattle.driver_talk.proofs.FeatureText.{feature_short}
 use Rattle.cecp_driver.proofs.Acting.{from_cleared, heard_at, features_done, features_keeps}
 use Rattle.cecp_driver.proofs.driver.DriverParts.hear.Goals as goal
 

@@ -1,5 +1,5 @@
 use Rattle.std.proofs.Common.{sym, subst}
-use Rattle.driver_lines.specs.Says.{engine_message_of}
+use Rattle.driver_talk.specs.Says.{engine_message_of}
 use Rattle.cecp_driver.specs.Keeps.{Keeps}
 use Rattle.cecp_driver.proofs.Lasting.{heard_fits}
 use Rattle.cecp_driver.proofs.Acting.{can_act, acted_keeps, plain_done}

@@ -1,5 +1,5 @@
 use Rattle.std.proofs.Common.{ap}
-use Rattle.driver_lines.specs.Says.{engine_message_of}
+use Rattle.driver_talk.specs.Says.{engine_message_of}
 use Rattle.cecp_driver.proofs.Acting.{heard_move}
 use Rattle.cecp_driver.proofs.driver.DriverParts.said.Goals as goal
 

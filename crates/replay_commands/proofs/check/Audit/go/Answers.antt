@@ -3,7 +3,7 @@ use Rattle.line_io.specs.Lines.{Held}
 use Rattle.line_io.specs.Taken.{Taken, place}
 use Rattle.line_io.specs.declared.taker.LinesEnd.{LinesEnd}
 use Rattle.line_io.specs.declared.taker.LinesEnd.TheVariants as ends
-use Rattle.command_endings.specs.declared.ending.Ending.{Ending}
+use Rattle.line_scribe.specs.declared.ending.Ending.{Ending}
 use Rattle.replay_commands.specs.Walked.{checks}
 use Rattle.replay_commands.proofs.Audits.{audit_ended, audit_endless, audit_failed, audit_left, ends_other, few_lines, may_end}
 use Rattle.replay_commands.proofs.Checkers.{first_walk}

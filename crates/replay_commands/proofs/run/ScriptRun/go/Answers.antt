@@ -1,10 +1,10 @@
 use Rattle.std.proofs.Common.{ℕ, ap, refl, subst}
-use Rattle.command_endings.specs.declared.ending.Ending.TheVariants as endings
+use Rattle.line_scribe.specs.declared.ending.Ending.TheVariants as endings
 use Rattle.line_io.specs.Lines.{Held}
 use Rattle.line_io.specs.Taken.{Taken, place}
 use Rattle.line_io.specs.declared.taker.LinesEnd.{LinesEnd}
 use Rattle.line_io.specs.declared.taker.LinesEnd.TheVariants as ends
-use Rattle.command_endings.specs.declared.ending.Ending.{Ending}
+use Rattle.line_scribe.specs.declared.ending.Ending.{Ending}
 use Rattle.script_player.specs.Replaying.{replays}
 use Rattle.replay_commands.proofs.Finishes.{causes_by, causes_left, go_ended, go_endless, go_failed, go_left}
 use Rattle.replay_commands.proofs.run.ScriptRun.go.Goals as goal

@@ -1,6 +1,6 @@
 use Rattle.std.proofs.Common.{◌∙◌, Some, sym}
 use Rattle.line_io.specs.Lines.{TooLong}
-use Rattle.command_endings.specs.declared.ending.Ending.TheVariants as endings
+use Rattle.line_scribe.specs.declared.ending.Ending.TheVariants as endings
 use Rattle.script_player.proofs.Hearing.{came_by, may_plain}
 use Rattle.script_player.proofs.Players.{first_long, next_long}
 use Rattle.script_player.proofs.player.PlayerTakesLines.long.Goals as goal

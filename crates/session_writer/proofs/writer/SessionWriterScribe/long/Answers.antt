@@ -1,7 +1,7 @@
 use Rattle.std.proofs.Common.{◌++◌, ◌∷◌, [], ◌∙◌, Some, sym}
 use Rattle.line_io.specs.Lines.{TooLong}
 use Rattle.line_io.proofs.Puts.{put_none}
-use Rattle.command_endings.specs.declared.ending.Ending.TheVariants as endings
+use Rattle.line_scribe.specs.declared.ending.Ending.TheVariants as endings
 use Rattle.session_writer.proofs.Came.{long_first, long_later, then_by}
 use Rattle.session_writer.proofs.writer.SessionWriterScribe.long.Goals as goal
 

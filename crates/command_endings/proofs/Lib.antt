@@ -1,3 +1,0 @@
-mod Pieces
-pub mod Readings
-pub mod Telling

@@ -1,5 +1,0 @@
-mod Cuts
-mod Named
-mod First
-mod Puts
-pub mod FeatureText

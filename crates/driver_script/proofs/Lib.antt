@@ -1,4 +1,0 @@
-mod Spelled
-mod Again
-mod Reading
-mod Statuses

@@ -1,4 +1,0 @@
-mod Fed
-mod Spelled
-mod Held
-mod Heard

@@ -1,9 +1,0 @@
-pub mod Numerals
-pub mod Pieces
-pub mod OptionTexts
-pub mod Boards
-pub mod Games
-pub mod Sans
-pub mod ReplyLines
-pub mod OrderLines
-pub mod OneLine

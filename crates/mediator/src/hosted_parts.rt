@@ -1,0 +1,30 @@
+// What a run needs beside its host.
+ghost use Rattle.std.specs.Prelude.{◌≡◌, IfOk};
+ghost use Rattle.mediator.specs.Ran.{AreReady};
+
+use crate::{Mediator, MediatorParts, TURN_ROOM, Turns};
+use event_pipe::Pipe;
+use line_io::{NoMemory, Out};
+use std::alloc::Global;
+
+/// Takes the memory of a run.
+pub(crate) fn make_parts<M: Mediator + Drop>(
+    alloc: Global,
+    mediator: M,
+) -> Result<MediatorParts<M>, NoMemory>
+    requires fresh { M.means.fresh mediator }
+    ensures ready { IfOk result (λ parts. AreReady M.means parts) }
+    ensures same { IfOk result (λ parts. parts.turns.mediator ≡ mediator) }
+{
+    let (iface, engine, taker) = Pipe::make(alloc)?;
+    let text = Out::make(alloc, TURN_ROOM)?;
+    Ok(MediatorParts {
+        iface,
+        engine,
+        turns: Turns {
+            mediator,
+            taker,
+            text,
+        },
+    })
+}

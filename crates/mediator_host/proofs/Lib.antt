@@ -1,2 +1,0 @@
-mod Starts
-pub mod Wholes

@@ -1,2 +1,0 @@
-pub mod Mediated
-pub mod Recorded

@@ -1,3 +1,0 @@
-pub mod Playing
-pub mod Again
-pub mod Revivals

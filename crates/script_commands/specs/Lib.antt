@@ -1,0 +1,9 @@
+pub mod Begun
+pub mod Migrated
+pub mod Migration
+pub mod Traces
+pub mod Played
+pub mod Revived
+pub mod Reviving
+pub mod Scripts
+pub mod Driven

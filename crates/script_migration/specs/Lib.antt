@@ -1,4 +1,0 @@
-pub mod Begun
-pub mod Migrated
-pub mod Migration
-pub mod Traces

@@ -1,4 +1,0 @@
-pub mod Followed
-mod Texts
-pub mod Stays
-pub mod Written

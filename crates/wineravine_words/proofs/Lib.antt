@@ -1,2 +1,0 @@
-mod OneFault
-mod Reading
