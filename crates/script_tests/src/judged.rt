@@ -1,4 +1,5 @@
 // Logs that break a rule, and logs that break none.
+use crate::streams::expect;
 use chess_board::read_move;
 use peer_words::GoKind;
 use script_lines::read_mark;
@@ -94,10 +95,8 @@ const ROWS: [Row; 22] = [
 fn each_rule_is_broken(rt: HostRuntime) {
     for (log, line, rule) in &ROWS {
         let mut judge = Judge::new(rt.alloc(), Listener::Bridge);
-        assert!(rt;
-            heard(&rt, &mut judge, log) == Some((*line, *rule)),
-            "{log}"
-        );
+        let broken = heard(&rt, &mut judge, log);
+        expect(&rt, broken == Some((*line, *rule)), log);
     }
 }
 
@@ -164,8 +163,8 @@ const TAPPED: [Tapped; 10] = [
 fn orders_cross(rt: HostRuntime) {
     for (log, crossings, broken) in &TAPPED {
         let mut judge = Judge::new(rt.alloc(), Listener::Tap);
-        assert!(rt; heard(&rt, &mut judge, log) == *broken, "{log}");
-        assert!(rt; judge.crossings() == *crossings, "{log}");
+        let same = heard(&rt, &mut judge, log) == *broken;
+        expect(&rt, same && judge.crossings() == *crossings, log);
     }
     crossings_are_the_difference();
 }
@@ -177,7 +176,7 @@ const CROSSED: &str =
 #[test]
 fn searches_are_told(rt: HostRuntime) {
     let mut judge = Judge::new(rt.alloc(), Listener::Bridge);
-    assert!(rt; heard(&rt, &mut judge, SEARCHED).is_none(), "{SEARCHED}");
+    let lawful = heard(&rt, &mut judge, SEARCHED).is_none();
     let search = Search {
         number: 1,
         kind: GoKind::Move,
@@ -186,9 +185,9 @@ fn searches_are_told(rt: HostRuntime) {
         stopped: true,
         shown: read_move(b"g1f3"),
     };
-    assert!(rt; judge.search() == Some(search));
+    expect(&rt, lawful && judge.search() == Some(search), SEARCHED);
     let mut tap = Judge::new(rt.alloc(), Listener::Tap);
-    assert!(rt; heard(&rt, &mut tap, CROSSED).is_none(), "{CROSSED}");
+    let lawful = heard(&rt, &mut tap, CROSSED).is_none();
     let crossed = Search {
         number: 1,
         kind: GoKind::Ponder,
@@ -197,5 +196,5 @@ fn searches_are_told(rt: HostRuntime) {
         stopped: false,
         shown: None,
     };
-    assert!(rt; tap.search() == Some(crossed));
+    expect(&rt, lawful && tap.search() == Some(crossed), CROSSED);
 }

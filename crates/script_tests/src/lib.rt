@@ -1,4 +1,5 @@
-//! Scripts and logs: what the commands over them make of lines in memory.
+//! Scripts and logs: what the commands over them make of lines in memory, and the program `replay`
+//! of inputs in pieces, and of reads and writes that fail.
 #![tactic(auto)]
 
 #[cfg(test)]
@@ -17,6 +18,8 @@ mod migrated;
 mod played;
 #[cfg(test)]
 mod positions;
+#[cfg(test)]
+mod replayed;
 #[cfg(test)]
 mod reports;
 #[cfg(test)]

@@ -1,5 +1,5 @@
 // A script as a session.
-use crate::streams::Streams;
+use crate::streams::{Streams, expect};
 use line_io::{Lines, LinesEnd, SCRIPT_LINE, take_lines};
 use policy_rules::Settings;
 use script_player::Player;
@@ -28,6 +28,6 @@ fn is_played(rt: &impl Abort, alloc: Global, streams: &mut Streams) -> bool {
 #[test]
 fn a_script_is_played(rt: HostRuntime) {
     let mut streams = Streams::make(&rt, rt.alloc(), LOG, 7);
-    assert!(rt; is_played(&rt, rt.alloc(), &mut streams));
-    assert!(rt; streams.output.taken() == SCRIPT);
+    let played = is_played(&rt, rt.alloc(), &mut streams);
+    expect(&rt, played && streams.output.taken() == SCRIPT, "a script");
 }

@@ -6,21 +6,21 @@ use line_scribe::Ending;
 const ROWS: [Run; 2] = [
     (
         Command::Positions,
-        b"U uci\nu uciok\nU isready\nu readyok\nx usermove f2f3\nu bestmove e7e5\nX move e7e5\n",
-        b"0 rnbqkbnr/pppppppp/8/8/8/8/PPPPPPPP/RNBQKBNR w KQkq - 0 1\n5 rnbqkbnr/pppppppp/8/8/8/5P2/PPPPP1PP/RNBQKBNR b KQkq - 0 1\n6 rnbqkbnr/pppp1ppp/8/4p3/8/5P2/PPPPP1PP/RNBQKBNR w KQkq - 0 2\n",
+        "U uci\nu uciok\nU isready\nu readyok\nx usermove f2f3\nu bestmove e7e5\nX move e7e5\n",
+        "0 rnbqkbnr/pppppppp/8/8/8/8/PPPPPPPP/RNBQKBNR w KQkq - 0 1\n5 rnbqkbnr/pppppppp/8/8/8/5P2/PPPPP1PP/RNBQKBNR b KQkq - 0 1\n6 rnbqkbnr/pppp1ppp/8/4p3/8/5P2/PPPPP1PP/RNBQKBNR w KQkq - 0 2\n",
         Ending::Done,
-        b"",
+        "",
     ),
     (
         Command::Positions,
-        b"x force\nx usermove e2e5\nx setboard 7k/8/6K1/8/8/8/8/5Q2 w - - 0 1\nhello\n",
-        b"0 rnbqkbnr/pppppppp/8/8/8/8/PPPPPPPP/RNBQKBNR w KQkq - 0 1\n3 7k/8/6K1/8/8/8/8/5Q2 w - - 0 1\n",
+        "x force\nx usermove e2e5\nx setboard 7k/8/6K1/8/8/8/8/5Q2 w - - 0 1\nhello\n",
+        "0 rnbqkbnr/pppppppp/8/8/8/8/PPPPPPPP/RNBQKBNR w KQkq - 0 1\n3 7k/8/6K1/8/8/8/8/5Q2 w - - 0 1\n",
         Ending::NoMark(4),
-        b"replay: line 4 has no mark\n",
+        "replay: line 4 has no mark\n",
     ),
 ];
 
 #[test]
 fn positions_of_sessions_are_written(rt: HostRuntime) {
-    expect_runs(&rt, rt.alloc(), "positions", &ROWS);
+    expect_runs(&rt, rt.alloc(), &ROWS);
 }

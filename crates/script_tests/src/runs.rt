@@ -1,7 +1,7 @@
 // Runs of the commands over scripts.
 ghost use Rattle.std.specs.Prelude.{◌<◌};
 
-use crate::streams::Streams;
+use crate::streams::{Streams, expect};
 use judge_report::run_judge;
 use line_scribe::Ending;
 use policy_rules::Settings;
@@ -23,7 +23,7 @@ pub enum Command {
 }
 
 /// A command, the script that it reads, what it writes, how it ends, and the diagnostic.
-pub type Run = (Command, &'static [u8], &'static [u8], Ending, &'static [u8]);
+pub type Run = (Command, &'static str, &'static str, Ending, &'static str);
 
 fn run(alloc: Global, command: Command, streams: &mut Streams) -> Ending {
     let input = &mut streams.input;
@@ -40,20 +40,21 @@ fn run(alloc: Global, command: Command, streams: &mut Streams) -> Ending {
     }
 }
 
-/// Whether the command of a row makes of a script, which it reads in pieces, what stands in the row.
-pub fn is_run(rt: &impl Abort, alloc: Global, row: &Run, script: &[u8], piece: usize) -> bool
+/// The command of a row makes of a script, which it reads in pieces, what stands in the row.
+pub fn expect_run(rt: &impl Abort, alloc: Global, row: &Run, script: &str, piece: usize)
     requires { 0 < piece }
 {
     let (command, _, written, ending, told) = *row;
-    let mut streams = Streams::make(rt, alloc, script, piece);
-    run(alloc, command, &mut streams) == ending
-        && streams.output.taken() == written
-        && streams.diag.taken() == told
+    let mut streams = Streams::make(rt, alloc, script.as_bytes(), piece);
+    let same = run(alloc, command, &mut streams) == ending
+        && streams.output.taken() == written.as_bytes()
+        && streams.diag.taken() == told.as_bytes();
+    expect(rt, same, script);
 }
 
 /// Runs the command of each row over its script.
-pub fn expect_runs(rt: &impl Abort, alloc: Global, name: &str, rows: &[Run]) {
-    for (k, row) in rows.iter().enumerate() {
-        assert!(rt; is_run(rt, alloc, row, row.1, 7), "{name}: row {k}");
+pub fn expect_runs(rt: &impl Abort, alloc: Global, rows: &[Run]) {
+    for row in rows {
+        expect_run(rt, alloc, row, row.1, 7);
     }
 }

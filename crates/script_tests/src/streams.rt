@@ -17,10 +17,29 @@ impl Streams {
     pub fn make(rt: &impl Abort, alloc: Global, input: &[u8], piece: usize) -> Streams
         requires { 0 < piece }
     {
+        Streams::failing(rt, alloc, input, piece, &[], &[])
+    }
+
+    /// The reads and the writes with these numbers, counted from 1, fail.
+    pub fn failing(
+        rt: &impl Abort,
+        alloc: Global,
+        input: &[u8],
+        piece: usize,
+        reads: &[u64],
+        writes: &[u64],
+    ) -> Streams
+        requires { 0 < piece }
+    {
         Streams {
-            input: MemSource::make(alloc, input, piece, &[]).expect(rt, "memory"),
-            output: MemSink::make(alloc, 2_000, &[]).expect(rt, "memory"),
+            input: MemSource::make(alloc, input, piece, reads).expect(rt, "memory"),
+            output: MemSink::make(alloc, 200_000, writes).expect(rt, "memory"),
             diag: MemSink::make(alloc, 100, &[]).expect(rt, "memory"),
         }
     }
+}
+
+/// What a test wants holds. That is told here alone, since each place that tells costs a proof.
+pub fn expect(rt: &impl Abort, holds: bool, what: &str) {
+    assert!(rt; holds, "{what}");
 }
