@@ -5,8 +5,15 @@ use cecp_lines::{
     IfaceFault, IfaceMsg, Outcome, Reply, lines_are_unambiguous, read_iface, replies_are_short,
     write_reply,
 };
+use chess_board::{Kind, Move, Square};
 use line_io::Out;
 use std::process::Abort;
+
+const A7A8N: Move = Move {
+    from: Square { index: 48 },
+    to: Square { index: 56 },
+    promotion: Some(Kind::Knight),
+};
 
 // A line, the kind of the message, by its first letter, and the message.
 const READ: &str = "xboard|ignored|text=xboard
@@ -124,7 +131,7 @@ fn lines_of_interfaces(rt: HostRuntime) {
 #[test]
 fn writes(rt: HostRuntime) {
     let mut out = Out::make(rt.alloc(), 256).expect(&rt, "memory");
-    write_reply(&Reply::Move(move_of(&rt, "move=a7a8n", "move")), &mut out);
+    write_reply(&Reply::Move(A7A8N), &mut out);
     write_reply(&Reply::Result(Outcome::Stalemate), &mut out);
     write_reply(&Reply::OfferDraw, &mut out);
     let want = "move a7a8n1/2-1/2 {Stalemate}offer draw";
