@@ -93,23 +93,39 @@ fn make_host(alloc: Global, orders: &AtomicU64) -> Result<WaitingHost<'_>, NoMem
     Ok(WaitingHost::new(host, orders))
 }
 
+/// The status of a run, its diagnostic, and whether a side waited for orders in vain.
+#[derive(Drop)]
+struct ProgramRun {
+    code: u8,
+    diag: MemSink,
+    has_missed: bool,
+}
+
+// Runs the program for an interface and over an engine that wait for one another.
+fn run_program<R: Threads + Wait + Sync + Abort>(
+    rt: &R,
+    alloc: Global,
+    orders: &AtomicU64,
+) -> ProgramRun {
+    let words = words_of(rt, alloc, "toy");
+    let mut interface = make_interface(alloc, orders).expect(rt, "memory");
+    let mut host = make_host(alloc, orders).expect(rt, "memory");
+    let mut diag = MemSink::make(alloc, 1_000, &[]).expect(rt, "memory");
+    let words = words.as_slice();
+    let status = bridge_main(rt, alloc, words, &mut interface, &mut host, &mut diag);
+    ProgramRun {
+        code: status.code,
+        diag,
+        has_missed: interface.input.missed().is_some() || host.has_missed(),
+    }
+}
+
 #[test]
 fn bridge_runs_beside(rt: HostRuntime) {
     let orders = AtomicU64::new(0);
-    let words = words_of(&rt, rt.alloc(), "toy");
-    let mut interface = make_interface(rt.alloc(), &orders).expect(&rt, "memory");
-    let mut host = make_host(rt.alloc(), &orders).expect(&rt, "memory");
-    let mut diag = MemSink::make(rt.alloc(), 1_000, &[]).expect(&rt, "memory");
-    let status = bridge_main(
-        &rt,
-        rt.alloc(),
-        words.as_slice(),
-        &mut interface,
-        &mut host,
-        &mut diag,
-    );
-    assert_eq!(rt; status.code, 0);
-    expect_bytes(&rt, diag.taken(), b"");
-    assert!(rt; interface.input.missed().is_none() && !host.has_missed());
+    let run = run_program(&rt, rt.alloc(), &orders);
+    assert_eq!(rt; run.code, 0);
+    expect_bytes(&rt, run.diag.taken(), b"");
+    assert!(rt; !run.has_missed);
     assert!(rt; orders.load(Ordering::SeqCst) == ORDERS);
 }
