@@ -8,7 +8,9 @@ ghost use Rattle.cecp_iface_side.specs.ReplyReading.{rest_after_front, is_paren,
 ghost use Rattle.cecp_iface_side.specs.ReplyReading.{last_in, stat01_in, hint_in, thinking_in, with_front, reply_in};
 
 use crate::move_texts::{read_written_move, spelling_of};
-use crate::written_numbers::{read_number_field, read_score_field, read_written, space_at};
+use crate::written_numbers::{
+    position_of, read_number_field, read_score_field, read_written, space_at,
+};
 use cecp_lines::{Outcome, Reason, Reply, UserError};
 use chess_board::Move;
 use peer_words::{is_white, named, trim};
@@ -80,13 +82,13 @@ fn behind_front<'a>(front: &[u8], line: &'a [u8]) -> Option<&'a [u8]>
 fn paren_at(text: &[u8]) -> Option<usize>
     ensures { result ≡ position is_paren text.now }
 {
-    text.iter().position(|b| *b == b')')
+    position_of(b')', text)
 }
 
 fn equals_at(text: &[u8]) -> Option<usize>
     ensures { result ≡ position is_equals text.now }
 {
-    text.iter().position(|b| *b == b'=')
+    position_of(b'=', text)
 }
 
 fn may_be_named(byte: u8) -> bool
@@ -133,8 +135,9 @@ fn read_error(text: &[u8]) -> Option<Reply<'_>>
     ensures { option_map reply_of result ≡ error_in text.now }
 {
     let at = paren_at(text)?;
-    let reason = reason_named(&text[..at])?;
-    let line = behind_front(b"): ", &text[at..])?;
+    let (words, rest) = text.split_at(at);
+    let reason = reason_named(words)?;
+    let line = behind_front(b"): ", rest)?;
     if is_repeated_line(reason, line) {
         Some(Reply::Error { reason, line })
     } else {
@@ -192,7 +195,8 @@ fn read_hint(text: &[u8]) -> Option<(Option<&[u8]>, &[u8])>
     match behind_front(b"(", text) {
         Some(inner) => {
             let at = paren_at(inner)?;
-            Some((Some(&inner[..at]), behind_front(b") ", &inner[at..])?))
+            let (hint, rest) = inner.split_at(at);
+            Some((Some(hint), behind_front(b") ", rest)?))
         }
         None => Some((None, text)),
     }

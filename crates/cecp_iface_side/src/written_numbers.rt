@@ -1,5 +1,5 @@
 // Numbers of 64 bits as replies write them.
-ghost use Rattle.std.specs.Prelude.{◌≡◌, ◌<◌, ◌^◌, position, IfSome};
+ghost use Rattle.std.specs.Prelude.{◌≡◌, ◌==◌, ◌<◌, ◌^◌, position, IfSome};
 ghost use Rattle.std.specs.Option.{option_map};
 ghost use Rattle.cecp_iface_side.specs.ReplyReading.{plain, number_in_64_bits, written_signed, is_space, number_field, score_field};
 
@@ -58,10 +58,17 @@ fn read_score(text: &[u8]) -> Option<i64>
     }
 }
 
+/// Where a byte stands first.
+pub(crate) fn position_of(byte: u8, text: &[u8]) -> Option<usize>
+    ensures { result ≡ position (λ b. b == byte) text.now }
+{
+    text.iter().position(|b| *b == byte)
+}
+
 pub(crate) fn space_at(text: &[u8]) -> Option<usize>
     ensures { result ≡ position is_space text.now }
 {
-    text.iter().position(|b| *b == b' ')
+    position_of(b' ', text)
 }
 
 /// A number before a blank, and what follows.

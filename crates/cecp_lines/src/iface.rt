@@ -4,7 +4,7 @@ use chess_board::Move;
 
 /// A message of the interface: a command of the Chess Engine Communication Protocol, version 2,
 /// section "Commands from xboard to the engine".
-#[derive(Clone, Copy, PartialEq, Eq)]
+#[derive(Clone, Copy)]
 pub enum IfaceMsg<'a> {
     /// A line of white space alone.
     Blank,

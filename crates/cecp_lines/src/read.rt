@@ -3,7 +3,7 @@ ghost use Rattle.std.specs.Prelude.{◌≡◌, ◌↔◌, Ok, Err, ◌+◌, ◌*
 ghost use Rattle.std.specs.Option.{option_map, option_and_then};
 ghost use Rattle.cecp_lines.specs.Messages.{IfaceMsg as AnyIfaceMsg, message_of, read_as};
 ghost use Rattle.cecp_lines.specs.declared.iface.IfaceFault.TheVariants.{UnknownCommand, BadArgument};
-ghost use Rattle.cecp_lines.specs.Reading.{message_or_fault, Spells, IsUnknown, IsBad, only_token, bare_message, argument, protover, base_time, level, setting, egt_path, other_line, is_colon, is_equals};
+ghost use Rattle.cecp_lines.specs.Reading.{message_or_fault, Spells, IsUnknown, IsBad, only_token, bare_message, argument, protover, minutes_seconds, base_time, level, setting, egt_path, other_line, is_colon, is_equals};
 
 use crate::iface::{IfaceFault, IfaceMsg};
 use crate::words::{BareWord, Command, Verb, command_named};
@@ -32,7 +32,13 @@ fn read_lone_centis(text: &[u8]) -> Option<i64>
     read_centis(lone_token(text)?)
 }
 
-ghost use Rattle.peer_words.specs.Numbers.{number, centis};
+fn read_lone_seconds(text: &[u8]) -> Option<u64>
+    ensures { result ≡ option_and_then seconds (only_token text.now) }
+{
+    read_seconds(lone_token(text)?)
+}
+
+ghost use Rattle.peer_words.specs.Numbers.{digits, number, centis, seconds};
 
 fn read_protover(text: &[u8]) -> Option<IfaceMsg<'_>>
     ensures { option_map message_of result ≡ protover text.now }
@@ -51,20 +57,25 @@ fn colon_at(text: &[u8]) -> Option<usize>
     text.iter().position(|b| *b == b':')
 }
 
+/// Minutes and seconds, of which there are at most 59, in milliseconds.
+fn read_minutes_seconds(minutes: &[u8], seconds: &[u8]) -> Option<u64>
+    ensures { result ≡ minutes_seconds (digits 4 minutes.now) (digits 2 seconds.now) }
+{
+    let minutes = read_digits(minutes, 4)?;
+    let seconds = read_digits(seconds, 2)?;
+    if seconds <= 59 {
+        Some(minutes * MINUTE + seconds * SECOND)
+    } else {
+        None
+    }
+}
+
 /// Minutes, and perhaps a colon and seconds, in milliseconds.
 fn read_base(text: &[u8]) -> Option<u64>
     ensures { result ≡ base_time text.now }
 {
     match colon_at(text) {
-        Some(at) => {
-            let minutes = read_digits(&text[..at], 4)?;
-            let seconds = read_digits(&text[at + 1..], 2)?;
-            if seconds <= 59 {
-                Some(minutes * MINUTE + seconds * SECOND)
-            } else {
-                None
-            }
-        }
+        Some(at) => read_minutes_seconds(&text[..at], &text[at + 1..]),
         None => Some(read_digits(text, 4)? * MINUTE),
     }
 }
@@ -76,7 +87,7 @@ fn read_level(text: &[u8]) -> Option<IfaceMsg<'_>>
     let (base, text) = split_token(text);
     let mps = read_digits(mps, 4)? as u32;
     let base_ms = read_base(base)?;
-    let inc_ms = read_seconds(lone_token(text)?)?;
+    let inc_ms = read_lone_seconds(text)?;
     Some(IfaceMsg::Level {
         mps,
         base_ms,
@@ -151,7 +162,7 @@ fn read_argument(verb: Verb, text: &[u8]) -> Option<IfaceMsg<'_>>
         Verb::UserMove => Some(IfaceMsg::UserMove(read_move(lone_token(text)?)?)),
         Verb::SetBoard => Some(IfaceMsg::SetBoard(text)),
         Verb::Level => read_level(text),
-        Verb::St => Some(IfaceMsg::St(read_seconds(lone_token(text)?)?)),
+        Verb::St => Some(IfaceMsg::St(read_lone_seconds(text)?)),
         Verb::Sd => Some(IfaceMsg::Sd(read_lone_number(text)?)),
         Verb::Time => Some(IfaceMsg::Time(read_lone_centis(text)?)),
         Verb::Otim => Some(IfaceMsg::Otim(read_lone_centis(text)?)),

@@ -1,10 +1,10 @@
 // The texts of replies.
-ghost use Rattle.std.specs.Prelude.{◌≡◌, ◌+◌, ◌≤◌, ◌++◌, length, decimal, IfSome};
+ghost use Rattle.std.specs.Prelude.{◌≡◌, ◌+◌, ◌≤◌, ◌++◌, codes, length, decimal, IfSome};
 ghost use Rattle.std.specs.Fmt.{signed_decimal};
 ghost use Rattle.std.specs.Option.{option_map};
 ghost use Rattle.line_io.specs.Out.{with};
 ghost use Rattle.chess_board.specs.Text.{text_of};
-ghost use Rattle.cecp_lines.specs.Replies.{reply_of, reply_text, reason_text, user_error_text, outcome_text, hint_text, current_text, field, HasWritableMoves, IsWritable};
+ghost use Rattle.cecp_lines.specs.Replies.{Feature, Error, Pong, Stat01, reply_of, reply_text, reason_text, user_error_text, outcome_text, hint_text, current_text, field, HasWritableMoves, IsWritable};
 
 use crate::reply::{Outcome, Reason, Reply, UserError};
 use chess_board::{Move, write_move};
@@ -111,6 +111,104 @@ fn put_current(current: Option<Move>, out: &mut Out)
     }
 }
 
+fn put_feature(name: &[u8], value: &[u8], out: &mut Out)
+    requires { length out.old.text + length (reply_text (Feature name.now value.now))
+        ≤ out.old.room }
+    ensures { out.new ≡ with out.old (reply_text (Feature name.now value.now)) }
+{
+    out.put(b"feature ");
+    out.put(name);
+    out.put(b"=");
+    out.put(value);
+}
+
+fn put_error(reason: Reason, line: &[u8], out: &mut Out)
+    requires { length out.old.text + length (reply_text (Error reason line.now)) ≤ out.old.room }
+    ensures { out.new ≡ with out.old (reply_text (Error reason line.now)) }
+{
+    out.put(b"Error (");
+    out.put(words_of(reason));
+    out.put(b"): ");
+    out.put(line);
+}
+
+fn put_pong(n: u32, out: &mut Out)
+    requires { length out.old.text + length (reply_text (Pong n)) ≤ out.old.room }
+    ensures { out.new ≡ with out.old (reply_text (Pong n)) }
+{
+    let mut digits = Buffer::new();
+    out.put(b"pong ");
+    out.put(digits.format(n).as_bytes());
+}
+
+/// The four numbers of a thinking line.
+fn put_thought(depth: u64, score: i64, time: u64, nodes: u64, out: &mut Out)
+    requires { length out.old.text + length (field (decimal depth) ++ field (signed_decimal score)
+        ++ field (decimal time) ++ field (decimal nodes)) ≤ out.old.room }
+    ensures { out.new ≡ with out.old (field (decimal depth) ++ field (signed_decimal score)
+        ++ field (decimal time) ++ field (decimal nodes)) }
+{
+    put_field(depth, out);
+    put_score(score, out);
+    put_field(time, out);
+    put_field(nodes, out);
+}
+
+fn put_thinking(
+    depth: u64,
+    score: i64,
+    time: u64,
+    nodes: u64,
+    hint: Option<&[u8]>,
+    pv: &[u8],
+    out: &mut Out,
+)
+    requires { length out.old.text + length (field (decimal depth) ++ field (signed_decimal score)
+        ++ field (decimal time) ++ field (decimal nodes)
+        ++ hint_text (option_map (λ h. h.now) hint) ++ pv.now) ≤ out.old.room }
+    ensures { out.new ≡ with out.old (field (decimal depth) ++ field (signed_decimal score)
+        ++ field (decimal time) ++ field (decimal nodes)
+        ++ hint_text (option_map (λ h. h.now) hint.entry) ++ pv.now) }
+{
+    put_thought(depth, score, time, nodes, out);
+    put_hint(hint, out);
+    out.put(pv);
+}
+
+/// The first four numbers of a `stat01` line.
+fn put_progress(time: u64, nodes: u64, depth: u64, left: u64, out: &mut Out)
+    requires { length out.old.text + length (field (decimal time) ++ field (decimal nodes)
+        ++ field (decimal depth) ++ field (decimal left)) ≤ out.old.room }
+    ensures { out.new ≡ with out.old (field (decimal time) ++ field (decimal nodes)
+        ++ field (decimal depth) ++ field (decimal left)) }
+{
+    put_field(time, out);
+    put_field(nodes, out);
+    put_field(depth, out);
+    put_field(left, out);
+}
+
+fn put_stat01(
+    time: u64,
+    nodes: u64,
+    depth: u64,
+    left: u64,
+    all: u64,
+    current: Option<Move>,
+    out: &mut Out,
+)
+    requires writable { IfSome current IsWritable }
+    requires room { length out.old.text
+        + length (reply_text (Stat01 time nodes depth left all current)) ≤ out.old.room }
+    ensures { out.new ≡ with out.old (reply_text (Stat01 time nodes depth left all current)) }
+{
+    let mut digits = Buffer::new();
+    out.put(b"stat01: ");
+    put_progress(time, nodes, depth, left, out);
+    out.put(digits.format(all).as_bytes());
+    put_current(current, out);
+}
+
 /// Writes the text of a reply, without a line feed.
 pub fn write_reply(reply: &Reply, out: &mut Out)
     requires moves { HasWritableMoves (reply_of reply.now) }
@@ -118,27 +216,13 @@ pub fn write_reply(reply: &Reply, out: &mut Out)
     ensures { out.new ≡ with out.old (reply_text (reply_of reply.now)) }
 {
     match reply {
-        Reply::Feature { name, value } => {
-            out.put(b"feature ");
-            out.put(name);
-            out.put(b"=");
-            out.put(value);
-        }
+        Reply::Feature { name, value } => put_feature(name, value, out),
         Reply::Move(m) => put_words_and_move(b"move ", *m, out),
         Reply::Illegal(m) => put_words_and_move(b"Illegal move: ", *m, out),
         Reply::IllegalLong(m) => put_words_and_move(b"Illegal move (game too long): ", *m, out),
-        Reply::Error { reason, line } => {
-            out.put(b"Error (");
-            out.put(words_of(*reason));
-            out.put(b"): ");
-            out.put(line);
-        }
+        Reply::Error { reason, line } => put_error(*reason, line, out),
         Reply::TellError(tell) => out.put(user_error_line(*tell)),
-        Reply::Pong(n) => {
-            let mut digits = Buffer::new();
-            out.put(b"pong ");
-            out.put(digits.format(*n).as_bytes());
-        }
+        Reply::Pong(n) => put_pong(*n, out),
         Reply::OfferDraw => out.put(b"offer draw"),
         Reply::Resign => out.put(b"resign"),
         Reply::Hint(m) => put_words_and_move(b"Hint: ", *m, out),
@@ -151,14 +235,7 @@ pub fn write_reply(reply: &Reply, out: &mut Out)
             spelling: _,
             hint,
             pv,
-        } => {
-            put_field(*depth, out);
-            put_score(*score, out);
-            put_field(*time, out);
-            put_field(*nodes, out);
-            put_hint(*hint, out);
-            out.put(pv);
-        }
+        } => put_thinking(*depth, *score, *time, *nodes, *hint, pv, out),
         Reply::Stat01 {
             time,
             nodes,
@@ -166,15 +243,6 @@ pub fn write_reply(reply: &Reply, out: &mut Out)
             left,
             all,
             current,
-        } => {
-            let mut digits = Buffer::new();
-            out.put(b"stat01: ");
-            put_field(*time, out);
-            put_field(*nodes, out);
-            put_field(*depth, out);
-            put_field(*left, out);
-            out.put(digits.format(*all).as_bytes());
-            put_current(*current, out);
-        }
+        } => put_stat01(*time, *nodes, *depth, *left, *all, *current, out),
     }
 }

@@ -1,5 +1,5 @@
 // The arguments that both commands have.
-ghost use Rattle.std.specs.Prelude.{◌≡◌, true, false, IfOk};
+ghost use Rattle.std.specs.Prelude.{◌≡◌, true, false, IfOk, IsOkAnd};
 ghost use Rattle.clap.specs.Words.{app_of, rule_of, with_rule};
 ghost use Rattle.setting_words.specs.Arguments.{option_rule, flag_rule, resign_rule, resign_moves_rule, resign_score_rule, show_ponder_rule, log_file_rule, with_policy_rules};
 
@@ -96,12 +96,24 @@ pub fn with_arg<'a>(command: Command<'a>, arg: Arg<'a>) -> Result<Command<'a>, A
     command.arg(arg)
 }
 
+/// The same, where the command may not have come about.
+pub(crate) fn and_arg<'a>(
+    command: Result<Command<'a>, AllocError>,
+    arg: Arg<'a>,
+) -> Result<Command<'a>, AllocError>
+    requires { arg.global ≡ false }
+    ensures { IfOk result (λ c. IsOkAnd command.entry
+        (λ before. app_of c ≡ with_rule (app_of before) (rule_of arg.entry))) }
+{
+    with_arg(command?, arg)
+}
+
 /// The command with the options that say when a game is resigned, and whether pondering is shown.
 pub fn with_policy<'a>(alloc: Global, command: Command<'a>) -> Result<Command<'a>, AllocError>
     ensures { IfOk result (λ c. app_of c ≡ with_policy_rules (app_of command.entry)) }
 {
-    let command = with_arg(command, resign(alloc))?;
-    let command = with_arg(command, resign_moves(alloc))?;
-    let command = with_arg(command, resign_score(alloc))?;
-    with_arg(command, show_ponder(alloc))
+    let command = with_arg(command, resign(alloc));
+    let command = and_arg(command, resign_moves(alloc));
+    let command = and_arg(command, resign_score(alloc));
+    and_arg(command, show_ponder(alloc))
 }

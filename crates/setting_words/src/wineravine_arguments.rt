@@ -3,6 +3,7 @@ ghost use Rattle.std.specs.Prelude.{◌≡◌, true, false, IfOk};
 ghost use Rattle.clap.specs.Words.{app_of, rule_of};
 ghost use Rattle.setting_words.specs.WineravineCommand.{wineravine, bare, with_new_settings, with_names, early_settings_rule, resign_when_gone_rule, handle_draws_rule, show_san_rule, strength_options_rule, set_option_rule, engine_rule};
 
+use crate::arguments::and_arg;
 use crate::{flag_option, log_file, with_arg, with_policy};
 use clap::{Arg, ArgAction, Command};
 use program_words::VERSION;
@@ -88,20 +89,20 @@ fn bare_command<'a>(alloc: Global) -> Command<'a>
 fn with_new<'a>(alloc: Global, command: Command<'a>) -> Result<Command<'a>, AllocError>
     ensures { IfOk result (λ c. app_of c ≡ with_new_settings (app_of command.entry)) }
 {
-    let command = with_arg(command, early_settings(alloc))?;
-    let command = with_arg(command, resign_when_gone(alloc))?;
-    let command = with_arg(command, handle_draws(alloc))?;
-    let command = with_arg(command, show_san(alloc))?;
-    with_arg(command, strength_options(alloc))
+    let command = with_arg(command, early_settings(alloc));
+    let command = and_arg(command, resign_when_gone(alloc));
+    let command = and_arg(command, handle_draws(alloc));
+    let command = and_arg(command, show_san(alloc));
+    and_arg(command, strength_options(alloc))
 }
 
 // The command with what names the log, options of the engine, and the engine.
 fn with_named<'a>(alloc: Global, command: Command<'a>) -> Result<Command<'a>, AllocError>
     ensures { IfOk result (λ c. app_of c ≡ with_names (app_of command.entry)) }
 {
-    let command = with_arg(command, log_file(alloc, "wineravine.log"))?;
-    let command = with_arg(command, set_option(alloc))?;
-    with_arg(command, engine(alloc))
+    let command = with_arg(command, log_file(alloc, "wineravine.log"));
+    let command = and_arg(command, set_option(alloc));
+    and_arg(command, engine(alloc))
 }
 
 /// The command of the program.

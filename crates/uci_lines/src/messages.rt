@@ -2,7 +2,7 @@
 use chess_board::Move;
 
 /// What a line of the engine says (UCI, "Engine to GUI").
-#[derive(Clone, Copy, PartialEq, Eq)]
+#[derive(Clone, Copy)]
 pub enum EngineMsg<'a> {
     /// `id name` and a text.
     Name(&'a [u8]),
@@ -20,14 +20,14 @@ pub enum EngineMsg<'a> {
 }
 
 /// An option that the engine declares.
-#[derive(Clone, Copy, PartialEq, Eq)]
+#[derive(Clone, Copy)]
 pub struct OptionMsg<'a> {
     pub name: &'a [u8],
     pub kind: OptionKind<'a>,
 }
 
 /// The kind of an option, with what it is by default.
-#[derive(Clone, Copy, PartialEq, Eq)]
+#[derive(Clone, Copy)]
 pub enum OptionKind<'a> {
     Check { on: bool },
     Spin { default: i64, min: i64, max: i64 },
@@ -39,7 +39,7 @@ pub enum OptionKind<'a> {
 }
 
 /// What the engine reports of its search. Times are in milliseconds.
-#[derive(Clone, Copy, PartialEq, Eq)]
+#[derive(Clone, Copy)]
 pub struct Info<'a> {
     pub depth: Option<u64>,
     pub time: Option<u64>,

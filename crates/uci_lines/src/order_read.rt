@@ -2,7 +2,7 @@
 ghost use Rattle.std.specs.Prelude.{◌≡◌, codes, IfOk, IsOkAnd};
 ghost use Rattle.std.specs.Option.{option_map};
 ghost use Rattle.uci_lines.specs.Behind.{after, number_behind};
-ghost use Rattle.uci_lines.specs.OrderReading.{is_positive_or_none, is_search, setting_in, moves_in, set_up, position_in, clock_three, clock_in, control_in, search_with, search_in, long_order, order_in, SpellsOrder, TakesPositions};
+ghost use Rattle.uci_lines.specs.OrderReading.{is_positive_or_none, is_search, setting_in, moves_in, set_up, position_in, clock_four, clock_three, clock_in, control_in, search_with, search_in, long_order, order_in, SpellsOrder, TakesPositions};
 ghost use Rattle.uci_lines.specs.Orders.{Order as AnyOrder, order_of, optional_now};
 ghost use Rattle.uci_lines.specs.Written.{fields_before};
 
@@ -69,13 +69,12 @@ fn read_position(text: &[u8]) -> Option<Order<'_>>
     }
 }
 
-/// A clock after its two times.
-fn read_increments(wtime: u64, btime: u64, text: &[u8]) -> Option<(GoControl, &[u8])>
+/// A clock after its two times and its first increment.
+fn read_last_numbers(wtime: u64, btime: u64, winc: u64, text: &[u8]) -> Option<(GoControl, &[u8])>
     ensures { option_map (λ p. (p.0, p.1.now)) result
-        ≡ clock_three wtime btime (number_behind (codes " winc ") text.now) }
+        ≡ clock_four wtime btime winc (number_behind (codes " binc ") text.now) }
 {
-    let (winc, others) = number_behind(b" winc ", text)?;
-    let (binc, others) = number_behind(b" binc ", others)?;
+    let (binc, others) = number_behind(b" binc ", text)?;
     let (movestogo, others) = perhaps_number(b" movestogo ", others);
     let clock = GoControl::Clock {
         wtime,
@@ -85,6 +84,15 @@ fn read_increments(wtime: u64, btime: u64, text: &[u8]) -> Option<(GoControl, &[
         movestogo,
     };
     Some((clock, others))
+}
+
+/// A clock after its two times.
+fn read_increments(wtime: u64, btime: u64, text: &[u8]) -> Option<(GoControl, &[u8])>
+    ensures { option_map (λ p. (p.0, p.1.now)) result
+        ≡ clock_three wtime btime (number_behind (codes " winc ") text.now) }
+{
+    let (winc, others) = number_behind(b" winc ", text)?;
+    read_last_numbers(wtime, btime, winc, others)
 }
 
 #[tactic(auto, unfolding(crate::specs::OrderReading::clock_in))]
