@@ -250,6 +250,10 @@ impl Core {
 fn make_parts(alloc: Global, settings: Settings) -> Result<CoreParts, NoMemory>
     ensures { IfOk result (λ parts. parts ≡ opening settings) }
 {
+    let to_iface = Out::make(alloc, ROOM)?;
+    let to_engine = Out::make(alloc, ROOM)?;
+    let held = HeldOrders::make(alloc)?;
+    let desk = Desk::make(alloc)?;
     Ok(CoreParts {
         settings,
         ends: Ends {
@@ -260,12 +264,12 @@ fn make_parts(alloc: Global, settings: Settings) -> Result<CoreParts, NoMemory>
             engine_lost: false,
             closed: false,
         },
-        desk: Desk::make(alloc)?,
+        desk,
         scores: Scores::new(&settings),
-        held: HeldOrders::make(alloc)?,
+        held,
         dialogue: Dialogue::new(),
-        to_iface: Out::make(alloc, ROOM)?,
-        to_engine: Out::make(alloc, ROOM)?,
+        to_iface,
+        to_engine,
     })
 }
 

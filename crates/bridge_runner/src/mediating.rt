@@ -21,11 +21,14 @@ impl Session {
         requires { IsProper settings.now }
         ensures { IfOk result (IsNew settings.now) }
     {
+        let up = Out::make(alloc, SCRIPT_LINE)?;
+        let down = Out::make(alloc, SCRIPT_LINE)?;
+        let core = Core::make(alloc, settings)?;
         Ok(Session {
-            core: Core::make(alloc, settings)?,
+            core,
             next: 0,
-            up: Out::make(alloc, SCRIPT_LINE)?,
-            down: Out::make(alloc, SCRIPT_LINE)?,
+            up,
+            down,
         })
     }
 

@@ -286,6 +286,11 @@ pub struct DriverStep<'a> {
 fn make_parts(alloc: Global) -> Result<DriverParts, NoMemory>
     ensures { IfOk result (λ parts. parts ≡ opening) }
 {
+    let name = Out::make(alloc, LINE_LIMIT)?;
+    let up = Out::make(alloc, UP_ROOM)?;
+    let down = Out::make(alloc, DOWN_ROOM)?;
+    let game = Game::make(alloc)?;
+    let told = ToldGame::make(alloc)?;
     Ok(DriverParts {
         talk: DriverTalk::new(),
         has: HasFeatures {
@@ -295,12 +300,12 @@ fn make_parts(alloc: Global) -> Result<DriverParts, NoMemory>
             analyze: false,
             done: false,
         },
-        name: Out::make(alloc, LINE_LIMIT)?,
+        name,
         is_ordered: false,
-        game: Game::make(alloc)?,
-        told: ToldGame::make(alloc)?,
-        up: Out::make(alloc, UP_ROOM)?,
-        down: Out::make(alloc, DOWN_ROOM)?,
+        game,
+        told,
+        up,
+        down,
     })
 }
 

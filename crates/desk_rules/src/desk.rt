@@ -40,19 +40,23 @@ impl Desk {
     pub fn make(alloc: Global) -> Result<Desk, NoMemory>
         ensures { IfOk result (λ desk. desk ≡ opening_desk) }
     {
+        let pings = Pings::make(alloc)?;
+        let early = Early::make(alloc)?;
+        let options = Options::make(alloc)?;
+        let game = Game::make(alloc)?;
         Ok(Desk {
-            game: Game::make(alloc)?,
+            game,
             mode: Mode::Plays(Side::Black),
             post: false,
             pondering: false,
             clocks: Clocks::new(),
             hint: None,
-            pings: Pings::make(alloc)?,
-            options: Options::make(alloc)?,
+            pings,
+            options,
             booted: false,
             name: EngineName::new(),
             due: FeatureTalk::new(),
-            early: Early::make(alloc)?,
+            early,
             seen: SeenThinking::new(),
         })
     }

@@ -57,9 +57,11 @@ impl Drill {
         ensures ends { IfOk result (λ drill. drill.session.core.ends ≡ at_start) }
         ensures tally { IfOk result (λ drill. drill.session.tally ≡ nothing) }
     {
+        let game = Game::make(alloc)?;
+        let session = DrillSession::make(alloc)?;
         Ok(Drill {
-            session: DrillSession::make(alloc)?,
-            game: Game::make(alloc)?,
+            session,
+            game,
             seed: number,
             hint: None,
         })

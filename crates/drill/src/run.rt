@@ -51,8 +51,8 @@ pub fn drill_line(alloc: Global, number: u32, count: u32) -> Result<Out, NoMemor
     requires { count ≤ MOST_ROUNDS }
     ensures { IfOk result (λ line. Drills number count line.text) }
 {
-    let mut drill = Drill::make(alloc, number)?;
     let mut line = Out::make(alloc, LINE_ROOM)?;
+    let mut drill = Drill::make(alloc, number)?;
     drill.session.greet();
     drill.session.prepare();
     drill.play_rounds(count);

@@ -122,12 +122,11 @@ impl Revival {
     pub fn make(alloc: Global, lives: u32) -> Result<Revival, NoMemory>
         ensures { IfOk result (λ revival. revival ≡ opening lives) }
     {
+        let up = Out::make(alloc, UP_ROOM)?;
+        let child = Out::make(alloc, CHILD_ROOM)?;
+        let state = RevivalState::make(alloc, lives)?;
         Ok(Revival {
-            parts: RevivalParts {
-                state: RevivalState::make(alloc, lives)?,
-                up: Out::make(alloc, UP_ROOM)?,
-                child: Out::make(alloc, CHILD_ROOM)?,
-            },
+            parts: RevivalParts { state, up, child },
         })
     }
 

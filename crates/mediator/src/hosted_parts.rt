@@ -16,8 +16,8 @@ pub(crate) fn make_parts<M: Mediator + Drop>(
     ensures ready { IfOk result (λ parts. AreReady M.means parts) }
     ensures same { IfOk result (λ parts. parts.turns.mediator ≡ mediator) }
 {
-    let (iface, engine, taker) = Pipe::make(alloc)?;
     let text = Out::make(alloc, TURN_ROOM)?;
+    let (iface, engine, taker) = Pipe::make(alloc)?;
     Ok(MediatorParts {
         iface,
         engine,

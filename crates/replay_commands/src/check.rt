@@ -225,10 +225,12 @@ impl Checker {
         requires { IsProper settings.now }
         ensures { IfOk result (λ checker. IsUnread settings.now checker) }
     {
+        let due = ExpectedLines::make(alloc)?;
+        let core = Core::make(alloc, settings)?;
         Ok(Checker {
-            core: Core::make(alloc, settings)?,
+            core,
             stage: ScriptStage::Start,
-            due: ExpectedLines::make(alloc)?,
+            due,
             number: 0,
         })
     }
@@ -270,10 +272,9 @@ impl Audit {
         ensures checker { IfOk result (λ audit. IsUnread settings.now audit.checker) }
         ensures lines { IfOk result (λ audit. audit.lines ≡ empty_reader SCRIPT_LINE) }
     {
-        Ok(Audit {
-            checker: Checker::make(alloc, settings)?,
-            lines: Lines::make(alloc, SCRIPT_LINE)?,
-        })
+        let lines = Lines::make(alloc, SCRIPT_LINE)?;
+        let checker = Checker::make(alloc, settings)?;
+        Ok(Audit { checker, lines })
     }
 
     // Compares the input with the lawful script of its events.
@@ -304,7 +305,9 @@ fn make_check(alloc: Global, settings: &Settings) -> Result<(Audit, Out), NoMemo
     ensures lines { IfOk result (λ made. made.0.lines ≡ empty_reader SCRIPT_LINE) }
     ensures room { IfOk result (λ made. made.1 ≡ empty 80) }
 {
-    Ok((Audit::make(alloc, settings)?, Out::make(alloc, 80)?))
+    let line = Out::make(alloc, 80)?;
+    let audit = Audit::make(alloc, settings)?;
+    Ok((audit, line))
 }
 
 /// Compares the input with the lawful script of its events, and writes the verdict.

@@ -33,10 +33,9 @@ impl ScriptRun {
         ensures player { IfOk result (λ run. IsFresh settings.now run.player) }
         ensures lines { IfOk result (λ run. run.lines ≡ empty_reader SCRIPT_LINE) }
     {
-        Ok(ScriptRun {
-            player: Player::make(alloc, settings)?,
-            lines: Lines::make(alloc, SCRIPT_LINE)?,
-        })
+        let lines = Lines::make(alloc, SCRIPT_LINE)?;
+        let player = Player::make(alloc, settings)?;
+        Ok(ScriptRun { player, lines })
     }
 
     // Replays the input.

@@ -40,8 +40,8 @@ pub(crate) struct UpperReader {
 pub(crate) fn make_parts(alloc: Global, lives: u32) -> Result<MadeParts, NoMemory>
     ensures { IfOk result (IsMade lives) }
 {
-    let revival = Revival::make(alloc, lives)?;
     let text = Out::make(alloc, EVENT_ROOM)?;
+    let revival = Revival::make(alloc, lives)?;
     let (iface, to, from) = Pipe::make(alloc)?;
     Ok(MadeParts {
         revival,

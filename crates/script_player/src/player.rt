@@ -54,10 +54,12 @@ impl Player {
         requires { IsProper settings.now }
         ensures { IfOk result (λ player. IsFresh settings.now player) }
     {
+        let text = Out::make(alloc, TEXT_ROOM)?;
+        let core = Core::make(alloc, settings)?;
         Ok(Player {
-            core: Core::make(alloc, settings)?,
+            core,
             stage: ScriptStage::Start,
-            text: Out::make(alloc, TEXT_ROOM)?,
+            text,
         })
     }
 
