@@ -1,7 +1,6 @@
 // Both readers run beside the loop: the interface and the engine wait for one another, so a run
 // that reads one of them to its end before the other never ends.
 ghost use Rattle.std.specs.Prelude.{IfOk};
-ghost use Rattle.bridge_sessions.specs.Ready.{IsReady};
 ghost use Rattle.child_engine.specs.Memory.{books_of};
 ghost use Rattle.child_engine.specs.Hosts.{IsUnused};
 
@@ -49,18 +48,15 @@ fn make_streams(
     })
 }
 
-// Runs both pipes.
+// Runs both pipes. The session is made last, so that no early exit lets it go.
 fn run_both<R: Threads + Wait + Sync>(
     rt: &R,
     alloc: Global,
-    ready: ReadySession,
     interface: &mut Interface<PacedSource<'_>, MemSink>,
     streams: &mut HandedStreams<PacedSource<'_>, PacedLog<'_>, MemSink>,
-) -> Result<RunEnd, NoMemory>
-    requires { IsReady ready.session ready.text }
-{
+) -> Result<RunEnd, NoMemory> {
     let (iface, engine, taker) = Pipe::make(alloc)?;
-    let ReadySession { session, text } = ready;
+    let ReadySession { session, text } = make_ready(alloc)?;
     let parts = MediatorParts {
         iface,
         engine,
@@ -76,10 +72,9 @@ fn run_both<R: Threads + Wait + Sync>(
 #[test]
 fn readers_run_beside(rt: HostRuntime) {
     let orders = AtomicU64::new(0);
-    let ready = make_ready(rt.alloc()).expect(&rt, "memory for the core");
     let mut interface = make_interface(rt.alloc(), &orders).expect(&rt, "memory");
     let mut streams = make_streams(rt.alloc(), &orders).expect(&rt, "memory");
-    let end = run_both(&rt, rt.alloc(), ready, &mut interface, &mut streams).expect(&rt, "memory");
+    let end = run_both(&rt, rt.alloc(), &mut interface, &mut streams).expect(&rt, "memory");
     assert!(rt; end.iface == ReadEnd::Done && end.engine == ReadEnd::Done);
     assert!(rt; interface.input.missed().is_none() && streams.source.missed().is_none());
     assert!(rt; orders.load(Ordering::SeqCst) == ORDERS);

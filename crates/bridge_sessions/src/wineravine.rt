@@ -1,5 +1,4 @@
-// The program `wineravine`: its words, and each case of it over hosts in memory.
-mod cases;
+// The program `wineravine` over a host in memory. Its words and its other cases are tried on the built
+// program, by `scripts/dev/check_wineravine`.
 mod exact_log;
 mod texts;
-mod words;

@@ -1,17 +1,19 @@
 // The loop and both pipes over sources and sinks in memory.
-ghost use Rattle.std.specs.Prelude.{◌≡◌};
+ghost use Rattle.std.specs.Prelude.{◌≡◌, []};
+ghost use Rattle.event_pipe.specs.Ends.{IsSender, IsFreshTaker, events_sent};
 ghost use Rattle.runner_sessions.specs.Ready.{IsReady};
 
 use crate::expected::{expect_bytes, expect_true};
 use crate::streams::{letters_before, sink, source};
 use cecp_driver::Driver;
 use driver_runner::Driving;
-use event_pipe::{Pipe, PipeTake, ReadEnd, read_pipe};
+use event_pipe::{Pipe, PipeSend, PipeTake, ReadEnd, read_pipe};
 use line_io::{MemSink, Out};
 use mediator::{MediatorParts, RunEnd, TURN_ROOM, Turns, mediate, run_pipes};
 use sink_offers::{HandedStreams, Interface, LoopEnd};
 use std::alloc::Global;
 use std::process::Abort;
+use std::sync::Wait;
 
 const LOG: &[u8] = b"\
     x uci\n\
@@ -43,30 +45,74 @@ const NOTHING_FAILED: LoopEnd = LoopEnd {
     log: false,
 };
 
-// A line of 65,537 bytes, and two orders after it, which come before the engine's line. The
-// engine's second write fails, that of `quit`.
+/// The sinks of a loop.
+#[derive(Drop)]
+struct Sinks {
+    output: MemSink,
+    engine: MemSink,
+    log: Option<MemSink>,
+}
+
+// The engine's second write fails, that of `quit`.
+fn make_sinks(rt: &impl Abort, alloc: Global) -> Sinks {
+    Sinks {
+        output: sink(rt, alloc, 1_000, &[]),
+        engine: sink(rt, alloc, 1_000, &[2]),
+        log: Some(sink(rt, alloc, 1_000, &[])),
+    }
+}
+
+// Puts these lines into the channel.
+fn read_lines<R: Wait + Abort>(rt: &R, alloc: Global, lines: &[u8], to: &mut PipeSend)
+    requires sender { IsSender to.old }
+    requires fresh { events_sent to.old ≡ [] }
+{
+    let mut input = source(rt, alloc, lines, 7_000, &[]);
+    let _end = read_pipe(rt, alloc, &mut input, to);
+}
+
+// Runs the loop over what is in the channel.
+fn mediate_all<R: Wait + Abort>(
+    rt: &R,
+    alloc: Global,
+    taker: PipeTake,
+    sinks: &mut Sinks,
+) -> LoopEnd
+    requires taker { IsFreshTaker taker }
+{
+    let mut turns = make_turns(rt, alloc, taker);
+    mediate(
+        rt,
+        &mut turns,
+        b"",
+        &mut sinks.output,
+        &mut sinks.engine,
+        &mut sinks.log,
+    )
+}
+
+// Runs the loop over these lines of the interface, and a line of the engine behind them.
+fn run_loop<R: Wait + Abort>(rt: &R, alloc: Global, lines: &[u8], sinks: &mut Sinks) -> LoopEnd {
+    let (mut iface, mut child, taker) = Pipe::make(alloc).expect(rt, "memory for the channel");
+    read_lines(rt, alloc, lines, &mut iface);
+    read_lines(rt, alloc, b"feature ping=1\n", &mut child);
+    mediate_all(rt, alloc, taker, sinks)
+}
+
+// A line of 65,537 bytes, and two orders after it, which come before the engine's line.
 #[test]
 fn long_lines_are_passed_over(rt: HostRuntime) {
-    let alloc = rt.alloc();
-    let lines = letters_before(&rt, alloc, 65_537, b"\nuci\nisready\n");
-    let mut input = source(&rt, alloc, lines.as_slice(), 7_000, &[]);
-    let mut feature = source(&rt, alloc, b"feature ping=1\n", 7_000, &[]);
-    let (mut iface, mut child, taker) = Pipe::make(alloc).expect(&rt, "memory for the channel");
-    let _iface_end = read_pipe(&rt, alloc, &mut input, &mut iface);
-    let _engine_end = read_pipe(&rt, alloc, &mut feature, &mut child);
-    let mut turns = make_turns(&rt, alloc, taker);
-    let mut output = sink(&rt, alloc, 1_000, &[]);
-    let mut engine = sink(&rt, alloc, 1_000, &[2]);
-    let mut log = Some(sink(&rt, alloc, 1_000, &[]));
-    let end = mediate(&rt, &mut turns, b"", &mut output, &mut engine, &mut log);
+    let lines = letters_before(&rt, rt.alloc(), 65_537, b"\nuci\nisready\n");
+    let mut sinks = make_sinks(&rt, rt.alloc());
+    let end = run_loop(&rt, rt.alloc(), lines.as_slice(), &mut sinks);
     let wanted = LoopEnd {
         engine: true,
         ..NOTHING_FAILED
     };
     expect_true(&rt, "the engine's sink fails", end == wanted);
-    expect_bytes(&rt, "up", output.taken(), b"readyok\n");
-    expect_bytes(&rt, "down", engine.taken(), b"xboard\nprotover 2\n");
-    match &log {
+    expect_bytes(&rt, "up", sinks.output.taken(), b"readyok\n");
+    expect_bytes(&rt, "down", sinks.engine.taken(), b"xboard\nprotover 2\n");
+    match &sinks.log {
         Some(log) => expect_bytes(&rt, "the log", log.taken(), LOG),
         None => expect_true(&rt, "there is a log", false),
     }

@@ -1,0 +1,20 @@
+//! What no session of a program shows of the crates below the programs: the board and its texts, the protocols, the
+//! tables, the dialogue, scripts and logs; and their laws.
+#![tactic(auto)]
+
+#[cfg(test)]
+mod board;
+#[cfg(test)]
+mod dialogue;
+#[cfg(test)]
+mod expect;
+#[cfg(test)]
+mod grammar;
+#[cfg(test)]
+mod laws;
+#[cfg(test)]
+mod rows;
+#[cfg(test)]
+mod scripts;
+#[cfg(test)]
+mod tables;

@@ -1,0 +1,10 @@
+use lawful_talk::{logs_are_clean, scripts_are_clean};
+use policy_rules::Settings;
+use session_judge::crossings_are_the_difference;
+
+#[test]
+fn laws_can_be_called(_rt: HostRuntime) {
+    logs_are_clean(Settings::usual());
+    scripts_are_clean(Settings::usual());
+    crossings_are_the_difference();
+}

@@ -1,0 +1,178 @@
+// Options and orders up to their limits, which no worked session reaches.
+use crate::expect::{expect, expect_text, room};
+use cecp_lines::IfaceMsg;
+use option_map::{Declared, HeldOrders, Options};
+use std::process::Abort;
+use uci_lines::{EngineMsg, OptionKind, OptionMsg, read_engine};
+
+/// A line of an engine, and what comes of it.
+type Row = (&'static str, Declared);
+
+/// Of two reasons the first applies.
+const REASONS: [Row; 3] = [
+    (
+        "option name Hash type spin default 16 min 1 max 1024",
+        Declared::Done,
+    ),
+    ("option name hash type button", Declared::Double),
+    (
+        "option name Hash type string default \"",
+        Declared::Unshowable,
+    ),
+];
+
+/// Where the texts take all of their room.
+const FULL_TEXT: [Row; 3] = [
+    ("option name C type button", Declared::Full),
+    ("option name a type check", Declared::Double),
+    ("option name UCI_Chess960 type check", Declared::Done),
+];
+
+/// Where there are as many options as there may be.
+const FULL_TABLE: [Row; 2] = [
+    ("option name C type button", Declared::Full),
+    ("option name Aa type check", Declared::Double),
+];
+
+/// Declares what each line tells, and compares what comes of it.
+fn expect_told(rt: &impl Abort, rows: &[Row], options: &mut Options) {
+    for (line, want) in rows {
+        match read_engine(line.as_bytes()) {
+            EngineMsg::OptionLine(msg) => expect(rt, options.declare(&msg, false) == *want, line),
+            _ => panic!(rt; "no option: {line}"),
+        }
+    }
+}
+
+/// Declares an option, and expects how many there are then, and how long their texts are.
+fn expect_one(rt: &impl Abort, msg: &OptionMsg, count: usize, text: usize, options: &mut Options) {
+    let done = options.declare(msg, false) == Declared::Done;
+    assert!(rt;
+        done && options.count() == count && options.text() == text,
+        "{count} options"
+    );
+}
+
+#[test]
+fn declares_so_much_text(rt: HostRuntime) {
+    let mut reasons = Options::make(rt.alloc()).expect(&rt, "memory for the options");
+    expect_told(&rt, &REASONS, &mut reasons);
+    let letters = vec![in rt.alloc(); b'x'; 32_741].expect(&rt, "memory for the letters");
+    let mut options = Options::make(rt.alloc()).expect(&rt, "memory for the options");
+    let kind = OptionKind::Text { default: &letters };
+    expect_one(
+        &rt,
+        &OptionMsg { name: b"A", kind },
+        1,
+        32_768,
+        &mut options,
+    );
+    expect_one(
+        &rt,
+        &OptionMsg { name: b"B", kind },
+        2,
+        65_536,
+        &mut options,
+    );
+    expect_told(&rt, &FULL_TEXT, &mut options);
+}
+
+#[test]
+fn declares_so_many_options(rt: HostRuntime) {
+    let mut options = Options::make(rt.alloc()).expect(&rt, "memory for the options");
+    for first in b"abcdefghijklmnop" {
+        for second in b"ABCDEFGHIJKLMNOP" {
+            let msg = OptionMsg {
+                name: &[*first, *second],
+                kind: OptionKind::Button,
+            };
+            options.declare(&msg, false);
+        }
+    }
+    expect_told(&rt, &FULL_TABLE, &mut options);
+    // 27 bytes each
+    expect(
+        &rt,
+        options.count() == 256 && options.text() == 6_912,
+        "all",
+    );
+}
+
+/// Adds the order of a line, if it fits.
+fn add(held: &mut HeldOrders, line: &[u8]) -> bool {
+    if !held.fits(line) {
+        return false;
+    }
+    held.add(line);
+    true
+}
+
+/// Lines that spell no order.
+const NO_ORDERS: [&str; 5] = ["", "isready", "stop", "setoption", "hello"];
+
+/// Holds as many orders as there may be.
+fn fill_count(rt: &impl Abort, held: &mut HeldOrders) {
+    expect(rt, add(held, b"setoption name A value 1"), "first");
+    for _ in 0..255 {
+        expect(rt, add(held, b"setoption name B"), "further");
+    }
+    expect(rt, !held.fits(b"setoption name B"), "one more button");
+    let another = held.fits(b"setoption name C value 1");
+    expect(rt, !another, "one more value");
+    // One that takes the place of another fits.
+    expect(rt, add(held, b"setoption name A value 2"), "in its place");
+    expect(rt, held.count() == 256, "all");
+    held.clear();
+}
+
+/// Holds as many bytes as there may be: 65,535 and a line feed. The longer line has one more.
+fn fill_bytes(rt: &impl Abort, longer: &[u8], held: &mut HeldOrders) {
+    let (_, line) = longer.split_last().expect(rt, "a long line");
+    expect(rt, add(held, line), "a long one");
+    expect(rt, !held.fits(b"ucinewgame"), "another");
+    expect(rt, add(held, line), "in its own place");
+    expect(rt, held.count() == 1, "a long one");
+    expect(rt, !held.fits(longer), "a longer one");
+}
+
+/// What a line begins with that sets an option to a long value.
+const LONG: &[u8] = b"setoption name S value ";
+
+/// The letters of the longest value of an option named by one letter.
+const MOST: usize = 65_512;
+
+#[test]
+fn holds_so_many_orders(rt: HostRuntime) {
+    let mut longer = vec![in rt.alloc(); b'x'; LONG.len() + MOST + 1].expect(&rt, "memory");
+    longer[..LONG.len()].copy_from_slice(LONG);
+    let mut held = HeldOrders::make(rt.alloc()).expect(&rt, "memory");
+    for line in &NO_ORDERS {
+        expect(&rt, !held.fits(line.as_bytes()), line);
+    }
+    fill_count(&rt, &mut held);
+    fill_bytes(&rt, &longer, &mut held);
+}
+
+#[test]
+fn translates_a_line(rt: HostRuntime) {
+    let mut options = Options::make(rt.alloc()).expect(&rt, "memory for the options");
+    let msg = OptionMsg {
+        name: b"MultiPV",
+        kind: OptionKind::Button,
+    };
+    options.declare(&msg, false);
+    options.facts();
+    let asked = IfaceMsg::SetOption {
+        name: b"multipv",
+        value: None,
+    };
+    let mut out = room(&rt, rt.alloc(), 99);
+    if out.spare() >= 71 {
+        expect(
+            &rt,
+            options.translate(&asked, &mut out) == Ok(true),
+            "asked",
+        );
+    }
+    expect_text(&rt, out.bytes(), "setoption name MultiPV");
+}

@@ -1,8 +1,0 @@
-use lawful_talk::{logs_are_clean, scripts_are_clean};
-use policy_rules::Settings;
-
-#[test]
-fn laws_can_be_called(_rt: HostRuntime) {
-    logs_are_clean(Settings::usual());
-    scripts_are_clean(Settings::usual());
-}
