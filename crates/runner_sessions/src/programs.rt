@@ -1,12 +1,14 @@
 // The three programs.
 ghost use Rattle.child_engine.specs.Hosts.{IsUnused};
 
+use crate::streams::words_of;
 use child_engine::{Host, LetGo};
 use driver_runner::drive_main;
 use line_io::{MemSink, Source};
 use reviver_runner::revive_main;
 use sink_offers::Interface;
 use std::alloc::Global;
+use std::process::Abort;
 use std::sync::Wait;
 use std::thread::Threads;
 use tap_runner::tap_main;
@@ -18,8 +20,7 @@ pub enum Program {
     Tap,
 }
 
-/// Runs a program, and gives its status.
-pub fn status_of<I: Source + Send, O: LetGo + Send, H: Host + Send, R: Threads + Wait + Sync>(
+fn status_of<I: Source + Send, O: LetGo + Send, H: Host + Send, R: Threads + Wait + Sync>(
     rt: &R,
     alloc: Global,
     program: Program,
@@ -40,4 +41,29 @@ where
         Program::Tap => tap_main(rt, alloc, words, interface, host, diag),
     };
     status.code
+}
+
+/// Runs a program on the words between commas, and gives its status.
+pub fn run_program<
+    I: Source + Send,
+    O: LetGo + Send,
+    H: Host + Send,
+    R: Threads + Wait + Sync + Abort,
+>(
+    rt: &R,
+    alloc: Global,
+    program: Program,
+    words: &str,
+    interface: &mut Interface<I, O>,
+    host: &mut H,
+    diag: &mut MemSink,
+) -> u8
+where
+    H::EngineSource: Drop,
+    H::EngineSink: LetGo + Drop,
+    H::EngineProcess: Drop + Send,
+    requires { IsUnused (H.books host.old) }
+{
+    let words = words_of(rt, alloc, words);
+    status_of(rt, alloc, program, words.as_slice(), interface, host, diag)
 }

@@ -1,8 +1,11 @@
 // Whole runs of a program over a host in memory, whose engine waits for the log.
+ghost use Rattle.child_engine.specs.Hosts.{IsUnused};
+ghost use Rattle.child_engine.specs.Memory.{books_of};
+
 use crate::expected::{expect_bytes, expect_true};
-use crate::programs::{Program, status_of};
+use crate::programs::{Program, run_program};
 use crate::rows::{cut, three_of};
-use crate::streams::{sink, words_of};
+use crate::streams::sink;
 use child_engine::{Fails, MemHost};
 use paced_host::{DueText, PacedHost, PacedTexts};
 use sink_offers::Interface;
@@ -31,18 +34,25 @@ pub struct WholeLog {
     pub text: &'static [u8],
 }
 
+// The first call, if it is the one that fails.
+fn first_if(fails: bool) -> &'static [u64] {
+    if fails { &[1] } else { &[] }
+}
+
 // The call that fails; of reads and writes the first one.
-fn fails_named(rt: &impl Abort, call: &str) -> Fails<'static> {
-    let mut fails = Fails::default();
-    match call {
-        "start" => fails.start = true,
-        "log" => fails.log = true,
-        "wait" => fails.wait = true,
-        "read" => fails.reads = &[1],
-        "write" => fails.writes = &[1],
-        _ => expect_true(rt, call, call.is_empty()),
+fn fails_named(call: &str) -> Fails<'static> {
+    Fails {
+        start: call == "start",
+        log: call == "log",
+        wait: call == "wait",
+        reads: first_if(call == "read"),
+        writes: first_if(call == "write"),
+        logs: &[],
     }
-    fails
+}
+
+fn does_one_fail(fails: &Fails) -> bool {
+    fails.start || fails.log || fails.wait || !fails.reads.is_empty() || !fails.writes.is_empty()
 }
 
 // Compares a sink with a field, in which a star stands for anything.
@@ -57,8 +67,84 @@ fn expect_status(rt: &impl Abort, row: &str, found: u8, field: &str) {
     expect_true(rt, row, found == wanted);
 }
 
-/// Runs a program on a row: a name, the words between commas, the call that fails, the status, the
-/// output and the diagnostic. It gives the host, which shows the log.
+/// A row: its whole text, the words between commas, the call that fails, the status, the output and
+/// the diagnostic.
+#[derive(Clone, Copy)]
+struct RunRow<'a> {
+    text: &'a str,
+    words: &'a str,
+    call: &'a str,
+    code: &'a str,
+    output: &'a str,
+    told: &'a str,
+}
+
+// The fields of a row, of which a name is the first.
+fn read_row(text: &str) -> RunRow<'_> {
+    let (_, words, others) = three_of(text);
+    let (call, code, texts) = three_of(others);
+    let (output, told) = cut(texts);
+    RunRow {
+        text,
+        words,
+        call,
+        code,
+        output,
+        told,
+    }
+}
+
+fn make_host<'a>(
+    rt: &impl Abort,
+    alloc: Global,
+    peers: &Peers,
+    row: &RunRow,
+    lines: &'a AtomicU64,
+) -> PacedHost<'a>
+    ensures { IsUnused (books_of result.host) }
+{
+    expect_true(rt, row.text, peers.piece > 0);
+    let fails = fails_named(row.call);
+    let is_known = row.call.is_empty() || does_one_fail(&fails);
+    expect_true(rt, row.call, is_known);
+    let host = MemHost::make(alloc, peers.engine, peers.piece, 1_000, &fails).expect(
+        rt,
+        "memory for a host",
+    );
+    PacedHost::new(alloc, host, lines, peers.reads)
+}
+
+// Runs a program on a row over a host that was not used, and compares what it answers and writes.
+fn expect_run<'a, R: Threads + Wait + Sync + Abort>(
+    rt: &R,
+    alloc: Global,
+    peers: &Peers,
+    row: &RunRow,
+    lines: &'a AtomicU64,
+    host: &mut PacedHost<'a>,
+)
+    requires { IsUnused (books_of host.old.host) }
+{
+    let mut interface = Interface {
+        input: PacedTexts::new(lines, peers.iface),
+        output: sink(rt, alloc, 1_000, &[]),
+    };
+    let mut diag = sink(rt, alloc, 1_000, &[]);
+    let status = run_program(
+        rt,
+        alloc,
+        peers.program,
+        row.words,
+        &mut interface,
+        host,
+        &mut diag,
+    );
+    expect_status(rt, row.text, status, row.code);
+    expect_field(rt, row.text, interface.output.taken(), row.output);
+    expect_field(rt, row.text, diag.taken(), row.told);
+}
+
+/// Runs a program on a row, and gives the host, which shows the log.
 fn run_row<'a, R: Threads + Wait + Sync + Abort>(
     rt: &R,
     alloc: Global,
@@ -66,34 +152,9 @@ fn run_row<'a, R: Threads + Wait + Sync + Abort>(
     row: &str,
     lines: &'a AtomicU64,
 ) -> PacedHost<'a> {
-    let (_, words, others) = three_of(row);
-    let (call, code, texts) = three_of(others);
-    let (output, told) = cut(texts);
-    let words = words_of(rt, alloc, words);
-    expect_true(rt, row, peers.piece > 0);
-    let fails = fails_named(rt, call);
-    let host = MemHost::make(alloc, peers.engine, peers.piece, 1_000, &fails).expect(
-        rt,
-        "memory for a host",
-    );
-    let mut host = PacedHost::new(alloc, host, lines, peers.reads);
-    let mut interface = Interface {
-        input: PacedTexts::new(lines, peers.iface),
-        output: sink(rt, alloc, 1_000, &[]),
-    };
-    let mut diag = sink(rt, alloc, 1_000, &[]);
-    let status = status_of(
-        rt,
-        alloc,
-        peers.program,
-        words.as_slice(),
-        &mut interface,
-        &mut host,
-        &mut diag,
-    );
-    expect_status(rt, row, status, code);
-    expect_field(rt, row, interface.output.taken(), output);
-    expect_field(rt, row, diag.taken(), told);
+    let row = read_row(row);
+    let mut host = make_host(rt, alloc, peers, &row, lines);
+    expect_run(rt, alloc, peers, &row, lines, &mut host);
     host
 }
 
@@ -110,6 +171,13 @@ pub fn expect_runs<R: Threads + Wait + Sync + Abort>(
     }
 }
 
+// Whether a host has this log alone, and was asked for so many engines of one argument.
+fn expect_kept(rt: &impl Abort, row: &str, host: &PacedHost, log: &WholeLog) {
+    expect_bytes(rt, row, host.logged(), log.text);
+    let was_asked = host.was_asked_for(log.engines, &["engine", "-x y"], log.name);
+    expect_true(rt, row, was_asked);
+}
+
 /// Runs a program on a row whose engine has one argument, and compares the only log that it can
 /// leave.
 pub fn expect_log<R: Threads + Wait + Sync + Abort>(
@@ -121,7 +189,5 @@ pub fn expect_log<R: Threads + Wait + Sync + Abort>(
 ) {
     let lines = AtomicU64::new(0);
     let host = run_row(rt, alloc, peers, row, &lines);
-    expect_bytes(rt, row, host.logged(), log.text);
-    let was_asked = host.was_asked_for(log.engines, &["engine", "-x y"], log.name);
-    expect_true(rt, row, was_asked);
+    expect_kept(rt, row, &host, log);
 }

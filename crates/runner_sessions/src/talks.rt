@@ -1,9 +1,13 @@
 // Whole runs of a program whose interface and engines wait for one another: a program that reads
 // one of them to its end before the other never ends.
+ghost use Rattle.std.specs.Prelude.{◌≡◌, None, false};
+ghost use Rattle.child_engine.specs.Hosts.{unused_books};
+ghost use Rattle.runner_sessions.specs.Talking.{books_with};
+
 use crate::expected::{expect_bytes, expect_true};
 use crate::paced_sink::PacedSink;
-use crate::programs::{Program, status_of};
-use crate::streams::{sink, words_of};
+use crate::programs::{Program, run_program};
+use crate::streams::sink;
 use crate::talking_host::TalkingHost;
 use paced_host::{DueText, PacedTexts};
 use sink_offers::Interface;
@@ -29,25 +33,38 @@ pub struct Talk {
     pub log: &'static [u8],
 }
 
-pub fn expect_talk<R: Threads + Wait + Sync + Abort>(rt: &R, alloc: Global, talk: &Talk) {
-    let written = AtomicU64::new(0);
-    let words = words_of(rt, alloc, talk.words);
-    let mut host = TalkingHost::new(alloc, &written, talk.lives, talk.mark);
-    let mut interface = Interface {
-        input: PacedTexts::new(&written, talk.iface),
-        output: PacedSink::ready(alloc, &written, b"\n"),
-    };
+// Runs a program between peers that are made for a talk, and compares what it answers and writes.
+fn expect_told<'a, R: Threads + Wait + Sync + Abort>(
+    rt: &R,
+    alloc: Global,
+    talk: &Talk,
+    interface: &mut Interface<PacedTexts<'a>, PacedSink<'a>>,
+    host: &mut TalkingHost<'a>,
+)
+    requires { books_with host.old.runs_out host.old.logs_out host.old.runs_closed
+        host.old.logs_closed ≡ unused_books None false }
+{
     let mut diag = sink(rt, alloc, 1_000, &[]);
-    let status = status_of(
+    let status = run_program(
         rt,
         alloc,
         talk.program,
-        words.as_slice(),
-        &mut interface,
-        &mut host,
+        talk.words,
+        interface,
+        host,
         &mut diag,
     );
     expect_true(rt, talk.name, status == talk.code);
     expect_bytes(rt, talk.name, diag.taken(), talk.diag);
     expect_bytes(rt, talk.name, host.logged(), talk.log);
+}
+
+pub fn expect_talk<R: Threads + Wait + Sync + Abort>(rt: &R, alloc: Global, talk: &Talk) {
+    let written = AtomicU64::new(0);
+    let mut host = TalkingHost::new(alloc, &written, talk.lives, talk.mark);
+    let mut interface = Interface {
+        input: PacedTexts::new(&written, talk.iface),
+        output: PacedSink::ready(alloc, &written, b"\n"),
+    };
+    expect_told(rt, alloc, talk, &mut interface, &mut host);
 }

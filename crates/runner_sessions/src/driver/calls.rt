@@ -115,21 +115,22 @@ fn takes_end(driver: &mut Driver) -> bool {
     true
 }
 
+// An order, the end of the engine, and an order after it.
+fn expect_taken(rt: &impl Abort, driver: &mut Driver, text: &mut Out) {
+    expect_true(rt, "uci", plays_line(driver, b"uci", text));
+    let marks = b"x uci\nU xboard\nU protover 2\n".as_slice();
+    expect_bytes(rt, "the marks of uci", text.bytes(), marks);
+    expect_true(rt, "an end", takes_end(driver));
+    expect_true(rt, "a second end", !takes_end(driver));
+    expect_true(rt, "a long line", !driver.may_come(&Event::IfaceLong));
+    expect_true(rt, "isready", plays_line(driver, b"isready", text));
+    expect_bytes(rt, "the answer", driver.lines().up, b"readyok\n");
+}
+
 fn expect_events(rt: &impl Abort, alloc: Global) {
     let mut driver = Driver::make(alloc).expect(rt, "memory for the driver");
     let mut text = Out::make(alloc, 2 * EVENT_ROOM).expect(rt, "memory for the marks");
-    expect_true(rt, "uci", plays_line(&mut driver, b"uci", &mut text));
-    let marks = b"x uci\nU xboard\nU protover 2\n".as_slice();
-    expect_bytes(rt, "the marks of uci", text.bytes(), marks);
-    expect_true(rt, "an end", takes_end(&mut driver));
-    expect_true(rt, "a second end", !takes_end(&mut driver));
-    expect_true(rt, "a long line", !driver.may_come(&Event::IfaceLong));
-    expect_true(
-        rt,
-        "isready",
-        plays_line(&mut driver, b"isready", &mut text),
-    );
-    expect_bytes(rt, "the answer", driver.lines().up, b"readyok\n");
+    expect_taken(rt, &mut driver, &mut text);
 }
 
 fn expect_marks(rt: &impl Abort, alloc: Global) {

@@ -1,6 +1,8 @@
 // The loop and both pipes over sources and sinks in memory.
 ghost use Rattle.std.specs.Prelude.{◌≡◌, []};
 ghost use Rattle.event_pipe.specs.Ends.{IsSender, IsFreshTaker, events_sent};
+ghost use Rattle.mediator.specs.Ran.{AreReady};
+ghost use Rattle.driver_runner.specs.Drives.{drives};
 ghost use Rattle.runner_sessions.specs.Ready.{IsReady};
 
 use crate::expected::{expect_bytes, expect_true};
@@ -8,12 +10,13 @@ use crate::streams::{letters_before, sink, source};
 use cecp_driver::Driver;
 use driver_runner::Driving;
 use event_pipe::{Pipe, PipeSend, PipeTake, ReadEnd, read_pipe};
-use line_io::{MemSink, Out};
+use line_io::{MemSink, MemSource, Out};
 use mediator::{MediatorParts, RunEnd, TURN_ROOM, Turns, mediate, run_pipes};
 use sink_offers::{HandedStreams, Interface, LoopEnd};
 use std::alloc::Global;
 use std::process::Abort;
 use std::sync::Wait;
+use std::thread::Threads;
 
 const LOG: &[u8] = b"\
     x uci\n\
@@ -31,11 +34,12 @@ fn make_turns(rt: &impl Abort, alloc: Global, taker: PipeTake) -> Turns<Driving>
     ensures taker { result.taker ≡ taker }
     ensures ready { IsReady result.mediator result.text }
 {
+    let text = Out::make(alloc, TURN_ROOM).expect(rt, "memory for the marks");
     let driver = Driver::make(alloc).expect(rt, "memory for the driver");
     Turns {
         mediator: Driving { driver },
         taker,
-        text: Out::make(alloc, TURN_ROOM).expect(rt, "memory for the marks"),
+        text,
     }
 }
 
@@ -63,12 +67,13 @@ fn make_sinks(rt: &impl Abort, alloc: Global) -> Sinks {
 }
 
 // Puts these lines into the channel.
-fn read_lines<R: Wait + Abort>(rt: &R, alloc: Global, lines: &[u8], to: &mut PipeSend)
-    requires sender { IsSender to.old }
-    requires fresh { events_sent to.old ≡ [] }
+fn read_lines<R: Wait + Abort>(rt: &R, alloc: Global, lines: &[u8], to: PipeSend)
+    requires sender { IsSender to }
+    requires fresh { events_sent to ≡ [] }
 {
+    let mut to = to;
     let mut input = source(rt, alloc, lines, 7_000, &[]);
-    let _end = read_pipe(rt, alloc, &mut input, to);
+    let _end = read_pipe(rt, alloc, &mut input, &mut to);
 }
 
 // Runs the loop over what is in the channel.
@@ -93,9 +98,9 @@ fn mediate_all<R: Wait + Abort>(
 
 // Runs the loop over these lines of the interface, and a line of the engine behind them.
 fn run_loop<R: Wait + Abort>(rt: &R, alloc: Global, lines: &[u8], sinks: &mut Sinks) -> LoopEnd {
-    let (mut iface, mut child, taker) = Pipe::make(alloc).expect(rt, "memory for the channel");
-    read_lines(rt, alloc, lines, &mut iface);
-    read_lines(rt, alloc, b"feature ping=1\n", &mut child);
+    let (iface, child, taker) = Pipe::make(alloc).expect(rt, "memory for the channel");
+    read_lines(rt, alloc, lines, iface);
+    read_lines(rt, alloc, b"feature ping=1\n", child);
     mediate_all(rt, alloc, taker, sinks)
 }
 
@@ -118,30 +123,46 @@ fn long_lines_are_passed_over(rt: HostRuntime) {
     }
 }
 
+// What a run of both pipes needs.
+fn make_parts(rt: &impl Abort, alloc: Global) -> MediatorParts<Driving>
+    ensures { AreReady drives result }
+{
+    let (iface, engine, taker) = Pipe::make(alloc).expect(rt, "memory for the channel");
+    MediatorParts {
+        iface,
+        engine,
+        turns: make_turns(rt, alloc, taker),
+    }
+}
+
+// Runs both pipes between these streams.
+fn run_both<R: Threads + Wait + Sync + Abort>(
+    rt: &R,
+    alloc: Global,
+    interface: &mut Interface<MemSource, MemSink>,
+    handed: &mut HandedStreams<MemSource, MemSink, MemSink>,
+) -> RunEnd {
+    let parts = make_parts(rt, alloc);
+    run_pipes(rt, alloc, parts, b"", interface, handed).end
+}
+
 #[test]
 fn both_pipes_are_read(rt: HostRuntime) {
     let alloc = rt.alloc();
-    let (iface, engine, taker) = Pipe::make(alloc).expect(&rt, "memory for the channel");
-    let parts = MediatorParts {
-        iface,
-        engine,
-        turns: make_turns(&rt, alloc, taker),
-    };
     let mut interface = Interface {
         input: source(&rt, alloc, b"uci\nquit\n", 3, &[]),
         output: sink(&rt, alloc, 1_000, &[]),
     };
-    let log: Option<MemSink> = None;
     let mut handed = HandedStreams {
         source: source(&rt, alloc, b"", 3, &[]),
         engine: sink(&rt, alloc, 1_000, &[]),
-        log,
+        log: None,
     };
-    let run = run_pipes(&rt, alloc, parts, b"", &mut interface, &mut handed);
+    let end = run_both(&rt, alloc, &mut interface, &mut handed);
     let wanted = RunEnd {
         iface: ReadEnd::Done,
         engine: ReadEnd::Done,
         done: NOTHING_FAILED,
     };
-    expect_true(&rt, "both are read", run.end == wanted);
+    expect_true(&rt, "both are read", end == wanted);
 }

@@ -1,6 +1,5 @@
 // Searches, call by call.
 use crate::expected::expect_true;
-use crate::rows::three_of;
 use chess_board::{Move, Square};
 use driver_talk::{
     BoardChange, DriverCall, DriverDeed, DriverTalk, GoClocks, Reach, ToEngine, ToIface,
@@ -25,121 +24,166 @@ const A1B1: Move = Move {
     promotion: None,
 };
 
-fn search(kind: GoKind) -> DriverCall {
-    DriverCall::Go(WantedSearch {
-        kind,
-        clocks: CLOCKS,
-        first: Some(A1B1),
-        reach: Reach::Analyse,
-    })
+/// A call, what is done for it, and whether a `go` is accepted then.
+#[derive(Clone, Copy)]
+struct Turn {
+    name: &'static str,
+    call: DriverCall,
+    deed: DriverDeed,
+    is_free: bool,
 }
 
-fn call_named(rt: &impl Abort, name: &str) -> DriverCall {
-    match name {
-        "uci" => DriverCall::Uci,
-        "go" => search(GoKind::Move),
-        "go ponder" => search(GoKind::Ponder),
-        "ponderhit" => DriverCall::PonderHit,
-        "move a1b1" => DriverCall::Moved(Some(A1B1)),
-        "pong 1" => DriverCall::Pong(1),
-        "resign" => DriverCall::Resigned,
-        _ => {
-            expect_true(rt, name, name == "stop");
-            DriverCall::Stop
-        }
-    }
-}
+const QUIET: DriverDeed = DriverDeed {
+    up: ToIface::Nothing,
+    down: ToEngine::Nothing,
+    board: BoardChange::Same,
+};
 
-fn up_named(rt: &impl Abort, name: &str) -> ToIface {
-    match name {
-        "best a1b1" => ToIface::Best(Some(A1B1)),
-        "best none" => ToIface::Best(None),
-        _ => {
-            expect_true(rt, name, name.is_empty());
-            ToIface::Nothing
-        }
-    }
-}
+const GO: WantedSearch = WantedSearch {
+    kind: GoKind::Move,
+    clocks: CLOCKS,
+    first: Some(A1B1),
+    reach: Reach::Analyse,
+};
 
-fn down_named(rt: &impl Abort, name: &str) -> ToEngine {
-    match name {
-        "greeting" => ToEngine::Greeting,
-        "analyse" => ToEngine::Analyse {
-            clocks: CLOCKS,
-            ping: None,
+const GO_PONDER: WantedSearch = WantedSearch {
+    kind: GoKind::Ponder,
+    ..GO
+};
+
+const PONDERED: [Turn; 6] = [
+    Turn {
+        name: "uci greets the engine",
+        call: DriverCall::Uci,
+        deed: DriverDeed {
+            down: ToEngine::Greeting,
+            ..QUIET
         },
-        "leave 1" => ToEngine::Leave { ping: 1 },
-        "resume" => ToEngine::Resume { clocks: CLOCKS },
-        "play" => ToEngine::Play {
-            clocks: CLOCKS,
-            hurried: false,
+        is_free: true,
+    },
+    Turn {
+        name: "go ponder has it analyse",
+        call: DriverCall::Go(GO_PONDER),
+        deed: DriverDeed {
+            down: ToEngine::Analyse {
+                clocks: CLOCKS,
+                ping: None,
+            },
+            ..QUIET
         },
-        "hurry" => ToEngine::Play {
-            clocks: CLOCKS,
-            hurried: true,
+        is_free: false,
+    },
+    Turn {
+        name: "ponderhit has it leave the analysis",
+        call: DriverCall::PonderHit,
+        deed: DriverDeed {
+            down: ToEngine::Leave { ping: 1 },
+            ..QUIET
         },
-        "retreat 1" => ToEngine::Retreat { ping: 1 },
-        _ => {
-            expect_true(rt, name, name.is_empty());
-            ToEngine::Nothing
-        }
-    }
+        is_free: false,
+    },
+    Turn {
+        name: "a move before its pong is passed over",
+        call: DriverCall::Moved(Some(A1B1)),
+        deed: QUIET,
+        is_free: false,
+    },
+    Turn {
+        name: "its pong has it think",
+        call: DriverCall::Pong(1),
+        deed: DriverDeed {
+            down: ToEngine::Resume { clocks: CLOCKS },
+            ..QUIET
+        },
+        is_free: false,
+    },
+    Turn {
+        name: "its move is the best one",
+        call: DriverCall::Moved(Some(A1B1)),
+        deed: DriverDeed {
+            up: ToIface::Best(Some(A1B1)),
+            board: BoardChange::Moved(A1B1),
+            ..QUIET
+        },
+        is_free: true,
+    },
+];
+
+const RESIGNED: [Turn; 6] = [
+    Turn {
+        name: "uci greets an engine that will resign",
+        call: DriverCall::Uci,
+        deed: DriverDeed {
+            down: ToEngine::Greeting,
+            ..QUIET
+        },
+        is_free: true,
+    },
+    Turn {
+        name: "go has it play",
+        call: DriverCall::Go(GO),
+        deed: DriverDeed {
+            down: ToEngine::Play {
+                clocks: CLOCKS,
+                hurried: false,
+            },
+            ..QUIET
+        },
+        is_free: false,
+    },
+    Turn {
+        name: "it resigns: there is no best move, and it retreats",
+        call: DriverCall::Resigned,
+        deed: DriverDeed {
+            up: ToIface::Best(None),
+            down: ToEngine::Retreat { ping: 1 },
+            board: BoardChange::Lost,
+        },
+        is_free: true,
+    },
+    Turn {
+        name: "go before its pong waits",
+        call: DriverCall::Go(GO),
+        deed: QUIET,
+        is_free: false,
+    },
+    Turn {
+        name: "stop before its pong waits too",
+        call: DriverCall::Stop,
+        deed: QUIET,
+        is_free: false,
+    },
+    Turn {
+        name: "its pong has it play in a hurry",
+        call: DriverCall::Pong(1),
+        deed: DriverDeed {
+            down: ToEngine::Play {
+                clocks: CLOCKS,
+                hurried: true,
+            },
+            ..QUIET
+        },
+        is_free: false,
+    },
+];
+
+// Plays a turn, and gives what it leads to.
+fn played(rt: &impl Abort, talk: DriverTalk, turn: &Turn) -> DriverTalk {
+    let found = talk.step(turn.call);
+    expect_true(rt, turn.name, found.deed == turn.deed);
+    expect_true(rt, turn.name, found.talk.is_free() == turn.is_free);
+    found.talk
 }
 
-fn board_named(rt: &impl Abort, name: &str) -> BoardChange {
-    match name {
-        "moved a1b1" => BoardChange::Moved(A1B1),
-        "lost" => BoardChange::Lost,
-        _ => {
-            expect_true(rt, name, name == "same");
-            BoardChange::Same
-        }
-    }
-}
-
-// A call, what goes up and to the engine, what becomes of the engine's game, and whether a `go` is
-// accepted then.
-const PONDERED: &str = "\
-    uci||greeting|same|free;\
-    go ponder||analyse|same|busy;\
-    ponderhit||leave 1|same|busy;\
-    move a1b1|||same|busy;\
-    pong 1||resume|same|busy;\
-    move a1b1|best a1b1||moved a1b1|free";
-
-const RESIGNED: &str = "\
-    uci||greeting|same|free;\
-    go||play|same|busy;\
-    resign|best none|retreat 1|lost|free;\
-    go|||same|busy;\
-    stop|||same|busy;\
-    pong 1||hurry|same|busy";
-
-// Plays a row, and gives what it leads to.
-fn played(rt: &impl Abort, talk: &DriverTalk, row: &str) -> DriverTalk {
-    let (call, up, others) = three_of(row);
-    let (down, board, is_free) = three_of(others);
-    let turn = talk.step(call_named(rt, call));
-    let deed = DriverDeed {
-        up: up_named(rt, up),
-        down: down_named(rt, down),
-        board: board_named(rt, board),
-    };
-    expect_true(rt, row, turn.deed == deed);
-    let found = if turn.talk.is_free() { "free" } else { "busy" };
-    expect_true(rt, row, found == is_free);
-    turn.talk
-}
-
-fn expect_turns(rt: &impl Abort, rows: &str) {
+fn expect_turns(rt: &impl Abort, turns: &[Turn]) {
     let mut talk = DriverTalk::new();
-    for row in rows.split(';') {
-        talk = played(rt, &talk, row);
+    for turn in turns {
+        talk = played(rt, talk, turn);
     }
 }
 
 #[test]
 fn searches_are_answered(rt: HostRuntime) {
-    expect_turns(&rt, PONDERED);
-    expect_turns(&rt, RESIGNED);
+    expect_turns(&rt, &PONDERED);
+    expect_turns(&rt, &RESIGNED);
 }

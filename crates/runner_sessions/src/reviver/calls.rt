@@ -27,7 +27,7 @@ fn is_button(line: &[u8]) -> bool {
     )
 }
 
-// The marks of an event, and an event that is played.
+// The marks of an event.
 fn expect_marks(rt: &impl Abort, alloc: Global) {
     let mut text = Out::make(alloc, EVENT_ROOM).expect(rt, "memory for the marks");
     let both = RevivalStep {
@@ -39,13 +39,18 @@ fn expect_marks(rt: &impl Abort, alloc: Global) {
     expect_bytes(rt, "marks", text.bytes(), marks);
 }
 
-fn expect_played(rt: &impl Abort, alloc: Global) {
-    let mut revival = Revival::make(alloc, 1).expect(rt, "memory for the revival");
+// An event that is played.
+fn expect_event(rt: &impl Abort, alloc: Global, revival: &mut Revival) {
     let mut text = Out::make(alloc, EVENT_ROOM).expect(rt, "memory for the marks");
     let event = Event::EngineLong;
     expect_true(rt, "may happen", revival.may_happen(&event));
     revival.play(&event, &mut text);
     expect_bytes(rt, "an event", text.bytes(), b"u!\n");
+}
+
+fn expect_played(rt: &impl Abort, alloc: Global) {
+    let mut revival = Revival::make(alloc, 1).expect(rt, "memory for the revival");
+    expect_event(rt, alloc, &mut revival);
 }
 
 #[test]

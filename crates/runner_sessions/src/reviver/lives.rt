@@ -1,13 +1,16 @@
 // Lives over the channel.
-ghost use Rattle.std.specs.Prelude.{◌≡◌, ◌≤◌, true};
+ghost use Rattle.std.specs.Prelude.{◌≡◌, ◌≤◌, [], true, false};
 ghost use Rattle.engine_revival.specs.Steps.{is_alive};
 ghost use Rattle.engine_revival.specs.declared.script.TheConstants.{EVENT_ROOM};
-ghost use Rattle.event_pipe.specs.Ends.{IsTaker, KeepsTaker};
+ghost use Rattle.event_pipe.specs.Ends.{IsSender, IsTaker, KeepsSender, KeepsTaker, events_sent};
+ghost use Rattle.event_pipe.specs.Rule.{has_last_event};
+ghost use Rattle.event_pipe.specs.declared.message.Peer.TheVariants as peers;
+ghost use Rattle.life_runner.specs.Looped.{IsReadyLoop, KeepsLoop};
 
 use crate::expected::{expect_bytes, expect_true};
 use crate::streams::{letters_before, sink, source};
 use engine_revival::{EVENT_ROOM, Revival};
-use event_pipe::{Pipe, PipeTake, ReadEnd, read_pipe};
+use event_pipe::{Pipe, PipeSend, PipeTake, ReadEnd, read_pipe};
 use life_runner::{LifeRun, MarkedLog, RevivalLoop, one_life, read_life};
 use line_io::{Event, MemSink, MemSource, Out};
 use sink_offers::LoopEnd;
@@ -25,19 +28,38 @@ fn expect_event<R: Wait + Abort>(rt: &R, from: &mut PipeTake, wanted: &Event)
     expect_true(rt, "an event", sent.event() == *wanted);
 }
 
-// A line of 65,537 bytes, a short one and one with no end.
+// Reads a line of 65,537 bytes, a short one and one with no end.
+fn expect_lines<R: Wait + Abort>(rt: &R, alloc: Global, to: &mut PipeSend)
+    requires sender { IsSender to.old }
+    requires engine { to.old.peer ≡ peers.Engine }
+    requires going { has_last_event (events_sent to.old) ≡ false }
+    ensures { KeepsSender to.old to.new }
+{
+    let lines = letters_before(rt, alloc, 65_537, b"\nuciok\nbest");
+    let mut source = source(rt, alloc, lines.as_slice(), 5_000, &[]);
+    let end = read_life(rt, alloc, &mut source, to);
+    expect_true(rt, "the lines are read", end == ReadEnd::Done);
+}
+
 #[test]
 fn a_life_is_read_to_its_end(rt: HostRuntime) {
     let alloc = rt.alloc();
-    let lines = letters_before(&rt, alloc, 65_537, b"\nuciok\nbest");
-    let mut source = source(&rt, alloc, lines.as_slice(), 5_000, &[]);
     let (iface, mut child, mut taker) = Pipe::make(alloc).expect(&rt, "memory for the channel");
-    let end = read_life(&rt, alloc, &mut source, &mut child);
-    expect_true(&rt, "the lines are read", end == ReadEnd::Done);
+    expect_lines(&rt, alloc, &mut child);
     expect_event(&rt, &mut taker, &Event::Engine(b"uciok"));
     expect_event(&rt, &mut taker, &Event::Engine(b"best"));
     expect_event(&rt, &mut taker, &Event::EngineLong);
     Pipe::finish(iface, child, taker);
+}
+
+// A log, and the room for the marks of an event.
+fn make_marks(rt: &impl Abort, alloc: Global) -> MarkedLog<MemSink>
+    ensures { EVENT_ROOM ≤ result.text.room }
+{
+    MarkedLog {
+        log: Some(sink(rt, alloc, 1_000, &[])),
+        text: Out::make(alloc, EVENT_ROOM).expect(rt, "memory for the marks"),
+    }
 }
 
 // A revival before its first order.
@@ -46,13 +68,11 @@ fn make_loop(rt: &impl Abort, alloc: Global, from: PipeTake) -> RevivalLoop<MemS
     ensures alive { is_alive result.revival.state.life ≡ true }
     ensures room { EVENT_ROOM ≤ result.marks.text.room }
 {
+    let marks = make_marks(rt, alloc);
     RevivalLoop {
         revival: Revival::make(alloc, 1).expect(rt, "memory for the revival"),
         from,
-        marks: MarkedLog {
-            log: Some(sink(rt, alloc, 1_000, &[])),
-            text: Out::make(alloc, EVENT_ROOM).expect(rt, "memory for the marks"),
-        },
+        marks,
         failed: LoopEnd {
             output: false,
             engine: false,
@@ -70,7 +90,46 @@ fn expect_log(rt: &impl Abort, log: &Option<MemSink>) {
     }
 }
 
-// Runs a life to its end, and compares what is written. The end of the interface is `quit`.
+// Runs a life to its end, and compares what becomes of the revival and of the log. The end of the
+// interface is `quit`.
+fn expect_heard<R: Threads + Wait + Sync + Abort>(
+    rt: &R,
+    alloc: Global,
+    looping: &mut RevivalLoop<MemSink>,
+    to: &mut PipeSend,
+    run: &mut LifeRun<MemSource, MemSink>,
+    output: &mut MemSink,
+)
+    requires alive { is_alive looping.old.revival.state.life ≡ true }
+    requires ready { IsReadyLoop looping.old }
+    requires sender { IsSender to.old }
+    requires engine { to.old.peer ≡ peers.Engine }
+    requires going { has_last_event (events_sent to.old) ≡ false }
+    ensures sender { KeepsSender to.old to.new }
+    ensures keeps { KeepsLoop looping.old looping.new }
+{
+    let end = one_life(rt, alloc, looping, to, run, output);
+    expect_true(rt, "the engine is read", end == ReadEnd::Done);
+    expect_true(rt, "it has quit", looping.revival.has_quit());
+    expect_log(rt, &looping.marks.log);
+}
+
+// Reads what the interface says.
+fn expect_interface<R: Wait + Abort>(
+    rt: &R,
+    alloc: Global,
+    input: &mut MemSource,
+    to: &mut PipeSend,
+)
+    requires sender { IsSender to.old }
+    requires fresh { events_sent to.old ≡ [] }
+    ensures { KeepsSender to.old to.new }
+{
+    let end = read_pipe(rt, alloc, input, to);
+    expect_true(rt, "the interface is read", end == ReadEnd::Done);
+}
+
+// A revival hears what the interface says, and a life.
 fn expect_life<R: Threads + Wait + Sync + Abort>(
     rt: &R,
     alloc: Global,
@@ -79,20 +138,10 @@ fn expect_life<R: Threads + Wait + Sync + Abort>(
     input: &mut MemSource,
 ) {
     let (mut iface, mut to, from) = Pipe::make(alloc).expect(rt, "memory for the channel");
-    let end = read_pipe(rt, alloc, input, &mut iface);
-    expect_true(rt, "the interface is read", end == ReadEnd::Done);
+    expect_interface(rt, alloc, input, &mut iface);
     let mut looping = make_loop(rt, alloc, from);
-    let end = one_life(rt, alloc, &mut looping, &mut to, run, output);
-    expect_true(rt, "the engine is read", end == ReadEnd::Done);
-    let RevivalLoop {
-        revival,
-        from,
-        marks,
-        failed: _,
-    } = looping;
-    expect_true(rt, "it has quit", revival.has_quit());
-    expect_log(rt, &marks.log);
-    Pipe::finish(iface, to, from);
+    expect_heard(rt, alloc, &mut looping, &mut to, run, output);
+    Pipe::finish(iface, to, looping.from);
 }
 
 #[test]

@@ -64,22 +64,18 @@ fn gives(revival: &mut Revival, comes: &str, up: &str, child: &str) -> bool {
     }
 }
 
-// Each row: what comes, the lines up, and the lines to the engine.
+// Each row: what comes, the lines up, and the lines to the engine. There is room for all of them.
 fn expect_given(rt: &impl Abort, revival: &mut Revival, rows: &str) {
     for row in rows.split(';') {
         let (comes, up, child) = three_of(row);
         expect_true(rt, row, gives(revival, comes, up, child));
     }
-}
-
-fn make(rt: &impl Abort, alloc: Global, lives: u32) -> Revival {
-    Revival::make(alloc, lives).expect(rt, "memory for the revival")
+    expect_true(rt, rows, !revival.full());
 }
 
 fn expect_session(rt: &impl Abort, alloc: Global, lives: u32, rows: &str) {
-    let mut revival = make(rt, alloc, lives);
+    let mut revival = Revival::make(alloc, lives).expect(rt, "memory for the revival");
     expect_given(rt, &mut revival, rows);
-    expect_true(rt, rows, !revival.full());
 }
 
 const SECOND_LIFE: &str = "\
@@ -158,14 +154,18 @@ const SEARCHES: &str = "\
 // up.
 fn expect_search(rt: &impl Abort, alloc: Global, row: &str) {
     let (position, go, both) = three_of(row);
-    let mut revival = make(rt, alloc, 2);
-    expect_given(rt, &mut revival, "x uci||uci\n;u uciok|uciok\n|");
-    expect_true(rt, row, gives(&mut revival, position, "", ""));
-    expect_true(rt, row, gives(&mut revival, go, "", both));
-    expect_given(rt, &mut revival, "u!||uci\n");
-    expect_true(rt, row, gives(&mut revival, "u uciok", "", both));
-    expect_given(rt, &mut revival, "u bestmove e2e4|bestmove e2e4\n|");
-    expect_true(rt, row, !revival.full());
+    let rows = format!(in alloc;
+        "\
+        x uci||uci\n;\
+        u uciok|uciok\n|;\
+        {position}||;\
+        {go}||{both};\
+        u!||uci\n;\
+        u uciok||{both};\
+        u bestmove e2e4|bestmove e2e4\n|"
+    )
+    .expect(rt, "memory for a session");
+    expect_session(rt, alloc, 2, rows.as_str());
 }
 
 #[test]

@@ -1,13 +1,15 @@
 // Both directions and the log, over sources and sinks in memory.
 ghost use Rattle.std.specs.Prelude.{◌≡◌, ◌<◌, [], vec_len};
-ghost use Rattle.event_pipe.specs.Ends.{IsSender, IsFreshTaker, events_sent};
+ghost use Rattle.event_pipe.specs.Ends.{IsSender, IsFreshSender, IsFreshTaker, events_sent};
+ghost use Rattle.event_pipe.specs.declared.message.Peer.TheVariants as peers;
 ghost use Rattle.tap_runner.specs.Hearing.{fresh};
+ghost use Rattle.tap_runner.specs.Parts.{AreReady};
 
 use crate::expected::{expect_bytes, expect_true};
 use crate::streams::{letters_before, sink, source};
 use child_engine::LetGo;
 use event_pipe::{Peer, Pipe, PipeSend, PipeTake};
-use line_io::{MemSink, Out, Sink, Source};
+use line_io::{MemSink, MemSource, Out, Sink, Source};
 use sink_offers::{HandedStreams, Interface};
 use std::alloc::Global;
 use std::process::Abort;
@@ -94,14 +96,21 @@ fn pass<R: Wait + Abort>(
     hand_on(rt, alloc, &mut source, sink, &mut way)
 }
 
+// Keeps a log of what is in the channel.
+fn keep_all<R: Wait + Abort>(rt: &R, alloc: Global, taker: PipeTake, log: &mut Option<MemSink>)
+    requires { IsFreshTaker taker }
+{
+    let mut taker = taker;
+    let mut text = Out::make(alloc, LOG_ROOM).expect(rt, "memory for a mark");
+    let _failed = keep_log(rt, &mut taker, log, &mut text);
+}
+
 // Compares what a log is made of what is in the channel.
 fn expect_log<R: Wait + Abort>(rt: &R, alloc: Global, row: &Row, taker: PipeTake)
     requires { IsFreshTaker taker }
 {
-    let mut taker = taker;
     let mut log = Some(sink(rt, alloc, 1_000, &[]));
-    let mut text = Out::make(alloc, LOG_ROOM).expect(rt, "memory for a mark");
-    let _failed = keep_log(rt, &mut taker, &mut log, &mut text);
+    keep_all(rt, alloc, taker, &mut log);
     match &log {
         Some(log) => expect_bytes(rt, row.name, log.taken(), row.log),
         None => expect_true(rt, row.name, false),
@@ -113,24 +122,31 @@ pub fn is_end(end: &PassEnd, write_failed: bool) -> bool {
     !end.read_failed && end.write_failed == write_failed && !end.has_lacked_memory
 }
 
-fn expect_passed<R: Wait + Abort>(rt: &R, alloc: Global, row: &Row) {
-    let (bridge, child, taker) = Pipe::make(alloc).expect(rt, "memory for the channel");
+// Hands on what the bridge says.
+fn expect_down<R: Wait + Abort>(rt: &R, alloc: Global, row: &Row, to: PipeSend)
+    requires { IsFreshSender to peers.Iface }
+{
     let bytes = letters_before(rt, alloc, row.letters, row.bridge);
     let mut engine = sink(rt, alloc, 70_000, &[]);
-    let mut output = sink(rt, alloc, 100, row.failing);
-    let down = pass(
-        rt,
-        alloc,
-        bytes.as_slice(),
-        &mut engine,
-        Peer::Iface,
-        bridge,
-    );
-    let up = pass(rt, alloc, row.engine, &mut output, Peer::Engine, child);
+    let down = pass(rt, alloc, bytes.as_slice(), &mut engine, Peer::Iface, to);
     expect_true(rt, row.name, is_end(&down, false));
-    expect_true(rt, row.name, is_end(&up, !row.failing.is_empty()));
     expect_bytes(rt, row.name, engine.taken(), bytes.as_slice());
+}
+
+// Hands on what the engine says.
+fn expect_up<R: Wait + Abort>(rt: &R, alloc: Global, row: &Row, to: PipeSend)
+    requires { IsFreshSender to peers.Engine }
+{
+    let mut output = sink(rt, alloc, 100, row.failing);
+    let up = pass(rt, alloc, row.engine, &mut output, Peer::Engine, to);
+    expect_true(rt, row.name, is_end(&up, !row.failing.is_empty()));
     expect_bytes(rt, row.name, output.taken(), row.output);
+}
+
+fn expect_passed<R: Wait + Abort>(rt: &R, alloc: Global, row: &Row) {
+    let (bridge, child, taker) = Pipe::make(alloc).expect(rt, "memory for the channel");
+    expect_down(rt, alloc, row, bridge);
+    expect_up(rt, alloc, row, child);
     expect_log(rt, alloc, row, taker);
 }
 
@@ -138,6 +154,19 @@ fn expect_passed<R: Wait + Abort>(rt: &R, alloc: Global, row: &Row) {
 fn bytes_are_handed_on_and_lines_are_logged(rt: HostRuntime) {
     for row in &ROWS {
         expect_passed(&rt, rt.alloc(), row);
+    }
+}
+
+// What a run of both directions needs.
+fn make_parts(rt: &impl Abort, alloc: Global) -> TapParts
+    ensures { AreReady result }
+{
+    let (bridge, child, taker) = Pipe::make(alloc).expect(rt, "memory for the channel");
+    TapParts {
+        down: make_way(rt, alloc, Peer::Iface, bridge),
+        up: make_way(rt, alloc, Peer::Engine, child),
+        taker,
+        text: Out::make(alloc, LOG_ROOM).expect(rt, "memory for a mark"),
     }
 }
 
@@ -155,17 +184,23 @@ pub fn run_both<
     interface: &mut Interface<I, O>,
     handed: &mut HandedStreams<S, E, L>,
 ) -> TapEnd {
-    let (bridge, child, taker) = Pipe::make(alloc).expect(rt, "memory for the channel");
-    let parts = TapParts {
-        down: make_way(rt, alloc, Peer::Iface, bridge),
-        up: make_way(rt, alloc, Peer::Engine, child),
-        taker,
-        text: Out::make(alloc, LOG_ROOM).expect(rt, "memory for a mark"),
-    };
-    run_tap(rt, alloc, parts, interface, handed)
+    run_tap(rt, alloc, make_parts(rt, alloc), interface, handed)
 }
 
 // The engine's second read fails.
+fn expect_both<R: Threads + Wait + Sync + Abort>(
+    rt: &R,
+    alloc: Global,
+    interface: &mut Interface<MemSource, MemSink>,
+    handed: &mut HandedStreams<MemSource, MemSink, MemSink>,
+) {
+    let end = run_both(rt, alloc, interface, handed);
+    let failed = !end.bridge.read_failed && end.engine.read_failed && !end.log_failed;
+    expect_true(rt, "both directions", failed);
+    expect_bytes(rt, "down", handed.engine.taken(), BRIDGE);
+    expect_bytes(rt, "up", interface.output.taken(), b"id ");
+}
+
 #[test]
 fn both_directions_run(rt: HostRuntime) {
     let alloc = rt.alloc();
@@ -173,15 +208,10 @@ fn both_directions_run(rt: HostRuntime) {
         input: source(&rt, alloc, BRIDGE, 3, &[]),
         output: sink(&rt, alloc, 100, &[]),
     };
-    let log: Option<MemSink> = None;
     let mut handed = HandedStreams {
         source: source(&rt, alloc, ENGINE, 3, &[2]),
         engine: sink(&rt, alloc, 100, &[]),
-        log,
+        log: None,
     };
-    let end = run_both(&rt, alloc, &mut interface, &mut handed);
-    let failed = !end.bridge.read_failed && end.engine.read_failed && !end.log_failed;
-    expect_true(&rt, "both directions", failed);
-    expect_bytes(&rt, "down", handed.engine.taken(), BRIDGE);
-    expect_bytes(&rt, "up", interface.output.taken(), b"id ");
+    expect_both(&rt, alloc, &mut interface, &mut handed);
 }

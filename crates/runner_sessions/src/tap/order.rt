@@ -91,41 +91,61 @@ struct Counts {
     answers: AtomicU64,
 }
 
+type TapInterface<'a> = Interface<PacedTexts<'a>, PacedSink<'a>>;
+
+type TapStreams<'a> = HandedStreams<PacedTexts<'a>, PacedSink<'a>, PacedLog<'a>>;
+
+fn make_interface<'a>(alloc: Global, row: &Row, counts: &'a Counts) -> TapInterface<'a> {
+    let dues = PacedTexts::new(&counts.lines, row.output);
+    Interface {
+        input: PacedTexts::new(&counts.lines, &BRIDGE),
+        output: PacedSink::new(alloc, dues, &counts.answers, b""),
+    }
+}
+
+fn make_streams<'a>(
+    rt: &impl Abort,
+    alloc: Global,
+    row: &Row,
+    counts: &'a Counts,
+) -> TapStreams<'a> {
+    let log = MemSink::make(alloc, 1_000, &[]).expect(rt, "memory for a log");
+    let dues = PacedTexts::new(&counts.lines, row.engine);
+    HandedStreams {
+        source: PacedTexts::new(&counts.orders, &ENGINE),
+        engine: PacedSink::new(alloc, dues, &counts.orders, b""),
+        log: Some(PacedLog::new(log, &counts.lines)),
+    }
+}
+
+// Runs both directions between these, and compares what each took.
+fn expect_taken<R: Threads + Wait + Sync + Abort>(
+    rt: &R,
+    alloc: Global,
+    name: &str,
+    interface: &mut TapInterface,
+    handed: &mut TapStreams,
+) {
+    let end = run_both(rt, alloc, interface, handed);
+    expect_bytes(rt, name, handed.engine.bytes(), b"isready\n");
+    expect_bytes(rt, name, interface.output.bytes(), b"readyok\n");
+    match &handed.log {
+        Some(log) => expect_bytes(rt, name, log.sink.taken(), LOG),
+        None => expect_true(rt, name, false),
+    }
+    let is_done = is_end(&end.bridge, false) && is_end(&end.engine, false);
+    expect_true(rt, name, is_done && !end.log_failed);
+}
+
 fn expect_order<R: Threads + Wait + Sync + Abort>(
     rt: &R,
     alloc: Global,
     row: &Row,
     counts: &Counts,
 ) {
-    let log = MemSink::make(alloc, 1_000, &[]).expect(rt, "memory for a log");
-    let mut interface = Interface {
-        input: PacedTexts::new(&counts.lines, &BRIDGE),
-        output: PacedSink::new(
-            alloc,
-            PacedTexts::new(&counts.lines, row.output),
-            &counts.answers,
-            b"",
-        ),
-    };
-    let mut handed = HandedStreams {
-        source: PacedTexts::new(&counts.orders, &ENGINE),
-        engine: PacedSink::new(
-            alloc,
-            PacedTexts::new(&counts.lines, row.engine),
-            &counts.orders,
-            b"",
-        ),
-        log: Some(PacedLog::new(log, &counts.lines)),
-    };
-    let end = run_both(rt, alloc, &mut interface, &mut handed);
-    expect_bytes(rt, row.name, handed.engine.bytes(), b"isready\n");
-    expect_bytes(rt, row.name, interface.output.bytes(), b"readyok\n");
-    match &handed.log {
-        Some(log) => expect_bytes(rt, row.name, log.sink.taken(), LOG),
-        None => expect_true(rt, row.name, false),
-    }
-    let is_done = is_end(&end.bridge, false) && is_end(&end.engine, false);
-    expect_true(rt, row.name, is_done && !end.log_failed);
+    let mut interface = make_interface(alloc, row, counts);
+    let mut handed = make_streams(rt, alloc, row, counts);
+    expect_taken(rt, alloc, row.name, &mut interface, &mut handed);
 }
 
 #[test]
