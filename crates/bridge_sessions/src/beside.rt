@@ -5,13 +5,13 @@ ghost use Rattle.child_engine.specs.Memory.{books_of};
 ghost use Rattle.child_engine.specs.Hosts.{IsUnused};
 
 use crate::expected::{expect_bytes, words_of};
-use crate::ready::{ReadySession, make_ready};
+use crate::fresh_session::make_session;
 use crate::waiting_host::{ENGINE, ENGINE_WAITS, PIECE, WaitingHost};
 use bridge_runner::bridge_main;
 use child_engine::{Fails, MemHost};
 use event_pipe::{Pipe, ReadEnd};
-use line_io::{MemSink, MemSource, NoMemory};
-use mediator::{MediatorParts, RunEnd, Turns, run_pipes};
+use line_io::{MemSink, MemSource, NoMemory, Out};
+use mediator::{Mediator, MediatorParts, RunEnd, TURN_ROOM, Turns, run_pipes};
 use paced_host::{PacedLog, PacedSource};
 use sink_offers::{HandedStreams, Interface};
 use std::alloc::Global;
@@ -24,57 +24,74 @@ use std::thread::Threads;
 const ORDERS: u64 = 3;
 
 // An interface that quits once the engine's input took `isready`.
-fn make_interface(
+fn make_interface<'a>(
+    rt: &impl Abort,
     alloc: Global,
-    orders: &AtomicU64,
-) -> Result<Interface<PacedSource<'_>, MemSink>, NoMemory> {
-    let quit = MemSource::make(alloc, b"quit\n", 5, &[])?;
-    Ok(Interface {
+    orders: &'a AtomicU64,
+) -> Interface<PacedSource<'a>, MemSink> {
+    let quit = MemSource::make(alloc, b"quit\n", 5, &[]).expect(rt, "memory");
+    Interface {
         input: PacedSource::new(quit, orders, &[2]),
-        output: MemSink::make(alloc, 1_000, &[])?,
-    })
+        output: MemSink::make(alloc, 1_000, &[]).expect(rt, "memory"),
+    }
 }
 
 // The streams of an engine that waits for its orders.
-fn make_streams(
+fn make_streams<'a>(
+    rt: &impl Abort,
     alloc: Global,
-    orders: &AtomicU64,
-) -> Result<HandedStreams<PacedSource<'_>, PacedLog<'_>, MemSink>, NoMemory> {
-    let says = MemSource::make(alloc, ENGINE, PIECE, &[])?;
-    Ok(HandedStreams {
+    orders: &'a AtomicU64,
+) -> HandedStreams<PacedSource<'a>, PacedLog<'a>, MemSink> {
+    let says = MemSource::make(alloc, ENGINE, PIECE, &[]).expect(rt, "memory");
+    let tells = MemSink::make(alloc, 100, &[]).expect(rt, "memory");
+    HandedStreams {
         source: PacedSource::new(says, orders, ENGINE_WAITS),
-        engine: PacedLog::new(MemSink::make(alloc, 100, &[])?, orders),
+        engine: PacedLog::new(tells, orders),
         log: None,
-    })
+    }
 }
 
-// Runs both pipes. The session is made last, so that no early exit lets it go.
-fn run_both<R: Threads + Wait + Sync>(
+// Runs both pipes with this mediator.
+fn run_both<M: Mediator + Send + Drop, R: Threads + Wait + Sync + Abort>(
     rt: &R,
     alloc: Global,
+    mediator: M,
     interface: &mut Interface<PacedSource<'_>, MemSink>,
     streams: &mut HandedStreams<PacedSource<'_>, PacedLog<'_>, MemSink>,
-) -> Result<RunEnd, NoMemory> {
-    let (iface, engine, taker) = Pipe::make(alloc)?;
-    let ReadySession { session, text } = make_ready(alloc)?;
+) -> RunEnd
+    requires { M.means.fresh mediator }
+{
+    let text = Out::make(alloc, TURN_ROOM).expect(rt, "memory");
+    let (iface, engine, taker) = Pipe::make(alloc).expect(rt, "memory");
     let parts = MediatorParts {
         iface,
         engine,
         turns: Turns {
-            mediator: session,
+            mediator,
             taker,
             text,
         },
     };
-    Ok(run_pipes(rt, alloc, parts, b"", interface, streams).end)
+    run_pipes(rt, alloc, parts, b"", interface, streams).end
+}
+
+// Runs both pipes with a session.
+fn run_session<R: Threads + Wait + Sync + Abort>(
+    rt: &R,
+    alloc: Global,
+    interface: &mut Interface<PacedSource<'_>, MemSink>,
+    streams: &mut HandedStreams<PacedSource<'_>, PacedLog<'_>, MemSink>,
+) -> RunEnd {
+    let session = make_session(alloc).expect(rt, "memory");
+    run_both(rt, alloc, session, interface, streams)
 }
 
 #[test]
 fn readers_run_beside(rt: HostRuntime) {
     let orders = AtomicU64::new(0);
-    let mut interface = make_interface(rt.alloc(), &orders).expect(&rt, "memory");
-    let mut streams = make_streams(rt.alloc(), &orders).expect(&rt, "memory");
-    let end = run_both(&rt, rt.alloc(), &mut interface, &mut streams).expect(&rt, "memory");
+    let mut interface = make_interface(&rt, rt.alloc(), &orders);
+    let mut streams = make_streams(&rt, rt.alloc(), &orders);
+    let end = run_session(&rt, rt.alloc(), &mut interface, &mut streams);
     assert!(rt; end.iface == ReadEnd::Done && end.engine == ReadEnd::Done);
     assert!(rt; interface.input.missed().is_none() && streams.source.missed().is_none());
     assert!(rt; orders.load(Ordering::SeqCst) == ORDERS);
@@ -103,7 +120,7 @@ fn run_program<R: Threads + Wait + Sync + Abort>(
     orders: &AtomicU64,
 ) -> ProgramRun {
     let words = words_of(rt, alloc, "toy");
-    let mut interface = make_interface(alloc, orders).expect(rt, "memory");
+    let mut interface = make_interface(rt, alloc, orders);
     let mut host = make_host(alloc, orders).expect(rt, "memory");
     let mut diag = MemSink::make(alloc, 1_000, &[]).expect(rt, "memory");
     let words = words.as_slice();

@@ -9,13 +9,13 @@ mod exact_log;
 #[cfg(test)]
 mod expected;
 #[cfg(test)]
+mod fresh_session;
+#[cfg(test)]
 mod lost_engine;
 #[cfg(test)]
 mod ping;
 #[cfg(test)]
 mod program;
-#[cfg(test)]
-mod ready;
 #[cfg(test)]
 mod refused_calls;
 #[cfg(test)]

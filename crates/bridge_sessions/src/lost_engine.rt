@@ -1,13 +1,13 @@
 // What the log and both sides get if the engine is lost.
-ghost use Rattle.std.specs.Prelude.{◌≡◌, []};
+ghost use Rattle.std.specs.Prelude.{◌≡◌, ◌≤◌, []};
 ghost use Rattle.event_pipe.specs.Ends.{IsSender, IsFreshTaker, events_sent};
-ghost use Rattle.bridge_sessions.specs.Ready.{IsReady};
+ghost use Rattle.mediator.specs.declared.mediator.TheConstants.{TURN_ROOM};
 
 use crate::expected::expect_bytes;
-use crate::ready::{ReadySession, make_ready};
-use event_pipe::{Pipe, PipeSend, PipeTake, read_pipe};
-use line_io::{MemSink, MemSource, NoMemory};
-use mediator::{Turns, mediate};
+use crate::fresh_session::make_session;
+use event_pipe::{Pipe, PipeSend, read_pipe};
+use line_io::{MemSink, MemSource, Out};
+use mediator::{Mediator, TURN_ROOM, Turns, mediate};
 use sink_offers::LoopEnd;
 use std::alloc::Global;
 use std::process::Abort;
@@ -37,12 +37,12 @@ struct Sinks {
 }
 
 // The engine's second write fails.
-fn make_sinks(alloc: Global) -> Result<Sinks, NoMemory> {
-    Ok(Sinks {
-        output: MemSink::make(alloc, 1_000, &[])?,
-        engine: MemSink::make(alloc, 1_000, &[2])?,
-        log: Some(MemSink::make(alloc, 1_000, &[])?),
-    })
+fn make_sinks(rt: &impl Abort, alloc: Global) -> Sinks {
+    Sinks {
+        output: MemSink::make(alloc, 1_000, &[]).expect(rt, "memory for the output"),
+        engine: MemSink::make(alloc, 1_000, &[2]).expect(rt, "memory for the engine's input"),
+        log: Some(MemSink::make(alloc, 1_000, &[]).expect(rt, "memory for the log")),
+    }
 }
 
 // Puts these lines into the channel.
@@ -54,17 +54,13 @@ fn read_lines<R: Wait + Abort>(rt: &R, alloc: Global, lines: &[u8], to: &mut Pip
     let _end = read_pipe(rt, alloc, &mut source, to);
 }
 
-// Steps the session by what is in the channel.
-fn step_all<R: Wait>(rt: &R, ready: ReadySession, taker: PipeTake, sinks: &mut Sinks) -> LoopEnd
-    requires ready { IsReady ready.session ready.text }
-    requires taker { IsFreshTaker taker }
+// Has a mediator take what is in the channel.
+fn mediate_all<M: Mediator + Drop, R: Wait>(rt: &R, turns: Turns<M>, sinks: &mut Sinks) -> LoopEnd
+    requires mediator { M.means.fresh turns.mediator }
+    requires taker { IsFreshTaker turns.taker }
+    requires room { TURN_ROOM ≤ turns.text.room }
 {
-    let ReadySession { session, text } = ready;
-    let mut turns = Turns {
-        mediator: session,
-        taker,
-        text,
-    };
+    let mut turns = turns;
     mediate(
         rt,
         &mut turns,
@@ -76,24 +72,37 @@ fn step_all<R: Wait>(rt: &R, ready: ReadySession, taker: PipeTake, sinks: &mut S
 }
 
 // Runs the loop over these lines: those of the engine come first.
-fn run_loop<R: Wait + Abort>(
+fn run_loop<M: Mediator + Drop, R: Wait + Abort>(
     rt: &R,
     alloc: Global,
+    mediator: M,
     lines: (&[u8], &[u8]),
     sinks: &mut Sinks,
-) -> LoopEnd {
+) -> LoopEnd
+    requires { M.means.fresh mediator }
+{
     let (mut iface, mut child, taker) = Pipe::make(alloc).expect(rt, "memory for the channel");
     read_lines(rt, alloc, lines.0, &mut child);
     read_lines(rt, alloc, lines.1, &mut iface);
-    let ready = make_ready(alloc).expect(rt, "memory for the core");
-    step_all(rt, ready, taker, sinks)
+    let turns = Turns {
+        mediator,
+        taker,
+        text: Out::make(alloc, TURN_ROOM).expect(rt, "memory for the log's text"),
+    };
+    mediate_all(rt, turns, sinks)
+}
+
+// Runs the loop with a session, whose engine says `uciok` before the interface quits.
+fn run_session<R: Wait + Abort>(rt: &R, alloc: Global, sinks: &mut Sinks) -> LoopEnd {
+    let session = make_session(alloc).expect(rt, "memory for the core");
+    run_loop(rt, alloc, session, (b"uciok\n", b"quit\n"), sinks)
 }
 
 // That the engine is lost is the very next step after the write that fails.
 #[test]
 fn a_lost_engine_is_logged(rt: HostRuntime) {
-    let mut sinks = make_sinks(rt.alloc()).expect(&rt, "memory for the sinks");
-    let end = run_loop(&rt, rt.alloc(), (b"uciok\n", b"quit\n"), &mut sinks);
+    let mut sinks = make_sinks(&rt, rt.alloc());
+    let end = run_session(&rt, rt.alloc(), &mut sinks);
     assert!(rt; end.engine && !end.output && !end.log);
     expect_bytes(&rt, sinks.engine.taken(), b"uci\n");
     expect_bytes(&rt, sinks.output.taken(), b"tellusererror Engine ended\n");

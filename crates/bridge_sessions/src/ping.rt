@@ -49,7 +49,7 @@ pub fn is_answered(run: &BridgeRun) -> bool {
 }
 
 /// Words that the program refuses, with nothing written but the diagnostic.
-const REFUSED: [&str; 5] = [
+const REFUSED: &[&str] = &[
     "",
     "--ResignMoves|1001|toy",
     "--Resign|maybe|toy",
@@ -58,7 +58,7 @@ const REFUSED: [&str; 5] = [
 ];
 
 /// Words that it takes.
-const TAKEN: [&str; 4] = [
+const TAKEN: &[&str] = &[
     "toy",
     "--Resign|true|--ResignMoves=1000|--ResignScore|0|toy",
     "--ShowPonder=false|--LogFile|a.log|toy|a|b",
@@ -86,14 +86,26 @@ fn expect_words<R: Threads + Wait + Sync + Abort>(
     expect_bytes(rt, run.diag.taken(), diag);
 }
 
+fn expect_each<R: Threads + Wait + Sync + Abort>(
+    rt: &R,
+    alloc: Global,
+    texts: &[&'static str],
+    code: u8,
+    diag: &[u8],
+) {
+    for words in texts {
+        expect_words(rt, alloc, *words, code, diag);
+    }
+}
+
 #[test]
 fn words_are_refused_or_taken(rt: HostRuntime) {
-    for words in REFUSED {
-        expect_words(&rt, rt.alloc(), words, 2, b"bridge: usage\n");
-    }
-    for words in TAKEN {
-        expect_words(&rt, rt.alloc(), words, 0, b"");
-    }
+    expect_each(&rt, rt.alloc(), REFUSED, 2, b"bridge: usage\n");
+    expect_each(&rt, rt.alloc(), TAKEN, 0, b"");
+}
+
+#[test]
+fn no_memory_is_told(rt: HostRuntime) {
     let mut diag = MemSink::make(rt.alloc(), 100, &[]).expect(&rt, "memory for the diagnostic");
     assert_eq!(rt; refuse_for_memory(&mut diag).code, 3);
     expect_bytes(&rt, diag.taken(), b"bridge: no memory\n");

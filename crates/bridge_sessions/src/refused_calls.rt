@@ -14,18 +14,67 @@ const FIRST_STEP: &[u8] = b"\
     U uci\n\
     # 1\n";
 
+/// What is compared of a run some of whose calls fail.
+#[derive(Clone, Copy)]
+struct FailingRun {
+    code: u8,
+    is_answered: bool,
+    /// The interface got nothing.
+    is_silent: bool,
+    /// The engine got the first of its orders.
+    begins_session: bool,
+    /// How many lines of the log begin a step or the log.
+    marks: u64,
+    /// The log is what comes first in it, or begins with that.
+    fits_first_step: bool,
+}
+
+// Whether these are the first of the orders that the engine gets in some order of events.
+fn begins_a_session(wrote: &[u8]) -> bool {
+    b"uci\nisready\nquit\n".starts_with(wrote) || b"uci\nquit\n".starts_with(wrote)
+}
+
+// How many lines begin a log's step or a log: no other text of these sessions has the sign.
+fn marks_in(log: &[u8]) -> u64 {
+    let mut marks = 0_u64;
+    for byte in log {
+        if *byte == b'#' {
+            marks = marks.saturating_add(1);
+        }
+    }
+    marks
+}
+
+fn fits_first_step(log: &[u8]) -> bool {
+    log.starts_with(FIRST_STEP) || FIRST_STEP.starts_with(log)
+}
+
+// What is compared of this run.
+fn seen_of(run: &BridgeRun) -> FailingRun {
+    let log = run.host.logged();
+    FailingRun {
+        code: run.code,
+        is_answered: is_answered(run),
+        is_silent: run.output.sink.taken().is_empty(),
+        begins_session: begins_a_session(run.host.wrote()),
+        marks: marks_in(log),
+        fits_first_step: fits_first_step(log),
+    }
+}
+
 // The diagnostic fails too, and changes no status.
-fn run_failing<'a, R: Threads + Wait + Sync + Abort>(
+fn run_failing<R: Threads + Wait + Sync + Abort>(
     rt: &R,
     alloc: Global,
     fails: &Fails,
-    counts: &'a Counts,
-) -> BridgeRun<'a> {
+) -> FailingRun {
+    let counts = Counts::new();
     let given = Given {
         diag_fails: &[1],
         ..PING
     };
-    run_bridge(rt, alloc, &given, fails, counts)
+    let run = run_bridge(rt, alloc, &given, fails, &counts);
+    seen_of(&run)
 }
 
 // Compares the status. If the engine is not started, nothing is written; else the ping is answered.
@@ -36,12 +85,11 @@ fn expect_once<R: Threads + Wait + Sync + Abort>(
     fails: &Fails,
     code: u8,
 ) {
-    let counts = Counts::new();
-    let run = run_failing(rt, alloc, fails, &counts);
+    let run = run_failing(rt, alloc, fails);
     let writes_as_wanted = if fails.start {
-        run.output.sink.taken().is_empty()
+        run.is_silent
     } else {
-        is_answered(&run)
+        run.is_answered
     };
     expect(rt, run.code == code && writes_as_wanted, call, 1);
 }
@@ -63,57 +111,35 @@ fn calls_that_fail_once(rt: HostRuntime) {
     expect_once(&rt, rt.alloc(), "wait", &Fails { wait: true, ..none }, 10);
 }
 
-// Whether these are the first of the orders that the engine gets in some order of events.
-fn begins_a_session(wrote: &[u8]) -> bool {
-    b"uci\nisready\nquit\n".starts_with(wrote) || b"uci\nquit\n".starts_with(wrote)
-}
-
-// How many lines begin a log's step or a log: no other text of these sessions has the sign.
-fn marks_in(log: &[u8]) -> u64 {
-    let mut marks = 0_u64;
-    for byte in log {
-        if *byte == b'#' {
-            marks = marks.saturating_add(1);
-        }
-    }
-    marks
-}
-
 // The engine's 14 bytes and its end are four reads.
-fn fits_failing_read(run: &BridgeRun, number: u64) -> bool {
+fn fits_failing_read(run: FailingRun, number: u64) -> bool {
     let code = if number <= 4 { 6 } else { 0 };
-    run.code == code && begins_a_session(run.host.wrote())
+    run.code == code && run.begins_session
 }
 
 // The engine gets `uci`, then `isready` or `quit`, and `quit` after `isready` if it comes
 // before the engine's end.
-fn fits_failing_write(run: &BridgeRun, number: u64) -> bool {
+fn fits_failing_write(run: FailingRun, number: u64) -> bool {
     let code = run.code;
-    (code == 7 || code == 0 && number > 2)
-        && (code == 0 || number < 4)
-        && begins_a_session(run.host.wrote())
+    (code == 7 || code == 0 && number > 2) && (code == 0 || number < 4) && run.begins_session
 }
 
 // The start, two lines of each side and the engine's end are six steps, after the first line.
-fn fits_failing_log_write(run: &BridgeRun, number: u64) -> bool {
+fn fits_failing_log_write(run: FailingRun, number: u64) -> bool {
     let code = if number <= 6 { 9 } else { 0 };
     let marks = if number == 1 { 0 } else { number.min(7) };
-    let log = run.host.logged();
-    run.code == code
-        && marks_in(log) == marks
-        && (log.starts_with(FIRST_STEP) || FIRST_STEP.starts_with(log))
+    run.code == code && run.marks == marks && run.fits_first_step
 }
 
 #[test]
 fn each_read_that_fails(rt: HostRuntime) {
     for number in 1..=12 {
-        let counts = Counts::new();
         let fails = Fails {
             reads: &[number],
             ..Fails::default()
         };
-        let run = run_failing(&rt, rt.alloc(), &fails, &counts);
-        let holds = is_answered(&run) && fits_failing_read(&run, number);
+        let run = run_failing(&rt, rt.alloc(), &fails);
+        let holds = run.is_answered && fits_failing_read(run, number);
         expect(&rt, holds, "read", number as usize);
     }
 }
@@ -121,13 +147,12 @@ fn each_read_that_fails(rt: HostRuntime) {
 #[test]
 fn each_write_that_fails(rt: HostRuntime) {
     for number in 1..=12 {
-        let counts = Counts::new();
         let fails = Fails {
             writes: &[number],
             ..Fails::default()
         };
-        let run = run_failing(&rt, rt.alloc(), &fails, &counts);
-        let holds = is_answered(&run) && fits_failing_write(&run, number);
+        let run = run_failing(&rt, rt.alloc(), &fails);
+        let holds = run.is_answered && fits_failing_write(run, number);
         expect(&rt, holds, "write", number as usize);
     }
 }
@@ -135,13 +160,12 @@ fn each_write_that_fails(rt: HostRuntime) {
 #[test]
 fn each_log_write_that_fails(rt: HostRuntime) {
     for number in 1..=12 {
-        let counts = Counts::new();
         let fails = Fails {
             logs: &[number],
             ..Fails::default()
         };
-        let run = run_failing(&rt, rt.alloc(), &fails, &counts);
-        let holds = is_answered(&run) && fits_failing_log_write(&run, number);
+        let run = run_failing(&rt, rt.alloc(), &fails);
+        let holds = run.is_answered && fits_failing_log_write(run, number);
         expect(&rt, holds, "log write", number as usize);
     }
 }

@@ -43,11 +43,11 @@ fn log_of_a_ping<R: Threads + Wait + Sync + Abort>(
 ) -> Result<Option<Vec<u8>>, NoMemory> {
     let words = words_of(rt, alloc, "toy");
     let mut interface = Interface {
-        input: MemSource::make(alloc, b"ping 3\nquit\n", 5, &[])?,
-        output: MemSink::make(alloc, 1_000, &[])?,
+        input: MemSource::make(alloc, b"ping 3\nquit\n", 5, &[]).expect(rt, "memory"),
+        output: MemSink::make(alloc, 1_000, &[]).expect(rt, "memory"),
     };
-    let mut diag = MemSink::make(alloc, 1_000, &[])?;
-    let mut host = MemHost::make(alloc, ENGINE, 5, 10_000, &Fails::default())?;
+    let mut diag = MemSink::make(alloc, 1_000, &[]).expect(rt, "memory");
+    let mut host = MemHost::make(alloc, ENGINE, 5, 10_000, &Fails::default()).expect(rt, "memory");
     log_of(
         rt,
         alloc,

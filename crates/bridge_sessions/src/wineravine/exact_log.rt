@@ -95,6 +95,10 @@ fn options_come_before_the_first_line_of_an_engine_that_talks_at_once(rt: HostRu
     let host = run_program(&rt, rt.alloc(), &counts);
     expect_bytes(&rt, host.logged(), LOG);
     assert!(rt; host.was_asked_for(1, &["toy", "-x"], "w.log"));
+}
+
+#[test]
+fn no_memory_is_told(rt: HostRuntime) {
     let mut diag = MemSink::make(rt.alloc(), 100, &[]).expect(&rt, "memory");
     assert_eq!(rt; refuse_for_memory(&mut diag).code, 3);
     expect_bytes(&rt, diag.taken(), b"wineravine: no memory\n");
