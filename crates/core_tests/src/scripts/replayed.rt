@@ -2,7 +2,8 @@
 // sessions over files are in `scripts/dev/worked`.
 ghost use Rattle.std.specs.Prelude.{◌<◌};
 
-use crate::scripts::streams::{Streams, expect};
+use crate::expect::expect;
+use crate::scripts::streams::Streams;
 use line_io::MemSink;
 use line_scribe::{Ending, tell_short};
 use replay_tool::{refuse_for_memory, replay_main};
