@@ -10,9 +10,9 @@ pub(crate) fn cut(row: &str) -> (&str, &str) {
 
 /// The first letter of a word that tells of what kind a row is: one is enough, and cheap to prove.
 pub(crate) fn first(word: &str) -> u8 {
-    match word.as_bytes() {
-        [letter, ..] => *letter,
-        [] => b' ',
+    match word.as_bytes().first() {
+        Some(letter) => *letter,
+        None => b' ',
     }
 }
 
