@@ -57,13 +57,9 @@ fn are_so_many(options: &Options, count: usize, text: usize) -> bool {
     options.count() == count && options.text() == text
 }
 
-/// Declares an option, and expects how many there are then, and how long their texts are.
-fn expect_one(rt: &impl Abort, msg: &OptionMsg, count: usize, text: usize, options: &mut Options) {
-    let done = options.declare(msg, false) == Declared::Done;
-    assert!(rt;
-        done && are_so_many(options, count, text),
-        "{count} options"
-    );
+/// Whether an option is declared, and there are so many then, and their texts are so long.
+fn declares(msg: &OptionMsg, count: usize, text: usize, options: &mut Options) -> bool {
+    options.declare(msg, false) == Declared::Done && are_so_many(options, count, text)
 }
 
 /// Declares what each line tells where nothing else is declared, and compares what comes of it.
@@ -75,8 +71,10 @@ fn expect_alone(rt: &impl Abort, alloc: Global, rows: &[Row]) {
 /// Declares as much text as there may be, by two options with these letters.
 fn fill_text(rt: &impl Abort, letters: &[u8], options: &mut Options) {
     let kind = OptionKind::Text { default: letters };
-    expect_one(rt, &OptionMsg { name: b"A", kind }, 1, 32_768, options);
-    expect_one(rt, &OptionMsg { name: b"B", kind }, 2, 65_536, options);
+    let first = OptionMsg { name: b"A", kind };
+    expect(rt, declares(&first, 1, 32_768, options), "1 options");
+    let second = OptionMsg { name: b"B", kind };
+    expect(rt, declares(&second, 2, 65_536, options), "2 options");
     expect_told(rt, &FULL_TEXT, options);
 }
 
