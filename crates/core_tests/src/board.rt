@@ -2,5 +2,5 @@
 //! `scripts/dev/worked`, and counts of lines of play are the input of the program `perft`.
 mod game;
 mod moves;
-mod positions;
+pub(crate) mod positions;
 mod san;

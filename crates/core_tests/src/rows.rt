@@ -1,5 +1,6 @@
 // Rows of tables, each a line of a text: fields with bars between, most of them `name=value`.
-use chess_board::{Move, read_move};
+use crate::board::positions;
+use chess_board::Move;
 use std::process::Abort;
 
 /// What stands before the first bar, and what is behind it: nothing if there is no bar.
@@ -9,9 +10,9 @@ pub(crate) fn cut(row: &str) -> (&str, &str) {
 
 /// The first letter of a word that tells of what kind a row is: one is enough, and cheap to prove.
 pub(crate) fn first(word: &str) -> u8 {
-    match word.as_bytes() {
-        [letter, ..] => *letter,
-        [] => b' ',
+    match word.as_bytes().first() {
+        Some(letter) => *letter,
+        None => b' ',
     }
 }
 
@@ -44,10 +45,15 @@ pub(crate) fn bytes_of<'a>(rt: &impl Abort, fields: &'a str, name: &str) -> &'a 
     text_of(rt, fields, name).as_bytes()
 }
 
+/// The number that a text spells.
+fn number(rt: &impl Abort, text: &str) -> u64 {
+    text.parse::<u64>().expect(rt, text)
+}
+
 /// The number of a field, if there is such a field.
 pub(crate) fn number_in(rt: &impl Abort, fields: &str, name: &str) -> Option<u64> {
     match text_in(fields, name) {
-        Some(text) => Some(text.parse::<u64>().expect(rt, text)),
+        Some(text) => Some(number(rt, text)),
         None => None,
     }
 }
@@ -67,7 +73,7 @@ pub(crate) fn signed_of(rt: &impl Abort, fields: &str, name: &str) -> i64 {
 /// The move of a field, if there is such a field.
 pub(crate) fn move_in(rt: &impl Abort, fields: &str, name: &str) -> Option<Move> {
     match text_in(fields, name) {
-        Some(text) => Some(read_move(text.as_bytes()).expect(rt, text)),
+        Some(text) => Some(positions::move_of(rt, text)),
         None => None,
     }
 }

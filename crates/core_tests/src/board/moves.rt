@@ -1,22 +1,38 @@
 //! What the board tells, and the limits of its counts.
 use super::positions::move_of;
 use chess_board::{Kind, Position, Side, Square, equal_positions};
+use std::process::Abort;
+
+#[test]
+fn squares_are_named(rt: HostRuntime) {
+    let f3 = Square::at(5, 2).expect(&rt, "f3");
+    assert!(rt; Square::at(8, 0).is_none());
+    assert!(rt; f3.file() == 5 && f3.rank() == 2);
+}
+
+/// What stands on the start position, whose turn it is, and what is attacked.
+fn check_pieces(rt: &impl Abort, start: &Position) {
+    let e1 = Square::at(4, 0).expect(rt, "e1");
+    let f3 = Square::at(5, 2).expect(rt, "f3");
+    assert!(rt; start.piece(e1) == Some((Side::White, Kind::King)));
+    assert!(rt; start.side().other() == Side::Black);
+    assert!(rt; start.attacked(f3, Side::White) && !start.attacked(f3, Side::Black));
+}
+
+/// What may be done at the start position.
+fn check_moves(rt: &impl Abort, start: &Position) {
+    assert!(rt; start.moves().as_slice().first().copied() == Some(move_of(rt, "a2a3")));
+    assert!(rt; start.try_play(move_of(rt, "b7a8q")).is_none());
+}
 
 #[test]
 fn stands_at_the_start(rt: HostRuntime) {
     let start = Position::start();
-    let e1 = Square::at(4, 0).expect(&rt, "e1");
-    let f3 = Square::at(5, 2).expect(&rt, "f3");
-    assert!(rt; Square::at(8, 0).is_none());
-    assert!(rt; f3.file() == 5 && f3.rank() == 2);
-    assert!(rt; start.piece(e1) == Some((Side::White, Kind::King)));
-    assert!(rt; start.side().other() == Side::Black);
+    check_pieces(&rt, &start);
     assert!(rt; start.rights().wk && start.rights().bq);
-    assert!(rt; start.attacked(f3, Side::White) && !start.attacked(f3, Side::Black));
     assert!(rt; !start.in_check());
     assert!(rt; equal_positions(&start, &Position::start()) && start.is_standard());
-    assert!(rt; start.moves().as_slice().first().copied() == Some(move_of(&rt, "a2a3")));
-    assert!(rt; start.try_play(move_of(&rt, "b7a8q")).is_none());
+    check_moves(&rt, &start);
     start.facts();
 }
 

@@ -3,6 +3,7 @@ use crate::expect::expect;
 use chess_board::{Move, Square};
 use peer_words::GoKind;
 use search_epochs::{Call, Dialogue, EngineState, Heard, Orders, Said};
+use std::process::Abort;
 
 const G1F3: Move = Move {
     from: Square { index: 6 },
@@ -68,6 +69,17 @@ fn hear(dialogue: &mut Dialogue, said: Option<Said>) -> Heard {
     }
 }
 
+/// Takes a turn, and tells whether what is heard and ordered is what is wanted.
+fn takes(dialogue: &mut Dialogue, turn: &Turn) -> bool {
+    let (said, meaning, begins_epoch, call, want) = turn;
+    let heard = hear(dialogue, *said);
+    if *begins_epoch {
+        dialogue.new_epoch();
+    }
+    let orders = dialogue.settle(*call, false, None, false);
+    heard == *meaning && orders == *want
+}
+
 #[test]
 fn hears_what_is_meant(rt: HostRuntime) {
     let mut dialogue = Dialogue::new();
@@ -75,23 +87,29 @@ fn hears_what_is_meant(rt: HostRuntime) {
     expect(&rt, dialogue.heard(Said::UciOk) == Heard::Booted, "uciok");
     let batch = dialogue.settle(Call::Nothing, true, None, false);
     expect(&rt, batch == Orders::Batch, "the batch");
-    for (said, meaning, begins_epoch, call, want) in &TURNS {
-        let heard = hear(&mut dialogue, *said);
-        if *begins_epoch {
-            dialogue.new_epoch();
-        }
-        let orders = dialogue.settle(*call, false, None, false);
-        expect(&rt, heard == *meaning && orders == *want, "a turn");
+    for turn in &TURNS {
+        expect(&rt, takes(&mut dialogue, turn), "a turn");
     }
+}
+
+/// Begins an analysis.
+fn analyse(rt: &impl Abort, dialogue: &mut Dialogue) {
+    expect(rt, dialogue.heard(Said::UciOk) == Heard::Booted, "uciok");
+    let begun = dialogue.settle(Call::Analyse, false, None, false);
+    expect(rt, begun == Orders::Begin(Call::Analyse), "go");
+    expect(rt, dialogue.state() == ANALYSES, "an open search");
+}
+
+/// Ends the engine, of which nothing is heard then.
+fn end(rt: &impl Abort, dialogue: &mut Dialogue) {
+    expect(rt, dialogue.heard(Said::Ended) == Heard::Ended, "the end");
+    expect(rt, dialogue.heard(Said::Ended) == Heard::Nothing, "no more");
 }
 
 #[test]
 fn is_spent_by_an_answer(rt: HostRuntime) {
     let mut dialogue = Dialogue::new();
-    expect(&rt, dialogue.heard(Said::UciOk) == Heard::Booted, "uciok");
-    let begun = dialogue.settle(Call::Analyse, false, None, false);
-    expect(&rt, begun == Orders::Begin(Call::Analyse), "go");
-    expect(&rt, dialogue.state() == ANALYSES, "an open search");
+    analyse(&rt, &mut dialogue);
     let answered = dialogue.heard(Said::Best) == ANALYSED;
     expect(&rt, answered && dialogue.is_spent(), "bestmove");
     let owed = dialogue.owed(Call::Analyse);
@@ -99,10 +117,5 @@ fn is_spent_by_an_answer(rt: HostRuntime) {
     dialogue.new_epoch();
     let owed = dialogue.owed(Call::Analyse);
     expect(&rt, owed == Call::Analyse, "an analysis is owed");
-    expect(&rt, dialogue.heard(Said::Ended) == Heard::Ended, "the end");
-    expect(
-        &rt,
-        dialogue.heard(Said::Ended) == Heard::Nothing,
-        "no more",
-    );
+    end(&rt, &mut dialogue);
 }

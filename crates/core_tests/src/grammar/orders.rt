@@ -64,9 +64,8 @@ fn control_of(rt: &impl Abort, fields: &str) -> GoControl {
     }
 }
 
-/// What a row says that a line means.
-fn meant<'a>(rt: &impl Abort, want: &'a str) -> Order<'a> {
-    let (kind, fields) = cut(want);
+/// The order of a row whose order is one word.
+fn bare<'a>(rt: &impl Abort, kind: &str) -> Order<'a> {
     match first(kind) {
         b'u' => Order::Uci,
         b'i' => Order::IsReady,
@@ -74,6 +73,22 @@ fn meant<'a>(rt: &impl Abort, want: &'a str) -> Order<'a> {
         b's' => Order::Stop,
         b'h' => Order::PonderHit,
         b'q' => Order::Quit,
+        _ => panic!(rt; "no order: {kind}"),
+    }
+}
+
+fn go_of<'a>(rt: &impl Abort, fields: &str) -> Order<'a> {
+    Order::Go {
+        ponder: text_of(rt, fields, "ponder") == "true",
+        control: control_of(rt, fields),
+        depth: number_in(rt, fields, "depth"),
+    }
+}
+
+/// What a row says that a line means.
+fn meant<'a>(rt: &impl Abort, want: &'a str) -> Order<'a> {
+    let (kind, fields) = cut(want);
+    match first(kind) {
         b'o' => Order::SetOption {
             name: bytes_of(rt, fields, "name"),
             value: bytes_in(fields, "value"),
@@ -82,12 +97,8 @@ fn meant<'a>(rt: &impl Abort, want: &'a str) -> Order<'a> {
             fen: bytes_in(fields, "fen"),
             moves: bytes_of(rt, fields, "moves"),
         },
-        b'g' => Order::Go {
-            ponder: text_of(rt, fields, "ponder") == "true",
-            control: control_of(rt, fields),
-            depth: number_in(rt, fields, "depth"),
-        },
-        _ => panic!(rt; "no order: {kind}"),
+        b'g' => go_of(rt, fields),
+        _ => bare(rt, kind),
     }
 }
 

@@ -32,6 +32,10 @@ fn reads_marks_of_a_length(rt: HostRuntime) {
         let found = is_mark(&rt, rt.alloc(), *letter, *length);
         assert!(rt; found == *want, "{length}");
     }
+}
+
+#[test]
+fn writes_no_mark_of_the_opening(rt: HostRuntime) {
     // the step that no mark stands for
     let mut script = Out::make(rt.alloc(), 9).expect(&rt, "memory");
     write_mark_line(&Mark::Event(Event::Open), &mut script);

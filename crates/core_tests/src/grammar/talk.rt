@@ -65,13 +65,21 @@ fn is_spoken(line: &str, moves: &str, end: &str) -> bool {
 }
 
 #[test]
-fn orders_that_can_be_read(rt: HostRuntime) {
+fn kinds_of_searches(rt: HostRuntime) {
     for (line, want) in &KINDS {
         expect(&rt, go_kind(line.as_bytes()) == *want, line);
     }
+}
+
+#[test]
+fn positions_that_can_be_read(rt: HostRuntime) {
     for (line, moves, end) in &POSITIONS {
         expect(&rt, is_spoken(line, moves, end), line);
     }
+}
+
+#[test]
+fn positions_that_cannot_be_read(rt: HostRuntime) {
     for line in &NO_POSITIONS {
         expect(&rt, spoken(line.as_bytes()).is_none(), line);
     }

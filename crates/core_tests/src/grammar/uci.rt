@@ -30,17 +30,23 @@ const REPORTS: [Row; 6] = [
     ("info string depth 9", None, None, false),
 ];
 
+/// Whether a line is a report with these values.
+fn tells(line: &str, time: Option<u64>, score: Option<Score>, bound: bool) -> bool {
+    match read_engine(line.as_bytes()) {
+        EngineMsg::Info(info) => info.time == time && info.score == score && info.bound == bound,
+        _ => false,
+    }
+}
+
 #[test]
 fn engine_lines(rt: HostRuntime) {
     for (line, time, score, bound) in &REPORTS {
-        let told = match read_engine(line.as_bytes()) {
-            EngineMsg::Info(info) => {
-                info.time == *time && info.score == *score && info.bound == *bound
-            }
-            _ => false,
-        };
-        expect(&rt, told, line);
+        expect(&rt, tells(line, *time, *score, *bound), line);
     }
+}
+
+#[test]
+fn options_without_a_name(rt: HostRuntime) {
     let unnamed = matches!(
         read_engine(b"option name type check"),
         EngineMsg::OptionLine(OptionMsg {

@@ -41,11 +41,19 @@ fn numbers_are_read(rt: HostRuntime) {
     let most = Some(999_999_999_999_999_999);
     expect(&rt, read_count(b"999999999999999999") == most, "most");
     expect(&rt, read_count(b"1000000000000000000").is_none(), "more");
+}
+
+#[test]
+fn signed_numbers_are_read(rt: HostRuntime) {
     for (text, want) in &SIGNED {
         expect(&rt, read_signed(text.as_bytes()) == *want, text);
     }
     expect(&rt, read_centis(b"-100") == Some(-100), "-100");
     expect(&rt, read_centis(b"30000") == Some(30_000), "30000");
+}
+
+#[test]
+fn seconds_are_read(rt: HostRuntime) {
     for (text, want) in &SECONDS {
         expect(&rt, read_seconds(text.as_bytes()) == *want, text);
     }
@@ -70,15 +78,25 @@ const TOKENS: [(&str, Option<(&[u8], &[u8])>); 3] = [
 const WORDS: [(&[u8], u32); 3] = [(b"one", 1), (b"two", 2), (b"one", 3)];
 
 #[test]
-fn lines_are_cut_at_white_space(rt: HostRuntime) {
+fn white_space_is_known(rt: HostRuntime) {
     for (byte, want) in &WHITE {
         assert!(rt; is_white(*byte) == *want, "white space {byte}");
     }
-    let line = b" \tlevel  40 5\r".as_slice();
-    expect_text(&rt, trim_start(line), "level  40 5\r");
-    expect_text(&rt, trim_end(line), " \tlevel  40 5");
-    expect_text(&rt, trim(line), "level  40 5");
-    let (word, rest) = split_token(line);
+}
+
+/// A line with white space of each kind.
+const LINE: &[u8] = b" \tlevel  40 5\r";
+
+#[test]
+fn lines_are_trimmed(rt: HostRuntime) {
+    expect_text(&rt, trim_start(LINE), "level  40 5\r");
+    expect_text(&rt, trim_end(LINE), " \tlevel  40 5");
+    expect_text(&rt, trim(LINE), "level  40 5");
+}
+
+#[test]
+fn lines_are_cut_at_white_space(rt: HostRuntime) {
+    let (word, rest) = split_token(LINE);
     expect_text(&rt, word, "level");
     expect_text(&rt, rest, "40 5");
     let (none, after) = split_token(b" \r");
@@ -89,10 +107,14 @@ fn lines_are_cut_at_white_space(rt: HostRuntime) {
 }
 
 #[test]
-fn tokens_and_words_are_found(rt: HostRuntime) {
+fn tokens_are_found(rt: HostRuntime) {
     for (text, want) in &TOKENS {
         expect(&rt, next_token(text.as_bytes()) == *want, text);
     }
+}
+
+#[test]
+fn words_are_found(rt: HostRuntime) {
     expect(&rt, named(&WORDS, b"one") == Some(1), "one");
     expect(&rt, named(&WORDS, b"two") == Some(2), "two");
     expect(&rt, named(&WORDS, b"three").is_none(), "three");

@@ -2,7 +2,8 @@
 // sessions over files are in `scripts/dev/worked`.
 ghost use Rattle.std.specs.Prelude.{◌<◌};
 
-use crate::scripts::streams::{Streams, expect};
+use crate::expect::expect;
+use crate::scripts::streams::Streams;
 use line_io::MemSink;
 use line_scribe::{Ending, tell_short};
 use replay_tool::{refuse_for_memory, replay_main};
@@ -30,20 +31,32 @@ const NUMBERED_SCRIPT: &str =
 /// The status, what is written, and the diagnostic.
 type Answer = (u8, &'static str, &'static str);
 
-/// Runs the program on words between bars, and gives its status.
-fn status_of(rt: &impl Abort, alloc: Global, words: &[u8], streams: &mut Streams) -> u8 {
+/// The words as the program takes them.
+fn words_of(rt: &impl Abort, alloc: Global, words: &[&[u8]]) -> Vec<Vec<u8>> {
     let mut list = Vec::new(alloc);
-    for word in words.split(|b| *b == b'|') {
+    for word in words {
         let word = Vec::from_slice(alloc, word).expect(rt, "memory");
         list.push(word).expect(rt, "memory");
     }
+    list
+}
+
+/// Runs the program on words, and gives its status.
+fn status_of(rt: &impl Abort, alloc: Global, words: &[&[u8]], streams: &mut Streams) -> u8 {
+    let list = words_of(rt, alloc, words);
     let input = &mut streams.input;
     let output = &mut streams.output;
     replay_main(alloc, list.as_slice(), input, output, &mut streams.diag).code
 }
 
-/// Runs the program on words between bars, and compares its answer.
-fn expect_answer(rt: &impl Abort, alloc: Global, words: &[u8], mut streams: Streams, want: Answer) {
+/// Runs the program on words, and compares its answer.
+fn expect_answer(
+    rt: &impl Abort,
+    alloc: Global,
+    words: &[&[u8]],
+    mut streams: Streams,
+    want: Answer,
+) {
     let (status, output, told) = want;
     let found = status_of(rt, alloc, words, &mut streams);
     expect(rt, streams.output.taken() == output.as_bytes(), output);
@@ -57,12 +70,12 @@ fn expect_script(rt: &impl Abort, alloc: Global, input: &str, script: &'static s
     let want = (0, script, "");
     for piece in 1..8usize {
         let streams = Streams::make(rt, alloc, input.as_bytes(), piece);
-        expect_answer(rt, alloc, b"replay", streams, want);
+        expect_answer(rt, alloc, &[b"replay"], streams, want);
     }
     let whole = Streams::make(rt, alloc, script.as_bytes(), 4096);
-    expect_answer(rt, alloc, b"replay", whole, want);
+    expect_answer(rt, alloc, &[b"replay"], whole, want);
     let bytes = Streams::make(rt, alloc, script.as_bytes(), 1);
-    expect_answer(rt, alloc, b"check", bytes, (0, "lawful\n", ""));
+    expect_answer(rt, alloc, &[b"check"], bytes, (0, "lawful\n", ""));
 }
 
 #[test]
@@ -74,27 +87,46 @@ fn inputs_in_pieces_are_replayed(rt: HostRuntime) {
 }
 
 /// What these words answer whose first write fails.
-fn expect_no_write(rt: &impl Abort, alloc: Global, words: &[u8], input: &[u8]) {
+fn expect_no_write(rt: &impl Abort, alloc: Global, words: &[&[u8]], input: &[u8]) {
     let streams = Streams::failing(rt, alloc, input, 4096, &[], &[1]);
     let want = (5, "", "replay: writing failed\n");
     expect_answer(rt, alloc, words, streams, want);
 }
 
 #[test]
-fn faults_are_told(rt: HostRuntime) {
+fn a_read_that_fails_is_told(rt: HostRuntime) {
     let alloc = rt.alloc();
     let unread = Streams::failing(&rt, alloc, b"x ping 1\nx ping 2\n", 9, &[2], &[]);
     let output = "U uci\nx ping 1\nX pong 1\n";
     let want = (4, output, "replay: reading failed\n");
-    expect_answer(&rt, alloc, b"replay", unread, want);
-    expect_no_write(&rt, alloc, b"moves|4k3/8/8/8/8/8/8/4K3|w|-|-", b"");
-    expect_no_write(&rt, alloc, b"drill|1|0", b"");
-    expect_no_write(&rt, alloc, b"check", b"U uci\nx ping 1\nX pong 1\n");
-    // a word that is no text
-    let empty = Streams::make(&rt, alloc, b"", 7);
+    expect_answer(&rt, alloc, &[b"replay"], unread, want);
+}
+
+#[test]
+fn writes_that_fail_are_told(rt: HostRuntime) {
+    let alloc = rt.alloc();
+    let moves = [
+        b"moves".as_slice(),
+        b"4k3/8/8/8/8/8/8/4K3",
+        b"w",
+        b"-",
+        b"-",
+    ];
+    expect_no_write(&rt, alloc, &moves, b"");
+    expect_no_write(&rt, alloc, &[b"drill", b"1", b"0"], b"");
+    expect_no_write(&rt, alloc, &[b"check"], b"U uci\nx ping 1\nX pong 1\n");
+}
+
+#[test]
+fn a_word_that_is_no_text_is_told(rt: HostRuntime) {
+    let empty = Streams::make(&rt, rt.alloc(), b"", 7);
     let want = (2, "", "replay: position: board\n");
-    expect_answer(&rt, alloc, b"moves|\xff", empty, want);
-    let mut diag = MemSink::make(alloc, 100, &[]).expect(&rt, "memory");
+    expect_answer(&rt, rt.alloc(), &[b"moves", b"\xff"], empty, want);
+}
+
+#[test]
+fn a_lack_of_memory_is_told(rt: HostRuntime) {
+    let mut diag = MemSink::make(rt.alloc(), 100, &[]).expect(&rt, "memory");
     let refused = refuse_for_memory(&mut diag).code == 3;
     let told = diag.taken() == b"replay: no memory\n".as_slice();
     expect(&rt, refused && told, "no memory");
@@ -118,19 +150,25 @@ fn letters(rt: &impl Abort, alloc: Global, count: usize) -> Vec<u8> {
     line
 }
 
+/// How long the script of an input is, if it is replayed.
+fn script_length(rt: &impl Abort, alloc: Global, input: &[u8]) -> Option<usize> {
+    let mut streams = Streams::make(rt, alloc, input, 4096);
+    let done = status_of(rt, alloc, &[b"replay"], &mut streams) == 0;
+    done.then_some(streams.output.taken().len())
+}
+
 #[test]
 fn lines_are_as_long_as_they_may_be(rt: HostRuntime) {
     let longest = letters(&rt, rt.alloc(), 65_536);
-    let mut streams = Streams::make(&rt, rt.alloc(), longest.as_slice(), 4096);
-    let done = status_of(&rt, rt.alloc(), b"replay", &mut streams) == 0;
-    let length = streams.output.taken().len();
-    expect(
-        &rt,
-        done && length == 6 + 65_539 + 2 + 25 + 65_537,
-        "the longest line",
-    );
+    let length = script_length(&rt, rt.alloc(), longest.as_slice());
+    let want = Some(6 + 65_539 + 2 + 25 + 65_537);
+    expect(&rt, length == want, "the longest line");
+}
+
+#[test]
+fn lines_are_no_longer(rt: HostRuntime) {
     let longer = letters(&rt, rt.alloc(), 65_537);
     let refused = Streams::make(&rt, rt.alloc(), longer.as_slice(), 4096);
     let want = (2, "U uci\n", "replay: line 1 has no mark\n");
-    expect_answer(&rt, rt.alloc(), b"replay", refused, want);
+    expect_answer(&rt, rt.alloc(), &[b"replay"], refused, want);
 }

@@ -38,8 +38,3 @@ impl Streams {
         }
     }
 }
-
-/// What a test wants holds. That is told here alone, since each place that tells costs a proof.
-pub fn expect(rt: &impl Abort, holds: bool, what: &str) {
-    assert!(rt; holds, "{what}");
-}

@@ -1,7 +1,9 @@
 // Options and orders up to their limits, which no worked session reaches.
 use crate::expect::{expect, expect_text, room};
 use cecp_lines::IfaceMsg;
+use line_io::Out;
 use option_map::{Declared, HeldOrders, Options};
+use std::alloc::Global;
 use std::process::Abort;
 use uci_lines::{EngineMsg, OptionKind, OptionMsg, read_engine};
 
@@ -34,52 +36,63 @@ const FULL_TABLE: [Row; 2] = [
     ("option name Aa type check", Declared::Double),
 ];
 
-/// Declares what each line tells, and compares what comes of it.
-fn expect_told(rt: &impl Abort, rows: &[Row], options: &mut Options) {
-    for (line, want) in rows {
-        match read_engine(line.as_bytes()) {
-            EngineMsg::OptionLine(msg) => expect(rt, options.declare(&msg, false) == *want, line),
-            _ => panic!(rt; "no option: {line}"),
-        }
+/// The option that a line declares.
+fn option_of<'a>(rt: &impl Abort, line: &'a str) -> OptionMsg<'a> {
+    match read_engine(line.as_bytes()) {
+        EngineMsg::OptionLine(msg) => msg,
+        _ => panic!(rt; "no option: {line}"),
     }
 }
 
-/// Declares an option, and expects how many there are then, and how long their texts are.
-fn expect_one(rt: &impl Abort, msg: &OptionMsg, count: usize, text: usize, options: &mut Options) {
-    let done = options.declare(msg, false) == Declared::Done;
-    assert!(rt;
-        done && options.count() == count && options.text() == text,
-        "{count} options"
-    );
+/// Declares what each line tells, and compares what comes of it.
+fn expect_told(rt: &impl Abort, rows: &[Row], options: &mut Options) {
+    for (line, want) in rows {
+        let told = options.declare(&option_of(rt, line), false);
+        expect(rt, told == *want, line);
+    }
+}
+
+/// Whether there are so many options, and their texts are so long.
+fn are_so_many(options: &Options, count: usize, text: usize) -> bool {
+    options.count() == count && options.text() == text
+}
+
+/// Whether an option is declared, and there are so many then, and their texts are so long.
+fn declares(msg: &OptionMsg, count: usize, text: usize, options: &mut Options) -> bool {
+    options.declare(msg, false) == Declared::Done && are_so_many(options, count, text)
+}
+
+/// Declares what each line tells where nothing else is declared, and compares what comes of it.
+fn expect_alone(rt: &impl Abort, alloc: Global, rows: &[Row]) {
+    let mut options = Options::make(alloc).expect(rt, "memory for the options");
+    expect_told(rt, rows, &mut options);
+}
+
+/// Declares as much text as there may be, by two options with these letters.
+fn fill_text(rt: &impl Abort, letters: &[u8], options: &mut Options) {
+    let kind = OptionKind::Text { default: letters };
+    let first = OptionMsg { name: b"A", kind };
+    expect(rt, declares(&first, 1, 32_768, options), "1 options");
+    let second = OptionMsg { name: b"B", kind };
+    expect(rt, declares(&second, 2, 65_536, options), "2 options");
+    expect_told(rt, &FULL_TEXT, options);
+}
+
+/// Declares so much text where nothing else is declared.
+fn fill_text_alone(rt: &impl Abort, alloc: Global, letters: &[u8]) {
+    let mut options = Options::make(alloc).expect(rt, "memory for the options");
+    fill_text(rt, letters, &mut options);
 }
 
 #[test]
 fn declares_so_much_text(rt: HostRuntime) {
-    let mut reasons = Options::make(rt.alloc()).expect(&rt, "memory for the options");
-    expect_told(&rt, &REASONS, &mut reasons);
+    expect_alone(&rt, rt.alloc(), &REASONS);
     let letters = vec![in rt.alloc(); b'x'; 32_741].expect(&rt, "memory for the letters");
-    let mut options = Options::make(rt.alloc()).expect(&rt, "memory for the options");
-    let kind = OptionKind::Text { default: &letters };
-    expect_one(
-        &rt,
-        &OptionMsg { name: b"A", kind },
-        1,
-        32_768,
-        &mut options,
-    );
-    expect_one(
-        &rt,
-        &OptionMsg { name: b"B", kind },
-        2,
-        65_536,
-        &mut options,
-    );
-    expect_told(&rt, &FULL_TEXT, &mut options);
+    fill_text_alone(&rt, rt.alloc(), &letters);
 }
 
-#[test]
-fn declares_so_many_options(rt: HostRuntime) {
-    let mut options = Options::make(rt.alloc()).expect(&rt, "memory for the options");
+/// Declares as many options as there may be.
+fn fill_table(options: &mut Options) {
     for first in b"abcdefghijklmnop" {
         for second in b"ABCDEFGHIJKLMNOP" {
             let msg = OptionMsg {
@@ -89,13 +102,15 @@ fn declares_so_many_options(rt: HostRuntime) {
             options.declare(&msg, false);
         }
     }
+}
+
+#[test]
+fn declares_so_many_options(rt: HostRuntime) {
+    let mut options = Options::make(rt.alloc()).expect(&rt, "memory for the options");
+    fill_table(&mut options);
     expect_told(&rt, &FULL_TABLE, &mut options);
     // 27 bytes each
-    expect(
-        &rt,
-        options.count() == 256 && options.text() == 6_912,
-        "all",
-    );
+    expect(&rt, are_so_many(&options, 256, 6_912), "all");
 }
 
 /// Adds the order of a line, if it fits.
@@ -141,16 +156,45 @@ const LONG: &[u8] = b"setoption name S value ";
 /// The letters of the longest value of an option named by one letter.
 const MOST: usize = 65_512;
 
+/// What spells no order does not fit.
+fn check_no_orders(rt: &impl Abort, held: &HeldOrders) {
+    for line in &NO_ORDERS {
+        expect(rt, !held.fits(line.as_bytes()), line);
+    }
+}
+
+/// Holds as many orders and as many bytes as there may be. The longer line has one byte more.
+fn fill(rt: &impl Abort, alloc: Global, longer: &[u8]) {
+    let mut held = HeldOrders::make(alloc).expect(rt, "memory");
+    check_no_orders(rt, &held);
+    fill_count(rt, &mut held);
+    fill_bytes(rt, longer, &mut held);
+}
+
 #[test]
 fn holds_so_many_orders(rt: HostRuntime) {
     let mut longer = vec![in rt.alloc(); b'x'; LONG.len() + MOST + 1].expect(&rt, "memory");
     longer[..LONG.len()].copy_from_slice(LONG);
-    let mut held = HeldOrders::make(rt.alloc()).expect(&rt, "memory");
-    for line in &NO_ORDERS {
-        expect(&rt, !held.fits(line.as_bytes()), line);
+    fill(&rt, rt.alloc(), &longer);
+}
+
+/// Translates a line that sets an option, if there is room for its order.
+fn translate(rt: &impl Abort, options: &Options, out: &mut Out) {
+    options.facts();
+    let asked = IfaceMsg::SetOption {
+        name: b"multipv",
+        value: None,
+    };
+    if out.spare() >= 71 {
+        expect(rt, options.translate(&asked, out) == Ok(true), "asked");
     }
-    fill_count(&rt, &mut held);
-    fill_bytes(&rt, &longer, &mut held);
+}
+
+/// Expects the order that a line asks for.
+fn expect_translated(rt: &impl Abort, alloc: Global, options: &Options) {
+    let mut out = room(rt, alloc, 99);
+    translate(rt, options, &mut out);
+    expect_text(rt, out.bytes(), "setoption name MultiPV");
 }
 
 #[test]
@@ -161,18 +205,5 @@ fn translates_a_line(rt: HostRuntime) {
         kind: OptionKind::Button,
     };
     options.declare(&msg, false);
-    options.facts();
-    let asked = IfaceMsg::SetOption {
-        name: b"multipv",
-        value: None,
-    };
-    let mut out = room(&rt, rt.alloc(), 99);
-    if out.spare() >= 71 {
-        expect(
-            &rt,
-            options.translate(&asked, &mut out) == Ok(true),
-            "asked",
-        );
-    }
-    expect_text(&rt, out.bytes(), "setoption name MultiPV");
+    expect_translated(&rt, rt.alloc(), &options);
 }

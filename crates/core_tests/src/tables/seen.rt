@@ -69,17 +69,27 @@ const KEPT: [Row; 10] = [
     ),
 ];
 
+/// Hears a line of an engine at the standard start.
+fn hear(seen: &mut SeenThinking, line: &str) {
+    if let EngineMsg::Info(info) = read_engine(line.as_bytes()) {
+        seen.hear(&info, &Position::start());
+    }
+}
+
+/// Whether so much is kept of three lines.
+fn keeps(row: &Row) -> bool {
+    let ([first, second, third], time, number, score) = row;
+    let mut seen = SeenThinking::new();
+    hear(&mut seen, first);
+    hear(&mut seen, second);
+    hear(&mut seen, third);
+    seen.time == *time && seen.number == *number && seen.score == *score
+}
+
 #[test]
 fn keeps_what_was_told_last(rt: HostRuntime) {
-    let at = Position::start();
-    for (lines, time, number, score) in &KEPT {
-        let mut seen = SeenThinking::new();
-        for line in lines {
-            if let EngineMsg::Info(info) = read_engine(line.as_bytes()) {
-                seen.hear(&info, &at);
-            }
-        }
-        let kept = seen.time == *time && seen.number == *number && seen.score == *score;
-        expect(&rt, kept, lines[1]);
+    for row in &KEPT {
+        let (lines, ..) = row;
+        expect(&rt, keeps(row), lines[1]);
     }
 }

@@ -1,6 +1,6 @@
 // The table of settings, and what no word of a program shows of it.
 use crate::expect::expect;
-use policy_rules::{Range, SETTINGS, Settings, Value, name_in, read_number};
+use policy_rules::{Range, SETTINGS, Setting, Settings, Value, name_in, read_number};
 
 /// A name, and the text of its usual value.
 const ROWS: [(&str, &str); 9] = [
@@ -15,15 +15,29 @@ const ROWS: [(&str, &str); 9] = [
     ("StrengthOptions", "false"),
 ];
 
+/// Whether a setting has this name and this usual value.
+fn is_called(setting: Setting, name: &str, usual: &str) -> bool {
+    let row = setting.row();
+    row.name == name && row.usual == usual
+}
+
+/// Whether the usual value of a setting is a number just if its range is one of numbers.
+fn is_in_range(setting: Setting) -> bool {
+    let has_numbers = matches!(setting.row().range, Range::Number { .. });
+    let value = Settings::usual().value(setting);
+    matches!(value, Value::Number(_)) == has_numbers
+}
+
 #[test]
 fn has_a_row_for_each_setting(rt: HostRuntime) {
     for (setting, (name, usual)) in SETTINGS.iter().zip(&ROWS) {
-        let row = setting.row();
-        expect(&rt, row.name == *name && row.usual == *usual, name);
-        let has_numbers = matches!(row.range, Range::Number { .. });
-        let value = Settings::usual().value(*setting);
-        expect(&rt, matches!(value, Value::Number(_)) == has_numbers, name);
+        expect(&rt, is_called(*setting, name, usual), name);
+        expect(&rt, is_in_range(*setting), name);
     }
+}
+
+#[test]
+fn words_are_read(rt: HostRuntime) {
     for word in [b"ShowSan=true=".as_slice(), b"ShowSan"] {
         expect(&rt, name_in(word) == b"ShowSan".as_slice(), "a name");
     }
