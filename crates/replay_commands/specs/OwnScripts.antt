@@ -37,7 +37,7 @@ pub record NoFaultFound (listener : Listener) (script : List ℕ) (before after 
   -- it is judged to its end, or there was no memory
   pub complete : length script < 2 ^ 32 → IsSteady before after → (code ≡ 0) ⊎ (code ≡ 3)
 
--- No fault is found if the input is the script, of either version, of a lawful trace.
+-- No fault is found if the input is the script, of any version, of a lawful trace.
 abbrev pub JudgesOwnTalk : Listener → Streams → Streams → ℕ → Type 0
 JudgesOwnTalk listener before after code =
     (version : Version) (o : Settings) (trace : List Step) → IsProperIn version

@@ -95,12 +95,12 @@ TellsFault before after code =
     → script_fault (items SCRIPT_LINE x) ≡ Some fault → IsSteady before after
     → ((code ≡ 2) × Appends before.diag.taken after.diag.taken (diagnostic fault)) ⊎ (code ≡ 3)
 
--- a header of version 2 states proper settings
+-- the settings of the header, if there is one, are proper
 abbrev pub IsProperIn : Version → Type 0
 IsProperIn First = ⊤
 IsProperIn (Second settings) = IsProper settings
 
--- If the input is the script, of either version, of a lawful trace that has its Open step, that
+-- If the input is the script, of any version, of a lawful trace that has its Open step, that
 -- script was written, except for lack of memory and failures.
 abbrev pub WritesItAgain : Settings → Streams → Streams → ℕ → Type 0
 WritesItAgain o before after code =

@@ -6,8 +6,8 @@ use Rattle.event_pipe.specs.declared.message.Peer.TheVariants as peers
 use Rattle.event_pipe.specs.declared.pipe.PipeSend.{PipeSend}
 use Rattle.event_pipe.specs.Ends.{IsFreshSender}
 use Rattle.event_pipe.specs.Rule.{sent_by}
-use Rattle.sink_offers.specs.Streams.{Streams}
-use Rattle.sink_offers.specs.Took.{LogTook}
+use Rattle.host_run.specs.Streams.{Streams}
+use Rattle.host_run.specs.Took.{LogTook}
 use Rattle.tap_runner.specs.declared.passing.Direction.{Direction}
 use Rattle.tap_runner.specs.declared.run.TapEnd.{TapEnd}
 use Rattle.tap_runner.specs.Hearing.{Open, fresh}
@@ -24,10 +24,9 @@ abbrev pub IsReadyWay : Direction → Peer → Type 0
 IsReadyWay way peer = IsReady way.to way.part (vec_len way.buf) peer
 
 -- What the bridge wrote was handed on to the engine, and what the engine wrote to the bridge. The
--- log is the marks of the lines of both, each side's in its order, and in all in the order in which
--- they went through one channel.
+-- log is the marks of the lines of both, each side's in its order.
 pub record Ran (before after : Streams) (end : TapEnd) : Type 0 where
-  -- what went through the channel
+  -- the lines and ends of both, in the order of the log
   pub events : List Event
   pub from_bridge : Passed peers.Iface before.input after.input
       before.into.engine after.into.engine (sent_by peers.Iface events) end.bridge
