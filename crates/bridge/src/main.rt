@@ -3,9 +3,9 @@
 
 use bridge_runner::{bridge_main, refuse_for_memory};
 use child_engine::{EngineInput, RealHost};
+use host_run::Interface;
 use line_io::{ReadAdapter, WriteAdapter};
 use program_edges::{ClosedStreams, NO_MEMORY, WORDS_ROOM, words_of};
-use sink_offers::Interface;
 use std::process::{ChildStdin, ExitCode};
 
 fn main(rt: HostRuntime) -> ExitCode {

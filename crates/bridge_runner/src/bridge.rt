@@ -9,11 +9,10 @@ ghost use Rattle.bridge_runner.specs.Bridged.{Leaves};
 
 use crate::Session;
 use child_engine::Host;
-use host_run::{Failures, only_memory};
+use host_run::{Failures, Interface, only_memory};
 use line_io::{Sink, Source};
 use mediator::{RunRequest, run_mediator};
 use policy_rules::Settings;
-use sink_offers::Interface;
 use std::alloc::Global;
 use std::sync::Wait;
 use std::thread::Threads;

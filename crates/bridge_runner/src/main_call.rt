@@ -1,6 +1,6 @@
 // The program over any host.
 ghost use Rattle.std.specs.Prelude.{◌≡◌, [], true, IfSome};
-ghost use Rattle.program_words.specs.Words.{bytes_of};
+ghost use Rattle.program_edges.specs.Words.{bytes_of};
 ghost use Rattle.setting_words.specs.BridgeWords.{AreAsked, AreTaken, engine_words, log_named, values_found};
 ghost use Rattle.child_engine.specs.Hosts.{IsUnused};
 ghost use Rattle.host_run.specs.Asked.{AsksAsTold};
@@ -12,11 +12,10 @@ ghost use Rattle.bridge_runner.specs.Program.{RunsAsAsked, RunsWhole, program};
 
 use crate::running::run_bridge;
 use child_engine::Host;
-use host_run::{ProgramEnding, finish};
+use host_run::{Interface, ProgramEnding, finish};
 use line_io::{Sink, Source, Status};
 use mediator::RunRequest;
 use setting_words::read_bridge_words;
-use sink_offers::Interface;
 use std::alloc::Global;
 use std::sync::Wait;
 use std::thread::Threads;

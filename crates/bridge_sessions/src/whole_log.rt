@@ -1,6 +1,6 @@
 // The log of a run over a host in memory is the script of the run's trace.
 ghost use Rattle.std.specs.Prelude.{IfOk, IfSome};
-ghost use Rattle.program_words.specs.Words.{bytes_of};
+ghost use Rattle.program_edges.specs.Words.{bytes_of};
 ghost use Rattle.child_engine.specs.Hosts.{IsUnused};
 ghost use Rattle.child_engine.specs.Memory.{books_of, means_of};
 ghost use Rattle.bridge_sessions.specs.Scripts.{IsScript};
@@ -9,8 +9,8 @@ use crate::expected::words_of;
 use crate::ping::ENGINE;
 use bridge_runner::bridge_main;
 use child_engine::{Fails, MemHost};
+use host_run::Interface;
 use line_io::{MemSink, MemSource, NoMemory};
-use sink_offers::Interface;
 use std::alloc::Global;
 use std::process::Abort;
 use std::sync::Wait;

@@ -16,7 +16,7 @@ use Rattle.chess_board.proofs.Start.{start-is}
 use Rattle.game_record.specs.Game.{Ply, Game, AreLegal, game_from, now_of, ply_of, with_ply}
 use Rattle.game_record.proofs.Replays.{legal-append}
 use Rattle.game_record.specs.Line.{is_standard}
-use Rattle.uci_talk.specs.Lines.{Line as SpokenLine, line_of}
+use Rattle.uci_engine_side.specs.Lines.{Line as SpokenLine, line_of}
 use Rattle.driver_talk.specs.declared.words.GoClocks.{GoClocks}
 use Rattle.driver_talk.specs.declared.words.ToEngine.{ToEngine}
 use Rattle.driver_talk.specs.declared.words.ToEngine.TheVariants as downs

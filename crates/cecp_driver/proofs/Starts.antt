@@ -15,7 +15,7 @@ use Rattle.fen_text.specs.declared.fault.FenFault.{FenFault}
 use Rattle.fen_text.specs.Fen.{or_fault, position_of_fields, position_from_fields}
 use Rattle.fen_text.specs.Fields.{is_passed, passant_of, rights_of, side_of}
 use Rattle.fen_text.specs.Squares.{board_of, exactly, men_if_fitting, men_if_both, men_of, men_in_field, rank_of, ranks_in, squares_in}
-use Rattle.uci_talk.specs.Lines.{Line, before_moves, behind_moves, if_right, position_after_texts, line_from, line_in, line_of, line_to, standard_if_alone, start_in}
+use Rattle.uci_engine_side.specs.Lines.{Line, before_moves, behind_moves, if_right, position_after_texts, line_from, line_in, line_of, line_to, standard_if_alone, start_in}
 use Rattle.peer_words.specs.Tokens.{tokens}
 
 -- A BOARD HAS 64 SQUARES

@@ -7,7 +7,7 @@ use Rattle.peer_words.specs.Tokens.{tokens, first_token}
 use Rattle.chess_board.specs.declared.board.Move.{Move}
 use Rattle.chess_board.specs.Play.{start_position}
 use Rattle.game_record.specs.Game.{Game, game_from, now_of, ply_of}
-use Rattle.uci_talk.specs.Kinds.{kind_asked}
+use Rattle.uci_engine_side.specs.Kinds.{kind_asked}
 use Rattle.driver_talk.specs.declared.words.Thought.{Thought}
 use Rattle.driver_talk.specs.declared.talk.DriverStage.{DriverStage}
 use Rattle.driver_talk.specs.declared.talk.DriverStage.TheVariants as stages

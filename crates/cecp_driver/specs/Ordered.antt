@@ -5,7 +5,7 @@ use Rattle.chess_board.specs.declared.board.Move.{Move}
 use Rattle.chess_board.specs.Place.{legal}
 use Rattle.chess_board.specs.Spelling.{move_of}
 use Rattle.game_record.specs.Game.{Game, game_from, now_of, ply_of, with_ply}
-use Rattle.uci_talk.specs.Lines.{Line, line_of}
+use Rattle.uci_engine_side.specs.Lines.{Line, line_of}
 use Rattle.game_record.specs.Keeps.{most_plies}
 
 -- a move is legal, and the game has room for it

@@ -20,7 +20,7 @@ use game_record::Game;
 use line_io::{NoMemory, Out, PEER_LINE, SCRIPT_LINE};
 use std::alloc::Global;
 use std::marker::Model;
-use uci_talk::go_kind;
+use uci_engine_side::go_kind;
 
 /// The most bytes of a line.
 pub const LINE_LIMIT: usize = PEER_LINE;

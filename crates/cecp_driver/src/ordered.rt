@@ -11,7 +11,7 @@ ghost use Rattle.cecp_driver.specs.Ordered.{push_one, game_after_texts, ordered_
 use chess_board::{Position, read_move};
 use game_record::Game;
 use peer_words::next_token;
-use uci_talk::spoken;
+use uci_engine_side::spoken;
 
 /// Plays the move that a text names. False if it may not be played.
 fn push_text(text: &[u8], game: &mut Game) -> bool

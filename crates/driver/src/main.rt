@@ -3,8 +3,7 @@
 
 use driver_runner::{drive_main, refuse_for_memory};
 use host_run::ProgramStart;
-use program_edges::{NO_MEMORY, WORDS_ROOM, words_of};
-use program_words::{About, answer_about};
+use program_edges::{About, NO_MEMORY, WORDS_ROOM, answer_about, words_of};
 use std::process::ExitCode;
 
 const ABOUT: About = About {

@@ -6,7 +6,7 @@ use host_run::{
     only_start, tell,
 };
 use line_io::{MemSink, ReadFault};
-use program_words::WordsRefusal;
+use program_edges::WordsRefusal;
 use std::process::Abort;
 
 fn expect_code(rt: &impl Abort, ending: ProgramEnding, code: u8) {

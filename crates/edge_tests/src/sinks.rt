@@ -1,10 +1,10 @@
 // Sinks in memory and writers, what goes to threads, and pieces that are offered.
 use crate::expected::{expect, expect_bytes};
+use host_run::{offer, offer_log};
 use line_io::{
     Failed, MemSink, MemSource, NullSink, Out, ReadAdapter, Sink, SteadySource, WriteAdapter,
     write_all,
 };
-use sink_offers::{offer, offer_log};
 use std::io::{self, ErrorKind, Read, Write};
 
 // Only what may go to another thread is taken.

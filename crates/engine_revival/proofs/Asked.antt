@@ -11,8 +11,8 @@ use Rattle.peer_words.proofs.Lengths.{trimmed_length}
 use Rattle.uci_lines.specs.Cuts.{is_word}
 use Rattle.uci_lines.specs.Orders.{Order as OwnOrder}
 use Rattle.uci_lines.specs.OrderReading.{order_in as own_order_in}
-use Rattle.uci_talk.specs.Kinds.{has_word, kind_asked}
-use Rattle.uci_talk.specs.Lines.{Line, line_of}
+use Rattle.uci_engine_side.specs.Kinds.{has_word, kind_asked}
+use Rattle.uci_engine_side.specs.Lines.{Line, line_of}
 use Rattle.engine_revival.specs.Orders.{RevivalOrder, order_text}
 use Rattle.engine_revival.specs.Orders as orders
 use Rattle.engine_revival.specs.Asked.{asked_by, setting_after_name, order_in, position_asked, setting_asked, setting_of, word_asked}

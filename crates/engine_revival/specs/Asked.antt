@@ -5,8 +5,8 @@ use Rattle.peer_words.specs.Tokens.{tokens, trimmed}
 use Rattle.uci_lines.specs.Cuts.{is_word}
 use Rattle.uci_lines.specs.Orders.{Order as OwnOrder}
 use Rattle.uci_lines.specs.OrderReading.{order_in as own_order_in}
-use Rattle.uci_talk.specs.Kinds.{has_word, kind_asked}
-use Rattle.uci_talk.specs.Lines.{Line, line_of}
+use Rattle.uci_engine_side.specs.Kinds.{has_word, kind_asked}
+use Rattle.uci_engine_side.specs.Lines.{Line, line_of}
 use Rattle.engine_revival.specs.Orders.{RevivalOrder, Uci, IsReady, NewGame, Stop, PonderHit}
 use Rattle.engine_revival.specs.Orders.{Quit, Value, Button, Position, Go, name_in}
 

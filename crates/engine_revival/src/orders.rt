@@ -4,14 +4,14 @@ ghost use Rattle.std.specs.Option.{option_map};
 ghost use Rattle.peer_words.specs.Tokens.{tokens};
 ghost use Rattle.uci_lines.specs.Orders.{order_of as own_order_of};
 ghost use Rattle.uci_lines.specs.OrderReading.{order_in as own_order_in};
-ghost use Rattle.uci_talk.specs.Kinds.{has_word};
-ghost use Rattle.uci_talk.specs.Lines.{line_of};
+ghost use Rattle.uci_engine_side.specs.Kinds.{has_word};
+ghost use Rattle.uci_engine_side.specs.Lines.{line_of};
 ghost use Rattle.engine_revival.specs.Orders.{order_of};
 ghost use Rattle.engine_revival.specs.Asked.{order_in, position_asked, setting_asked, word_asked};
 
 use peer_words::{GoKind, named, next_token};
+use uci_engine_side::{go_kind, spoken};
 use uci_lines::Order as OwnOrder;
-use uci_talk::{go_kind, spoken};
 
 /// An order to an engine. A setting, a `position` and a `go` have their line as it came.
 #[derive(Clone, Copy)]

@@ -3,7 +3,7 @@ use Rattle.std.proofs.Common.{◌≡◌, ◌∙◌, ◌⊎◌, inl, inr, ℕ, ze
 use Rattle.line_io.specs.Causes.{Rose}
 use Rattle.line_io.specs.Source.{Received}
 use Rattle.event_pipe.specs.Counts.{Tells}
-use Rattle.sink_offers.specs.Streams.{log_state}
+use Rattle.host_run.specs.Streams.{log_state}
 use Rattle.child_engine.specs.Asked.{Asked, with_many, and_engines, and_logs}
 use Rattle.child_engine.specs.Hosts.{Books, IsUnused, IsStarted, with_run}
 use Rattle.child_engine.specs.declared.host.Faults.{Faults}

@@ -1,7 +1,7 @@
 -- What a program did by its words, from how it ended.
 use Rattle.std.proofs.Common.{◌≡◌, ◌∙◌, ℕ, List, IfSome, true, sym}
 use Rattle.line_io.specs.Source.{Received}
-use Rattle.program_words.specs.Words.{AreTaken}
+use Rattle.program_edges.specs.Words.{AreTaken}
 use Rattle.child_engine.specs.Asked.{Asked}
 use Rattle.host_run.specs.declared.failures.Failures.{Failures}
 use Rattle.host_run.specs.declared.ending.ProgramEnding.{ProgramEnding}

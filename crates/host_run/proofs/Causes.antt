@@ -8,8 +8,8 @@ use Rattle.host_run.specs.Endings.{ending_of, ending_for, code_of, diagnostic}
 use Rattle.host_run.specs.Outside.{Outside, AreTold, HaveNotRisen, AreAsBefore}
 use Rattle.line_io.specs.Source.{Received}
 use Rattle.host_run.specs.Program.{DoesNothing, RunEnds, Ends, IsToldTo, Answers, StatusSays}
-use Rattle.program_words.specs.declared.refusal.WordsRefusal.{WordsRefusal}
-use Rattle.program_words.specs.declared.refusal.WordsRefusal.TheVariants as refusals
+use Rattle.program_edges.specs.declared.refusal.WordsRefusal.{WordsRefusal}
+use Rattle.program_edges.specs.declared.refusal.WordsRefusal.TheVariants as refusals
 
 abbrev failures : Bool → Bool → Bool → Bool → Bool → Bool → Bool → Bool → Failures
 failures a b c d e f g h =

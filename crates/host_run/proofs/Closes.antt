@@ -6,7 +6,7 @@ use Rattle.line_io.specs.Source.{Supplied, Received}
 use Rattle.child_engine.specs.Hosts.{Told, Books, IsStarted, with_closed_run, told_by}
 use Rattle.child_engine.specs.declared.host.HostFault.{HostFault}
 use Rattle.child_engine.specs.declared.host.HostFault.TheVariants as faults
-use Rattle.sink_offers.specs.Streams.{log_state}
+use Rattle.host_run.specs.Streams.{log_state}
 use Rattle.host_run.specs.Logs.{log_count, closed_logs, logs_told, is_failed, is_no_memory}
 use Rattle.host_run.specs.Outside.{IsClosed}
 use Rattle.host_run.specs.declared.failures.Failures.{Failures}

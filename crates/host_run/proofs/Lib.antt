@@ -1,3 +1,5 @@
+mod Writes
+pub mod Took
 pub mod Asked
 pub mod Causes
 pub mod ByWords

@@ -9,8 +9,8 @@ use Rattle.event_pipe.specs.declared.reader.ReadEnd.{ReadEnd}
 use Rattle.event_pipe.specs.declared.reader.ReadEnd.TheVariants as read_ends
 use Rattle.event_pipe.specs.Rule.{sent_by}
 use Rattle.event_pipe.specs.Arrivals.{arrivals, has_close_event, line_limit, is_read_fault, Arrived}
-use Rattle.sink_offers.specs.Streams.{TookFront}
-use Rattle.sink_offers.specs.Took.{LogTook}
+use Rattle.host_run.specs.Streams.{TookFront}
+use Rattle.host_run.specs.Took.{LogTook}
 use Rattle.child_engine.specs.Hosts.{Told, fresh_source, fresh_sink}
 use Rattle.host_run.specs.declared.failures.Failures.{Failures}
 use Rattle.host_run.specs.Logs.{fresh_log, closed_logs}

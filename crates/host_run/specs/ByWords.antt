@@ -1,7 +1,7 @@
 -- What a program does whose words name a log and an engine.
 use Rattle.std.specs.Prelude.{◌≡◌, ℕ, true, List, IfSome}
 use Rattle.line_io.specs.Source.{Received}
-use Rattle.program_words.specs.Words.{AreTaken}
+use Rattle.program_edges.specs.Words.{AreTaken}
 use Rattle.child_engine.specs.Asked.{Asked}
 use Rattle.host_run.specs.declared.failures.Failures.{Failures}
 use Rattle.host_run.specs.Asked.{AsksByWords}

@@ -4,8 +4,8 @@ use Rattle.host_run.specs.declared.failures.Failures.{Failures}
 use Rattle.host_run.specs.declared.ending.ProgramEnding.{ProgramEnding}
 use Rattle.host_run.specs.declared.ending.ProgramEnding.TheVariants as endings
 use Rattle.line_io.specs.Lines.{line_feed}
-use Rattle.program_words.specs.declared.refusal.WordsRefusal.{WordsRefusal}
-use Rattle.program_words.specs.declared.refusal.WordsRefusal.TheVariants as refusals
+use Rattle.program_edges.specs.declared.refusal.WordsRefusal.{WordsRefusal}
+use Rattle.program_edges.specs.declared.refusal.WordsRefusal.TheVariants as refusals
 
 -- the first of the failures
 abbrev pub ending_of : Failures → ProgramEnding

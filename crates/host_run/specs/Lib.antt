@@ -1,3 +1,5 @@
+pub mod Streams
+pub mod Took
 pub mod Asked
 pub mod Early
 pub mod Endings

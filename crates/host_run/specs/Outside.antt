@@ -3,7 +3,7 @@ use Rattle.std.specs.Prelude.{◌≡◌, ◌≤◌, false, length}
 use Rattle.line_io.specs.Causes.{Rose}
 use Rattle.line_io.specs.Source.{Supplied, Received}
 use Rattle.event_pipe.specs.Counts.{Tells}
-use Rattle.sink_offers.specs.declared.streams.Interface.{Interface}
+use Rattle.host_run.specs.declared.streams.Interface.{Interface}
 use Rattle.child_engine.specs.Hosts.{Books}
 use Rattle.child_engine.specs.declared.host.Faults.{Faults}
 use Rattle.host_run.specs.declared.failures.Failures.{Failures}

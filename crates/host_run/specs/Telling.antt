@@ -5,7 +5,7 @@ use Rattle.line_io.specs.Lines.{items}
 use Rattle.line_io.specs.Runs.{whole}
 use Rattle.event_pipe.specs.declared.message.Peer.TheVariants as peers
 use Rattle.event_pipe.specs.Arrivals.{arrivals, line_limit}
-use Rattle.sink_offers.specs.Streams.{Streams, streams, sinks}
+use Rattle.host_run.specs.Streams.{Streams, streams, sinks}
 use Rattle.child_engine.specs.Hosts.{Told, Books, fresh_source, fresh_sink}
 use Rattle.host_run.specs.declared.failures.Failures.{Failures}
 use Rattle.host_run.specs.Logs.{fresh_log}

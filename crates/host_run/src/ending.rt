@@ -6,7 +6,7 @@ ghost use Rattle.host_run.specs.declared.ending.ProgramEnding.TheVariants as end
 
 use crate::Failures;
 use line_io::{Sink, Status, write_all};
-use program_words::WordsRefusal;
+use program_edges::WordsRefusal;
 
 /// How a program ends. If several failures came, the one that stands first here is reported.
 #[derive(Clone, Copy)]

@@ -3,7 +3,7 @@ ghost use Rattle.std.specs.Prelude.{◌≡◌, ◌+◌, ◌++◌, length, true, 
 ghost use Rattle.event_pipe.specs.Counts.{Tells};
 ghost use Rattle.child_engine.specs.Asked.{and_logs};
 ghost use Rattle.child_engine.specs.Hosts.{RisesBy};
-ghost use Rattle.sink_offers.specs.Streams.{log_state};
+ghost use Rattle.host_run.specs.Streams.{log_state};
 ghost use Rattle.host_run.specs.Asked.{logs_asked_by};
 ghost use Rattle.host_run.specs.Logs.{log_count, fresh_log, logs_told, is_failed, is_no_memory};
 

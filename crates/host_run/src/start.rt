@@ -4,10 +4,10 @@ ghost use Rattle.child_engine.specs.Hosts.{unused_books};
 ghost use Rattle.child_engine.specs.Real.{books_of};
 ghost use Rattle.program_edges.specs.Streams.{refusals};
 
+use crate::Interface;
 use child_engine::{EngineInput, RealHost};
 use line_io::{ReadAdapter, WriteAdapter};
 use program_edges::{ClosedStreams, IfOpen};
-use sink_offers::Interface;
 use std::fs::{File, Files};
 use std::process::ChildStdin;
 

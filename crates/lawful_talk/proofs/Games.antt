@@ -21,9 +21,9 @@ use Rattle.uci_lines.proofs.MoveTokens.{move_token}
 use Rattle.game_record.specs.Game.{Game, ply_of, plies_of, AreLegal, position_after_ply, now_after, now_of}
 use Rattle.game_record.specs.Line.{ply_text, is_standard}
 use Rattle.game_record.proofs.Lines.{standard-law}
-use Rattle.uci_talk.specs.Lines.{Line, line_of}
-use Rattle.uci_talk.specs.Speaks.{Leads, Starts}
-use Rattle.uci_talk.proofs.Saying.{speaks_line}
+use Rattle.uci_engine_side.specs.Lines.{Line, line_of}
+use Rattle.uci_engine_side.specs.Speaks.{Leads, Starts}
+use Rattle.uci_engine_side.proofs.Saying.{speaks_line}
 use Rattle.desk_rules.specs.Orders.{start_of}
 use Rattle.dialogue_laws.proofs.Games.{IsGame}
 

@@ -20,8 +20,8 @@ use Rattle.uci_lines.specs.Cuts.{is_word}
 use Rattle.uci_lines.specs.Orders.{Order, order_text, position_text, go_text, control_text, optional_number}
 use Rattle.uci_lines.specs.Orders as orders
 use Rattle.uci_lines.proofs.Counts.{same_text}
-use Rattle.uci_talk.specs.Kinds.{has_word, kind_asked}
-use Rattle.uci_talk.specs.Lines.{line_of}
+use Rattle.uci_engine_side.specs.Kinds.{has_word, kind_asked}
+use Rattle.uci_engine_side.specs.Lines.{line_of}
 use Rattle.desk_rules.specs.Orders.{kind_named}
 use Rattle.session_judge.specs.declared.deed.OrderKind.{OrderKind as Heard}
 use Rattle.session_judge.specs.declared.deed.OrderKind.TheVariants as hears

@@ -15,9 +15,9 @@ use Rattle.event_pipe.specs.declared.message.Peer.TheVariants as peers
 use Rattle.event_pipe.specs.Message.{role_of_event, is_end}
 use Rattle.event_pipe.specs.Rule.{is_of, of, has_last_event, Follows}
 use Rattle.event_pipe.proofs.Roles.{more_ended}
-use Rattle.sink_offers.specs.declared.offering.LoopEnd.{LoopEnd}
-use Rattle.sink_offers.specs.Streams.{Sinks, TookFront, Offered}
-use Rattle.sink_offers.proofs.Took.{took_next, took_nothing}
+use Rattle.host_run.specs.declared.offering.LoopEnd.{LoopEnd}
+use Rattle.host_run.specs.Streams.{Sinks, TookFront, Offered}
+use Rattle.host_run.proofs.Took.{took_next, took_nothing}
 use Rattle.mediator.specs.declared.looping.Sides.{Sides}
 use Rattle.mediator.specs.Turns.{Turn, given, texts, events_of_turns, is_own, loss, is_loss, has_loss, stands_between, Gave}
 use Rattle.mediator.specs.Meaning.{Meaning, turn_of, Opens, Allows}

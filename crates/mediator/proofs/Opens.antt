@@ -14,8 +14,8 @@ use Rattle.event_pipe.specs.Rule.{is_of, of, has_last_event, Follows}
 use Rattle.event_pipe.specs.Arrivals.{piece_event, piece_events, line_limit}
 use Rattle.event_pipe.proofs.Reading.{any_append}
 use Rattle.event_pipe.proofs.Roles.{more_ended}
-use Rattle.sink_offers.specs.declared.offering.LoopEnd.{LoopEnd}
-use Rattle.sink_offers.specs.Streams.{Sinks}
+use Rattle.host_run.specs.declared.offering.LoopEnd.{LoopEnd}
+use Rattle.host_run.specs.Streams.{Sinks}
 use Rattle.mediator.specs.declared.looping.Sides.{Sides}
 use Rattle.mediator.specs.Meaning.{Meaning, Opens, Allows}
 use Rattle.mediator.specs.First.{first_events, AreOpening}

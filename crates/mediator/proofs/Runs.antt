@@ -5,7 +5,7 @@ use Rattle.event_pipe.specs.declared.message.Peer.TheVariants as peers
 use Rattle.event_pipe.specs.Ends.{Came}
 use Rattle.event_pipe.specs.Arrivals.{Arrived}
 use Rattle.event_pipe.proofs.Roles.{all_came}
-use Rattle.sink_offers.specs.Streams.{Streams}
+use Rattle.host_run.specs.Streams.{Streams}
 use Rattle.mediator.specs.declared.run.RunEnd.{RunEnd}
 use Rattle.mediator.specs.Meaning.{Meaning}
 use Rattle.mediator.specs.First.{first_events, AreOpening}

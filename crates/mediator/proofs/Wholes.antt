@@ -9,7 +9,7 @@ use Rattle.event_pipe.specs.declared.reader.ReadEnd.{ReadEnd}
 use Rattle.event_pipe.specs.declared.reader.ReadEnd.TheVariants as read_ends
 use Rattle.event_pipe.specs.Rule.{sent_by}
 use Rattle.event_pipe.specs.Arrivals.{Arrived, arrivals, line_limit}
-use Rattle.sink_offers.specs.Took.{LogTook}
+use Rattle.host_run.specs.Took.{LogTook}
 use Rattle.child_engine.specs.Hosts.{Books, IsUnused, Told, fresh_source, fresh_sink, told_by}
 use Rattle.child_engine.specs.declared.host.Faults.{Faults}
 use Rattle.host_run.specs.declared.failures.Failures.{Failures}

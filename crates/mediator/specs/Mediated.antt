@@ -2,7 +2,7 @@
 use Rattle.std.specs.Prelude.{◌≡◌, ◌<◌, ◌⊎◌, true, false, [], ◌∷◌, ℕ, List}
 use Rattle.event_pipe.specs.Arrivals.{is_read_fault}
 use Rattle.child_engine.specs.Hosts.{Books, told_by}
-use Rattle.sink_offers.specs.Streams.{Streams}
+use Rattle.host_run.specs.Streams.{Streams}
 use Rattle.host_run.specs.declared.failures.Failures.{Failures}
 use Rattle.host_run.specs.Logs.{closed_logs}
 use Rattle.host_run.specs.Readers.{lacked_memory}

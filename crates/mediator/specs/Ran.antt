@@ -5,7 +5,7 @@ use Rattle.event_pipe.specs.declared.message.Peer.TheVariants as peers
 use Rattle.event_pipe.specs.Rule.{sent_by}
 use Rattle.event_pipe.specs.Ends.{IsFreshSender, IsFreshTaker, KeepsSender, KeepsTaker, AreOne}
 use Rattle.event_pipe.specs.Arrivals.{Arrived}
-use Rattle.sink_offers.specs.Streams.{Streams}
+use Rattle.host_run.specs.Streams.{Streams}
 use Rattle.mediator.specs.declared.mediator.TheConstants.{TURN_ROOM}
 use Rattle.mediator.specs.declared.parts.MediatorParts.{MediatorParts}
 use Rattle.mediator.specs.declared.run.RunEnd.{RunEnd}

@@ -7,9 +7,9 @@ use Rattle.cecp_lines.specs.Quit.{is_quit}
 use Rattle.event_pipe.specs.declared.message.Peer.{Peer}
 use Rattle.event_pipe.specs.declared.message.Peer.TheVariants as peers
 use Rattle.event_pipe.specs.Rule.{sent_by, has_last_event}
-use Rattle.sink_offers.specs.declared.offering.LoopEnd.{LoopEnd}
-use Rattle.sink_offers.specs.Streams.{Sinks, Offered}
-use Rattle.sink_offers.specs.Took.{LogTook}
+use Rattle.host_run.specs.declared.offering.LoopEnd.{LoopEnd}
+use Rattle.host_run.specs.Streams.{Sinks, Offered}
+use Rattle.host_run.specs.Took.{LogTook}
 use Rattle.mediator.specs.declared.looping.Sides.{Sides}
 use Rattle.mediator.specs.Turns.{Turn, given, log_of_turn, texts, events_of_turns, has_loss}
 use Rattle.mediator.specs.Meaning.{Meaning, turn_of}

@@ -13,11 +13,10 @@ use crate::hosted_parts::make_parts;
 use crate::{Mediator, MediatorParts, MediatorRun, RunRequest, run_pipes};
 use child_engine::{Host, Started};
 use host_run::{
-    Failures, Opened, close_log, either, has_failed, has_lacked_memory, is_open_failure,
-    is_open_memory, only_memory, open_log, start_engine,
+    Failures, HandedStreams, Interface, Opened, close_log, either, has_failed, has_lacked_memory,
+    is_open_failure, is_open_memory, only_memory, open_log, start_engine,
 };
 use line_io::{Sink, Source};
-use sink_offers::{HandedStreams, Interface};
 use std::alloc::Global;
 use std::sync::Wait;
 use std::thread::Threads;

@@ -6,7 +6,7 @@ ghost use Rattle.event_pipe.specs.Arrivals.{line_limit, piece_event};
 ghost use Rattle.event_pipe.specs.Ends.{IsFreshTaker, KeepsTaker, events_taken};
 ghost use Rattle.event_pipe.specs.Message.{is_good};
 ghost use Rattle.event_pipe.specs.declared.message.Peer.TheVariants as peers;
-ghost use Rattle.sink_offers.specs.Streams.{sinks_of};
+ghost use Rattle.host_run.specs.Streams.{sinks_of};
 ghost use Rattle.mediator.specs.First.{AreOpening, first_events};
 ghost use Rattle.mediator.specs.Looped.{Looped};
 ghost use Rattle.mediator.specs.Meaning.{Allows};
@@ -16,8 +16,8 @@ ghost use Rattle.mediator.specs.declared.mediator.TheConstants.{TURN_ROOM};
 use crate::{Mediator, Turns};
 use cecp_lines::is_quit;
 use event_pipe::Peer;
+use host_run::{LoopEnd, offer, offer_log};
 use line_io::{Event, PEER_LINE, Sink, split_line};
-use sink_offers::{LoopEnd, offer, offer_log};
 use std::sync::Wait;
 
 // Which sides have ended.

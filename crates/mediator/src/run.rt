@@ -3,7 +3,7 @@ ghost use Rattle.std.specs.Prelude.{◌≡◌, ◌≤◌, ◌++◌, is_some};
 ghost use Rattle.event_pipe.specs.Arrivals.{Arrived};
 ghost use Rattle.event_pipe.specs.Ends.{IsFreshSender, IsFreshTaker, events_sent, events_taken};
 ghost use Rattle.event_pipe.specs.declared.message.Peer.TheVariants as peers;
-ghost use Rattle.sink_offers.specs.Streams.{sinks_of, streams_of};
+ghost use Rattle.host_run.specs.Streams.{sinks_of, streams_of};
 ghost use Rattle.mediator.specs.First.{AreOpening, first_events};
 ghost use Rattle.mediator.specs.Looped.{Looped};
 ghost use Rattle.mediator.specs.Ran.{AreReady, KeepsChannel, Ran};
@@ -11,8 +11,8 @@ ghost use Rattle.mediator.specs.declared.mediator.TheConstants.{TURN_ROOM};
 
 use crate::{Mediator, MediatorParts, Turns, mediate};
 use event_pipe::{Pipe, ReadEnd, join_three, read_pipe};
+use host_run::{HandedStreams, Interface, LoopEnd};
 use line_io::{Sink, Source};
-use sink_offers::{HandedStreams, Interface, LoopEnd};
 use std::alloc::Global;
 use std::sync::Wait;
 use std::thread::Threads;

@@ -1,2 +1,4 @@
+pub mod Words
+pub mod About
 pub mod Room
 pub mod Streams

@@ -2,8 +2,7 @@
 #![tactic(auto)]
 
 use line_io::{ReadAdapter, WriteAdapter};
-use program_edges::words_of;
-use program_words::{About, answer_about};
+use program_edges::{About, answer_about, words_of};
 use replay_tool::{refuse_for_memory, replay_main};
 use std::process::ExitCode;
 

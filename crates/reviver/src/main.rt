@@ -3,8 +3,7 @@
 #![tactic(auto)]
 
 use host_run::ProgramStart;
-use program_edges::{NO_MEMORY, WORDS_ROOM, words_of};
-use program_words::{About, answer_about};
+use program_edges::{About, NO_MEMORY, WORDS_ROOM, answer_about, words_of};
 use reviver_runner::{refuse_for_memory, revive_main};
 use std::process::ExitCode;
 

@@ -5,7 +5,7 @@ use Rattle.line_io.specs.Causes.{Rose, HasCause}
 use Rattle.line_io.specs.Source.{Supplied, Received}
 use Rattle.event_pipe.specs.Counts.{Tells}
 use Rattle.child_engine.specs.Hosts.{RisesBy}
-use Rattle.life_runner.specs.declared.life.LifeRun.{LifeRun}
+use Rattle.reviver_runner.specs.declared.life.LifeRun.{LifeRun}
 use Rattle.reviver_runner.specs.declared.lives.LivesTally.{LivesTally}
 use Rattle.reviver_runner.specs.Closing.{read_faults, write_faults}
 use Rattle.reviver_runner.specs.Lives.{AreTallied}

@@ -15,14 +15,14 @@ use Rattle.engine_revival.specs.Lists.{batch_text}
 use Rattle.engine_revival.specs.Steps.{is_ended, quit_to, read_at_once, accepted_at_once, upper_if_accepted, at_once, due_to, due_orders, settled_orders, state_after_line, state_after_reading, state_if_accepted, with_quit, after_at_once}
 use Rattle.engine_revival.specs.Calls.{Order, after, child_of}
 use Rattle.engine_revival.specs.Script.{may_happen, state_after, state_behind, event_text}
-use Rattle.life_runner.specs.Looped.{Shown, PlayedUp}
-use Rattle.sink_offers.specs.Streams.{Offered}
-use Rattle.life_runner.specs.Played.{event_up, event_child, lines_to_child, is_heard, is_order, is_close, has_close, as_long, is_told, told_of, ends_in}
+use Rattle.reviver_runner.specs.Looped.{Shown, PlayedUp}
+use Rattle.host_run.specs.Streams.{Offered}
+use Rattle.reviver_runner.specs.Played.{event_up, event_child, lines_to_child, is_heard, is_order, is_close, has_close, as_long, is_told, told_of, ends_in}
 use Rattle.reviver_runner.specs.Drained.{Drained}
-use Rattle.life_runner.proofs.Appends.{up_none, up_one, up_both, child_append}
+use Rattle.reviver_runner.proofs.Appends.{up_none, up_one, up_both, child_append}
 use Rattle.reviver_runner.proofs.LifeSteps.{ends_append}
 use Rattle.reviver_runner.proofs.SettledSteps.{settled_over}
-use Rattle.life_runner.proofs.Stays.{event_stays}
+use Rattle.reviver_runner.proofs.Stays.{event_stays}
 
 pub order_heard : (e : Event) → is_order e ≡ true → is_heard e ≡ true
 order_heard (Iface line) h = refl

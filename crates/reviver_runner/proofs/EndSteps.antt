@@ -27,11 +27,11 @@ use Rattle.event_pipe.specs.Arrivals.{Arrived, line_limit}
 use Rattle.event_pipe.proofs.Keeps.{of-append}
 use Rattle.event_pipe.proofs.Reading.{any_append}
 use Rattle.child_engine.specs.Hosts.{fresh_source}
-use Rattle.sink_offers.specs.declared.offering.LoopEnd.{LoopEnd}
-use Rattle.sink_offers.specs.Streams.{Offered}
-use Rattle.life_runner.specs.Looped.{Shown}
-use Rattle.life_runner.specs.Played.{lines_up, as_long, told_of, ends_in}
-use Rattle.life_runner.specs.Reading.{line_events, LinesOf}
+use Rattle.host_run.specs.declared.offering.LoopEnd.{LoopEnd}
+use Rattle.host_run.specs.Streams.{Offered}
+use Rattle.reviver_runner.specs.Looped.{Shown}
+use Rattle.reviver_runner.specs.Played.{lines_up, as_long, told_of, ends_in}
+use Rattle.reviver_runner.specs.Reading.{line_events, LinesOf}
 use Rattle.reviver_runner.specs.Lives.{Life, AreLives, life_events, Lived, to_none, to_lives}
 use Rattle.reviver_runner.specs.Ran.{Heard}
 use Rattle.reviver_runner.proofs.LifeSteps.{ends_append}

@@ -1,3 +1,7 @@
+pub mod Appends
+pub mod Stays
+mod ReadSteps
+pub mod HearSteps
 mod SettledSteps
 mod LifeSteps
 mod DrainSteps

@@ -16,19 +16,19 @@ use Rattle.engine_revival.specs.Script.{state_after, state_behind}
 use Rattle.event_pipe.specs.Arrivals.{is_read_fault}
 use Rattle.event_pipe.specs.declared.reader.ReadEnd.{ReadEnd}
 use Rattle.host_run.specs.Readers.{lacked_memory}
-use Rattle.sink_offers.specs.Streams.{Offered}
-use Rattle.life_runner.specs.declared.life.LifeRun.{LifeRun}
+use Rattle.host_run.specs.Streams.{Offered}
+use Rattle.reviver_runner.specs.declared.life.LifeRun.{LifeRun}
 use Rattle.reviver_runner.specs.declared.lives.LivesTally.{LivesTally}
 use Rattle.reviver_runner.specs.declared.turns.NextLife.{NextLife}
 use Rattle.reviver_runner.specs.declared.turns.NextLife.TheVariants as nexts
-use Rattle.life_runner.specs.Played.{event_child, lines_to_child, heard_of, is_close, has_close, is_refusal, has_refusal, as_long, is_told, told_of, ends_in}
-use Rattle.life_runner.specs.Looped.{Shown, LoopedLife}
-use Rattle.life_runner.specs.Reading.{ReadLife, LinesOf}
+use Rattle.reviver_runner.specs.Played.{event_child, lines_to_child, heard_of, is_close, has_close, is_refusal, has_refusal, as_long, is_told, told_of, ends_in}
+use Rattle.reviver_runner.specs.Looped.{Shown, LoopedLife}
+use Rattle.reviver_runner.specs.Reading.{ReadLife, LinesOf}
 use Rattle.reviver_runner.specs.Lives.{AreTallied, Follows, Life, IsLife, life_events, ToLives, to_none, to_next, to_lives, Lived, HasLived, GoesOn, LivesOn, mark_of, is_refused, IsNext, Ended}
 use Rattle.reviver_runner.specs.Closing.{told_of_runs}
 use Rattle.reviver_runner.specs.Drained.{Drained}
-use Rattle.life_runner.proofs.Appends.{offered_both, took, up_both}
-use Rattle.life_runner.proofs.Stays.{events_stay}
+use Rattle.reviver_runner.proofs.Appends.{offered_both, took, up_both}
+use Rattle.reviver_runner.proofs.Stays.{events_stay}
 use Rattle.reviver_runner.proofs.CountSteps.{tallied_more}
 
 -- MORE EVENTS

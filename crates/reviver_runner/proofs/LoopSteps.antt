@@ -17,12 +17,12 @@ use Rattle.host_run.specs.Asked.{StartsEngines}
 use Rattle.host_run.specs.Logs.{is_failed}
 use Rattle.host_run.proofs.Asked.{starts_none, starts_both}
 use Rattle.host_run.proofs.Counts.{same_told}
-use Rattle.sink_offers.specs.declared.offering.LoopEnd.{LoopEnd}
-use Rattle.life_runner.specs.declared.life.LifeRun.{LifeRun}
-use Rattle.life_runner.specs.Looped.{Shown, KeepsLoop}
-use Rattle.life_runner.specs.Played.{told_of, ends_in}
-use Rattle.life_runner.proofs.Appends.{up_none}
-use Rattle.life_runner.proofs.LoopSteps.{ready_still, keeps_same as loop_same, keeps_both as loop_both}
+use Rattle.host_run.specs.declared.offering.LoopEnd.{LoopEnd}
+use Rattle.reviver_runner.specs.declared.life.LifeRun.{LifeRun}
+use Rattle.reviver_runner.specs.Looped.{Shown, KeepsLoop}
+use Rattle.reviver_runner.specs.Played.{told_of, ends_in}
+use Rattle.reviver_runner.proofs.Appends.{up_none}
+use Rattle.reviver_runner.proofs.HearSteps.{ready_still, keeps_same as loop_same, keeps_both as loop_both}
 use Rattle.reviver_runner.specs.declared.lives.LivesTally.{LivesTally}
 use Rattle.reviver_runner.specs.declared.parts.ReviverParts.{ReviverParts}
 use Rattle.reviver_runner.specs.declared.turns.NextLife.{NextLife}

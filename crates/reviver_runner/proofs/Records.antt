@@ -18,9 +18,9 @@ use Rattle.host_run.specs.Logs.{fresh_log, closed_logs}
 use Rattle.host_run.specs.Outside.{Outside, AreTold}
 use Rattle.host_run.specs.Readers.{lacked_memory}
 use Rattle.host_run.proofs.Telling.{taken_is, left_is, none_left, sink_took, log_took, front_of, if_some, told_is, is_done}
-use Rattle.sink_offers.specs.Took.{LogTook}
-use Rattle.life_runner.specs.Played.{has_refusal}
-use Rattle.life_runner.specs.Reading.{LinesOf, line_events}
+use Rattle.host_run.specs.Took.{LogTook}
+use Rattle.reviver_runner.specs.Played.{has_refusal}
+use Rattle.reviver_runner.specs.Reading.{LinesOf, line_events}
 use Rattle.reviver_runner.specs.Lives.{Life, AreLives, life_events, told_of_lives}
 use Rattle.reviver_runner.specs.Recorded.{GaveFront, GaveAll, Recorded, IsWhole, gave_all, all_lines}
 use Rattle.reviver_runner.specs.Ran.{TellsRun, Revived, Leaves}

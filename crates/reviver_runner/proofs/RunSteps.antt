@@ -10,14 +10,14 @@ use Rattle.host_run.specs.declared.failures.Failures.{Failures}
 use Rattle.host_run.specs.Asked.{logs_asked_by}
 use Rattle.host_run.specs.Early.{AreEarly, only_memory, only_start}
 use Rattle.host_run.specs.Logs.{is_failed, fresh_log}
-use Rattle.sink_offers.specs.Took.{LogTook}
+use Rattle.host_run.specs.Took.{LogTook}
 use Rattle.host_run.specs.Outside.{Outside, outside, AreTold}
 use Rattle.host_run.proofs.Asked.{no_log_for_memory}
 use Rattle.host_run.proofs.Counts.{told_by as counts_told_by, log_told}
 use Rattle.child_engine.specs.declared.host.HostFault.TheVariants as faults
 use Rattle.host_run.specs.Logs.{is_no_memory}
 use Rattle.host_run.proofs.Early.{early_told}
-use Rattle.life_runner.specs.declared.life.LifeRun.{LifeRun}
+use Rattle.reviver_runner.specs.declared.life.LifeRun.{LifeRun}
 use Rattle.reviver_runner.specs.Closing.{ClosesAll, HasClosed, told_of_runs}
 use Rattle.reviver_runner.specs.Lives.{Life, AreLives, told_of_lives}
 use Rattle.reviver_runner.specs.declared.lives.AllRuns.{AllRuns}

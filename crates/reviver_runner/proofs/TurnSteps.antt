@@ -9,13 +9,13 @@ use Rattle.std.specs.VecDeque.{deque_capacity}
 use Rattle.event_pipe.specs.Ends.{KeepsSender, KeepsTaker, events_sent}
 use Rattle.event_pipe.specs.Rule.{has_last_event}
 use Rattle.event_pipe.specs.declared.pipe.PipeTake.{PipeTake}
-use Rattle.life_runner.specs.declared.looping.RevivalLoop.{RevivalLoop}
-use Rattle.life_runner.specs.Looped.{KeepsLoop, KeepsMarks}
-use Rattle.life_runner.proofs.LoopSteps.{ready_still}
+use Rattle.reviver_runner.specs.declared.looping.RevivalLoop.{RevivalLoop}
+use Rattle.reviver_runner.specs.Looped.{KeepsLoop, KeepsMarks}
+use Rattle.reviver_runner.proofs.HearSteps.{ready_still}
 use Rattle.reviver_runner.specs.declared.parts.ReviverParts.{ReviverParts}
 use Rattle.reviver_runner.specs.Parts.{AreReady, KeepsEnds}
-use Rattle.life_runner.specs.Played.{heard_of}
-use Rattle.life_runner.proofs.Stays.{events_stay}
+use Rattle.reviver_runner.specs.Played.{heard_of}
+use Rattle.reviver_runner.proofs.Stays.{events_stay}
 use Rattle.reviver_runner.specs.declared.turns.NextLife.{NextLife}
 use Rattle.reviver_runner.specs.declared.turns.NextLife.TheVariants as nexts
 use Rattle.reviver_runner.specs.Lives.{Goes, Follows, Continues}

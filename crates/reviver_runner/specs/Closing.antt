@@ -4,7 +4,7 @@ use Rattle.line_io.specs.Source.{Supplied, Received}
 use Rattle.event_pipe.specs.Counts.{Tells}
 use Rattle.child_engine.specs.Hosts.{Books, Told, RisesBy, told_by}
 use Rattle.child_engine.specs.declared.host.Faults.{Faults}
-use Rattle.life_runner.specs.declared.life.LifeRun.{LifeRun}
+use Rattle.reviver_runner.specs.declared.life.LifeRun.{LifeRun}
 
 -- how often the runs' sources failed, and their sinks
 abbrev pub read_faults : {S K : Type 0} → (S → Supplied) → List (LifeRun S K) → ℕ

@@ -2,8 +2,8 @@
 use Rattle.std.specs.Prelude.{◌≡◌, List, [], ◌++◌, map, false}
 use Rattle.line_io.specs.Event.{Event}
 use Rattle.engine_revival.specs.declared.words.LifeState.TheVariants as life
-use Rattle.life_runner.specs.Looped.{Shown, PlayedUp}
-use Rattle.life_runner.specs.Played.{lines_to_child, as_long, has_close, told_of, ends_in}
+use Rattle.reviver_runner.specs.Looped.{Shown, PlayedUp}
+use Rattle.reviver_runner.specs.Played.{lines_to_child, as_long, has_close, told_of, ends_in}
 
 -- The revival heard what came of the interface, and for no life was there anything to write.
 pub record Drained (before after : Shown) : Type 0 where

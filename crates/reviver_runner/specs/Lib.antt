@@ -1,3 +1,6 @@
+pub mod Reading
+pub mod Played
+pub mod Looped
 pub mod Closing
 pub mod Lives
 pub mod Parts

@@ -17,18 +17,18 @@ use Rattle.engine_revival.specs.Script.{state_after, state_behind}
 use Rattle.host_run.specs.Asked.{StartsEngines}
 use Rattle.host_run.specs.Logs.{is_failed}
 use Rattle.host_run.specs.Readers.{lacked_memory}
-use Rattle.sink_offers.specs.declared.offering.LoopEnd.{LoopEnd}
-use Rattle.sink_offers.specs.Streams.{Offered}
-use Rattle.sink_offers.specs.Took.{LogTook}
-use Rattle.life_runner.specs.declared.life.LifeRun.{LifeRun}
+use Rattle.host_run.specs.declared.offering.LoopEnd.{LoopEnd}
+use Rattle.host_run.specs.Streams.{Offered}
+use Rattle.host_run.specs.Took.{LogTook}
+use Rattle.reviver_runner.specs.declared.life.LifeRun.{LifeRun}
 use Rattle.reviver_runner.specs.declared.lives.LivesTally.{LivesTally}
 use Rattle.reviver_runner.specs.declared.turns.NextLife.{NextLife}
 use Rattle.reviver_runner.specs.declared.turns.NextLife.TheVariants as nexts
 use Rattle.reviver_runner.specs.Closing.{read_faults, write_faults, told_of_runs}
-use Rattle.life_runner.specs.Looped.{Shown, PlayedUp}
-use Rattle.life_runner.specs.Played.{event_child, lines_to_child, is_close, has_close}
-use Rattle.life_runner.specs.Played.{has_refusal, as_long, told_of, ends_in}
-use Rattle.life_runner.specs.Reading.{LinesOf}
+use Rattle.reviver_runner.specs.Looped.{Shown, PlayedUp}
+use Rattle.reviver_runner.specs.Played.{event_child, lines_to_child, is_close, has_close}
+use Rattle.reviver_runner.specs.Played.{has_refusal, as_long, told_of, ends_in}
+use Rattle.reviver_runner.specs.Reading.{LinesOf}
 
 -- A life goes on after so many have ended: it is one more, and one of those that may be begun.
 pub record Goes (s : RevivalState) (ended : ℕ) : Type 0 where

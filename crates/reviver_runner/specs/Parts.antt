@@ -7,7 +7,7 @@ use Rattle.event_pipe.specs.declared.message.Peer.TheVariants as peers
 use Rattle.event_pipe.specs.Ends.{IsSender, IsFreshSender, IsFreshTaker}
 use Rattle.event_pipe.specs.Ends.{KeepsSender, AreOne, events_sent}
 use Rattle.event_pipe.specs.Rule.{has_last_event}
-use Rattle.life_runner.specs.Looped.{IsReadyLoop, KeepsLoop}
+use Rattle.reviver_runner.specs.Looped.{IsReadyLoop, KeepsLoop}
 use Rattle.reviver_runner.specs.declared.parts.MadeParts.{MadeParts}
 use Rattle.reviver_runner.specs.declared.parts.ReviverParts.{ReviverParts}
 

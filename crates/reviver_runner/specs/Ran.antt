@@ -23,10 +23,10 @@ use Rattle.host_run.specs.Logs.{is_failed, fresh_log, closed_logs}
 use Rattle.host_run.specs.Readers.{lacked_memory}
 use Rattle.host_run.specs.Outside.{Outside, AreTold}
 use Rattle.host_run.specs.declared.failures.Failures.{Failures}
-use Rattle.sink_offers.specs.Took.{LogTook}
-use Rattle.life_runner.specs.declared.life.LifeRun.{LifeRun}
-use Rattle.life_runner.specs.Looped.{Shown}
-use Rattle.life_runner.specs.Played.{lines_up, as_long, told_of, has_refusal}
+use Rattle.host_run.specs.Took.{LogTook}
+use Rattle.reviver_runner.specs.declared.life.LifeRun.{LifeRun}
+use Rattle.reviver_runner.specs.Looped.{Shown}
+use Rattle.reviver_runner.specs.Played.{lines_up, as_long, told_of, has_refusal}
 use Rattle.reviver_runner.specs.declared.lives.AllRuns.{AllRuns}
 use Rattle.reviver_runner.specs.declared.lives.LivesTally.{LivesTally}
 use Rattle.reviver_runner.specs.declared.parts.ReviverParts.{ReviverParts}

@@ -15,8 +15,8 @@ use Rattle.engine_revival.specs.Talk.{IsAlwaysLawful}
 use Rattle.host_run.specs.declared.failures.Failures.{Failures}
 use Rattle.host_run.specs.Outside.{Outside}
 use Rattle.host_run.specs.Telling.{LogHasFront}
-use Rattle.life_runner.specs.Played.{lines_up, as_long, told_of, has_refusal}
-use Rattle.life_runner.specs.Reading.{line_events}
+use Rattle.reviver_runner.specs.Played.{lines_up, as_long, told_of, has_refusal}
+use Rattle.reviver_runner.specs.Reading.{line_events}
 use Rattle.reviver_runner.specs.Lives.{Life, to_none, to_lives}
 
 -- what a life showed at its end that gave all of these bytes, and took this text

@@ -1,7 +1,7 @@
 -- What the words of the reviver ask for.
 use Rattle.std.specs.Prelude.{◌≡◌, ℕ, ◌+◌, Bool, true, false, ◌&&◌, nat_le}
 use Rattle.std.specs.Prelude.{drop, string_bytes, List, [], ◌∷◌, map}
-use Rattle.program_words.specs.Words as engine_words
+use Rattle.program_edges.specs.Words as engine_words
 use Rattle.reviver_runner.specs.declared.words.ReviverRequest.{ReviverRequest}
 
 -- a number of one digit, as a word

@@ -1,12 +1,12 @@
 // Closing the runs.
 ghost use Rattle.std.specs.Prelude.{◌≡◌, ◌+◌, length};
 ghost use Rattle.host_run.specs.Logs.{log_count, logs_told};
-ghost use Rattle.sink_offers.specs.Streams.{log_state};
+ghost use Rattle.host_run.specs.Streams.{log_state};
 ghost use Rattle.reviver_runner.specs.Closing.{ClosesAll, ClosesEverything, HasClosed, read_faults, write_faults, told_of_runs};
 
+use crate::LifeRun;
 use child_engine::{Host, Started};
 use host_run::{close_log, either};
-use life_runner::LifeRun;
 use std::collections::VecDeque;
 
 // Closes the runs in their order, and reports whether waiting for one failed.

@@ -2,11 +2,11 @@
 ghost use Rattle.std.specs.Prelude.{◌≡◌, true};
 ghost use Rattle.line_io.specs.Event.{event_of};
 ghost use Rattle.engine_revival.specs.declared.words.LifeState.TheVariants as life;
-ghost use Rattle.life_runner.specs.Looped.{IsReadyLoop, KeepsLoop, loop_reports};
-ghost use Rattle.life_runner.specs.Played.{is_order};
+ghost use Rattle.reviver_runner.specs.Looped.{IsReadyLoop, KeepsLoop, loop_reports};
+ghost use Rattle.reviver_runner.specs.Played.{is_order};
 ghost use Rattle.reviver_runner.specs.Drained.{Drained};
 
-use life_runner::{RevivalLoop, hear, wait_for_ever};
+use crate::{RevivalLoop, hear, wait_for_ever};
 use line_io::{Event, NullSink, Sink};
 use std::sync::Wait;
 

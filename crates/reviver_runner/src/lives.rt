@@ -4,9 +4,9 @@ ghost use Rattle.event_pipe.specs.Arrivals.{is_read_fault};
 ghost use Rattle.host_run.specs.Readers.{lacked_memory};
 ghost use Rattle.reviver_runner.specs.Lives.{empty_tally};
 
+use crate::LifeRun;
 use event_pipe::ReadEnd;
 use host_run::{has_failed, has_lacked_memory};
-use life_runner::LifeRun;
 use std::collections::VecDeque;
 
 /// What failed in the lives so far: reading or writing in one of them, or memory for a line.

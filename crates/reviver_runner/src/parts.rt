@@ -2,9 +2,9 @@
 ghost use Rattle.std.specs.Prelude.{IfOk};
 ghost use Rattle.reviver_runner.specs.Parts.{IsMade};
 
+use crate::RevivalLoop;
 use engine_revival::{EVENT_ROOM, Revival};
 use event_pipe::{Pipe, PipeSend, PipeTake};
-use life_runner::RevivalLoop;
 use line_io::{NoMemory, Out};
 use std::alloc::Global;
 use std::collections::VecDeque;

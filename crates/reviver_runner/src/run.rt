@@ -12,12 +12,11 @@ use crate::outcome::{LivesOutcome, run_opened};
 use crate::starting::{ReadyLives, start};
 use child_engine::{Host, LetGo};
 use host_run::{
-    Failures, Opened, either, has_failed, has_lacked_memory, is_open_failure, is_open_memory,
-    open_log,
+    Failures, Interface, Opened, either, has_failed, has_lacked_memory, is_open_failure,
+    is_open_memory, open_log,
 };
 use line_io::{Sink, Source};
-use program_words::EngineRequest;
-use sink_offers::Interface;
+use program_edges::EngineRequest;
 use std::alloc::Global;
 use std::sync::Wait;
 use std::thread::Threads;

@@ -8,11 +8,11 @@ ghost use Rattle.host_run.specs.Early.{AreEarly};
 ghost use Rattle.reviver_runner.specs.Parts.{IsMade};
 ghost use Rattle.reviver_runner.specs.Ran.{MayRun};
 
+use crate::LifeRun;
 use crate::lives::{AllRuns, LivesTally};
 use crate::parts::{MadeParts, make_parts};
 use child_engine::{Host, LetGo, Started};
 use host_run::{Failures, only_memory, start_engine};
-use life_runner::LifeRun;
 use line_io::NoMemory;
 use std::alloc::Global;
 use std::collections::VecDeque;

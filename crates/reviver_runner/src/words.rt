@@ -1,10 +1,10 @@
 // What the words ask for.
 ghost use Rattle.std.specs.Prelude.{◌≡◌, ◌<◌, ◌≤◌, length, Err, None, IfOk, OnOk, IfSome, true, false};
-ghost use Rattle.program_words.specs.Words.{bytes_of};
-ghost use Rattle.program_words.specs.declared.refusal.WordsRefusal.TheVariants as refusals;
+ghost use Rattle.program_edges.specs.Words.{bytes_of};
+ghost use Rattle.program_edges.specs.declared.refusal.WordsRefusal.TheVariants as refusals;
 ghost use Rattle.reviver_runner.specs.Words.{digit_of, is_digit, AreTaken, IsAsked};
 
-use program_words::{EngineRequest, WordsRefusal};
+use program_edges::{EngineRequest, WordsRefusal};
 use std::alloc::Global;
 
 /// What the words ask for.
@@ -52,7 +52,7 @@ pub fn read_words(alloc: Global, words: &[Vec<u8>]) -> Result<ReviverRequest, Wo
     let Some(lives) = digit_in(digit.as_slice()) else {
         return Err(WordsRefusal::Usage);
     };
-    let EngineRequest { log_name, engine } = program_words::read_words(alloc, rest)?;
+    let EngineRequest { log_name, engine } = program_edges::read_words(alloc, rest)?;
     Ok(ReviverRequest {
         lives,
         log_name,

@@ -1,3 +1,5 @@
+pub mod GameSans
+pub mod GameParts
 pub mod Alone
 pub mod Bools
 pub mod Found

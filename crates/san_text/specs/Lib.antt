@@ -1,3 +1,5 @@
+pub mod GameSan
+pub mod GameText
 pub mod Fit
 pub mod LongForm
 pub mod Spelling

@@ -2,8 +2,7 @@
 #![tactic(auto)]
 
 use line_io::{ReadAdapter, WriteAdapter};
-use program_edges::{ClosedStreams, NO_MEMORY, words_of};
-use program_words::{About, answer_about};
+use program_edges::{About, ClosedStreams, NO_MEMORY, answer_about, words_of};
 use scripted_engine::scripted_main;
 use std::fs::File;
 use std::io::{ErrorKind, Read};

@@ -9,8 +9,8 @@ use Rattle.chess_board.specs.Spelling.{move_of}
 use Rattle.peer_words.specs.Tokens.{is_white, tokens}
 use Rattle.peer_words.proofs.TokenLists.{tokens_white}
 use Rattle.uci_lines.specs.Spells.{begins_white}
-use Rattle.uci_talk.specs.Lines.{Line, line_of, line_in, line_from, line_to, start_in, position_after_texts, played_if_legal, is_moves, before_moves, behind_moves}
-use Rattle.uci_talk.proofs.Played.{led_none}
+use Rattle.uci_engine_side.specs.Lines.{Line, line_of, line_in, line_from, line_to, start_in, position_after_texts, played_if_legal, is_moves, before_moves, behind_moves}
+use Rattle.uci_engine_side.proofs.Played.{led_none}
 use Rattle.session_judge.specs.Deeds.{end_of}
 use Rattle.session_judge.specs.Played.{LeadsTo, Adds, GoesOn}
 

@@ -13,8 +13,8 @@ use Rattle.uci_lines.specs.Engine.{engine_message}
 use Rattle.uci_lines.specs.Messages.{EngineMsg}
 use Rattle.uci_lines.specs.Messages as says
 use Rattle.uci_lines.specs.Written.{is_written_move}
-use Rattle.uci_talk.specs.Kinds.{kind_asked}
-use Rattle.uci_talk.specs.Lines.{Line, line_of}
+use Rattle.uci_engine_side.specs.Kinds.{kind_asked}
+use Rattle.uci_engine_side.specs.Lines.{Line, line_of}
 use Rattle.session_judge.specs.declared.deed.OrderKind.{OrderKind}
 use Rattle.session_judge.specs.declared.deed.OrderKind.TheVariants as orders
 use Rattle.session_judge.specs.declared.deed.OrderWord.{OrderWord}

@@ -3,7 +3,7 @@ use Rattle.std.specs.Prelude.{◌≡◌, ◌≢◌, ℕ, List, [], ◌++◌, dro
 use Rattle.peer_words.specs.Tokens.{tokens}
 use Rattle.chess_board.specs.Position.{Position}
 use Rattle.uci_lines.specs.Spells.{begins_white}
-use Rattle.uci_talk.specs.Lines.{line_of, behind_moves}
+use Rattle.uci_engine_side.specs.Lines.{line_of, behind_moves}
 use Rattle.session_judge.specs.Deeds.{end_of}
 
 -- A `position` line that has moves leads to this position.

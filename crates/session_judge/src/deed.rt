@@ -10,8 +10,8 @@ use chess_board::{Move, Position, read_move, write_move};
 use line_io::Event;
 use peer_words::{GoKind, named, split_token};
 use script_lines::Mark;
+use uci_engine_side::go_kind;
 use uci_lines::{EngineMsg, read_engine};
-use uci_talk::go_kind;
 
 /// What an order is by its first token (UCI, April 2006, "GUI to engine").
 #[derive(Clone, Copy)]

@@ -1,7 +1,7 @@
 // The line of the game that is searched in.
 ghost use Rattle.std.specs.Prelude.{◌≡◌, IfSome};
 ghost use Rattle.uci_lines.specs.Spells.{begins_white};
-ghost use Rattle.uci_talk.specs.Lines.{line_of};
+ghost use Rattle.uci_engine_side.specs.Lines.{line_of};
 ghost use Rattle.session_judge.specs.Deeds.{end_of};
 ghost use Rattle.session_judge.specs.Played.{Adds, GoesOn, LeadsTo};
 
@@ -9,7 +9,7 @@ use chess_board::Position;
 use peer_words::{is_white, next_token};
 use std::alloc::Global;
 use std::marker::Model;
-use uci_talk::{play_all, spoken};
+use uci_engine_side::{play_all, spoken};
 
 /// The last `position` line that has moves, and the position to which it leads, so that of a line which only adds moves
 /// to it no more than these are played. It changes no answer: without memory for a line all its moves are played.

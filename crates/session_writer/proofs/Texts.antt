@@ -3,7 +3,7 @@ use Rattle.std.proofs.Common.{◌≡◌, ℕ, List, [], ◌∷◌, ◌++◌, len
 use Rattle.line_io.specs.Lines.{Piece}
 use Rattle.policy_rules.specs.declared.settings.Settings.{Settings}
 use Rattle.game_record.specs.Game.{Game}
-use Rattle.game_text.specs.Text.{game_text}
+use Rattle.san_text.specs.GameText.{game_text}
 use Rattle.adapter_core.specs.Trace.{Step}
 use Rattle.session_script.specs.Script.{events}
 use Rattle.line_scribe.specs.declared.ending.Ending.TheVariants as endings

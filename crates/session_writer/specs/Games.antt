@@ -8,7 +8,7 @@ use Rattle.cecp_lines.specs.Messages as says
 use Rattle.cecp_lines.specs.Reading.{message_or_fault}
 use Rattle.cecp_lines.specs.declared.iface.IfaceFault.{IfaceFault}
 use Rattle.game_record.specs.Game.{Game}
-use Rattle.game_text.specs.Text.{game_text}
+use Rattle.san_text.specs.GameText.{game_text}
 use Rattle.policy_rules.specs.declared.settings.Settings.{Settings}
 use Rattle.adapter_core.specs.Trace.{Step}
 use Rattle.session_writer.specs.Telling.{game_of}

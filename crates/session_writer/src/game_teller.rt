@@ -2,7 +2,7 @@
 ghost use Rattle.std.specs.Prelude.{◌≡◌, ◌+◌, ◌≤◌, length};
 ghost use Rattle.line_io.specs.Event.{event_of};
 ghost use Rattle.line_io.specs.Out.{with};
-ghost use Rattle.game_text.specs.declared.write.TheConstants.{GAME_ROOM};
+ghost use Rattle.san_text.specs.declared.game.TheConstants.{GAME_ROOM};
 ghost use Rattle.session_writer.specs.Games.{games_text, over_by};
 ghost use Rattle.session_writer.specs.GameTelling.{last_by};
 
@@ -10,9 +10,9 @@ use crate::follow::follow;
 use crate::over::is_over;
 use crate::{SessionWriter, Teller};
 use game_record::Game;
-use game_text::write_game;
 use line_io::{Event, NoMemory, Out};
 use line_scribe::Ending;
+use san_text::write_game;
 use std::alloc::Global;
 
 /// A session whose games are written.

@@ -7,7 +7,7 @@ use Rattle.clap.specs.declared.error.kind.ErrorKind.TheVariants as kinds
 use Rattle.clap.specs.Simple.{built}
 use Rattle.clap.specs.Walk.{nothing_held}
 use Rattle.clap.proofs.OnLiterals.{clap_on_literals}
-use Rattle.program_words.specs.Words.{AreUtf8}
+use Rattle.program_edges.specs.Words.{AreUtf8}
 use Rattle.setting_words.specs.WineravineCommand.{wineravine}
 use Rattle.setting_words.specs.WineravineWords.{faults_found, values_found, has_feed_within, AreTaken, AskFor, AreWrong, Ask, Fail, Shows, Blames, BlamesFeed}
 use Rattle.setting_words.specs.declared.wineravine_request.AskedProgram.{AskedProgram}

@@ -7,8 +7,8 @@ use Rattle.clap.specs.declared.error.kind.ErrorKind.TheVariants as kinds
 use Rattle.clap.proofs.OnLiterals.{clap_on_literals}
 use Rattle.setting_words.specs.BridgeCommand.{bridge}
 use Rattle.setting_words.specs.BridgeWords.{faults_found, values_found}
-use Rattle.program_words.specs.declared.refusal.WordsRefusal.{WordsRefusal}
-use Rattle.program_words.specs.declared.refusal.WordsRefusal.TheVariants as refusals
+use Rattle.program_edges.specs.declared.refusal.WordsRefusal.{WordsRefusal}
+use Rattle.program_edges.specs.declared.refusal.WordsRefusal.TheVariants as refusals
 
 pub is_free : is_simple_and_free bridge ≡ true
 unfolding clap_on_literals

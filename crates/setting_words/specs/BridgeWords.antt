@@ -5,7 +5,7 @@ use Rattle.policy_rules.specs.declared.settings.Settings.{Settings}
 use Rattle.setting_words.specs.Values.{AsksPolicy, HasUsualOthers, all_values, text_or_empty}
 use Rattle.setting_words.specs.BridgeCommand.{bridge}
 use Rattle.setting_words.specs.declared.bridge_request.BridgeRequest.{BridgeRequest}
-use Rattle.program_words.specs.Words.{AreUtf8}
+use Rattle.program_edges.specs.Words.{AreUtf8}
 
 -- the faults that the command finds in the words, and the values that it finds for its arguments
 unfoldable pub faults_found : List Text → Kinds

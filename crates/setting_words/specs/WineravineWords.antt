@@ -9,7 +9,7 @@ use Rattle.line_io.specs.Event.{has_feed}
 use Rattle.line_io.specs.Lines.{line_feed}
 use Rattle.policy_rules.specs.Policy.{IsProper}
 use Rattle.policy_rules.specs.declared.settings.Settings.{Settings}
-use Rattle.program_words.specs.Words.{AreUtf8}
+use Rattle.program_edges.specs.Words.{AreUtf8}
 use Rattle.setting_words.specs.Values.{AsksPolicy, all_values, is_true, text_or_empty}
 use Rattle.setting_words.specs.WineravineCommand.{wineravine}
 use Rattle.setting_words.specs.declared.wineravine_request.AskedProgram.{AskedProgram}

@@ -3,8 +3,8 @@ ghost use Rattle.std.specs.Prelude.{◌≡◌, ◌<◌, [], length, Err, map, st
 ghost use Rattle.clap.specs.Words.{rows_of, found_of};
 ghost use Rattle.clap.specs.declared.error.kind.ErrorKind.TheVariants as kinds;
 ghost use Rattle.policy_rules.specs.Policy.{IsProper};
-ghost use Rattle.program_words.specs.Words.{bytes_of};
-ghost use Rattle.program_words.specs.declared.refusal.WordsRefusal.TheVariants as refusals;
+ghost use Rattle.program_edges.specs.Words.{bytes_of};
+ghost use Rattle.program_edges.specs.declared.refusal.WordsRefusal.TheVariants as refusals;
 ghost use Rattle.setting_words.specs.BridgeWords.{faults_found, values_found, AreTaken, IsAsked, engine_words};
 
 use crate::bridge_arguments::bridge_command;
@@ -12,7 +12,7 @@ use crate::{copied_value, policy_of, put_values, texts};
 use clap::ArgMatches;
 use clap::error::ErrorKind;
 use policy_rules::Settings;
-use program_words::WordsRefusal;
+use program_edges::WordsRefusal;
 use std::alloc::{AllocError, Global};
 
 /// What the words ask for.

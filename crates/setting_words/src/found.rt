@@ -2,13 +2,13 @@
 ghost use Rattle.std.specs.Prelude.{◌≡◌, ◌≤◌, ◌++◌, Err, map, option_map, string_bytes, IfOk, OnOk};
 ghost use Rattle.clap.specs.Words.{first_of, one_of, all_of, rows_of, found_of};
 ghost use Rattle.policy_rules.specs.Policy.{IsProper};
-ghost use Rattle.program_words.specs.Words.{bytes_of, AreUtf8};
-ghost use Rattle.program_words.specs.declared.refusal.WordsRefusal.TheVariants as refusals;
+ghost use Rattle.program_edges.specs.Words.{bytes_of, AreUtf8};
+ghost use Rattle.program_edges.specs.declared.refusal.WordsRefusal.TheVariants as refusals;
 ghost use Rattle.setting_words.specs.Values.{AsksNumber, AsksPolicy, HasUsualOthers, all_values, is_true, number_within, text_or_empty};
 
 use clap::ArgMatches;
 use policy_rules::{MOST_MOVES, MOST_SCORE, Settings, USUAL_MOVES, USUAL_SCORE};
-use program_words::WordsRefusal;
+use program_edges::WordsRefusal;
 use std::alloc::{AllocError, Global};
 
 /// The words as texts. A word that is not UTF-8 is refused.

@@ -6,7 +6,7 @@ ghost use Rattle.setting_words.specs.WineravineCommand.{wineravine, bare, with_n
 use crate::arguments::and_arg;
 use crate::{flag_option, log_file, with_arg, with_policy};
 use clap::{Arg, ArgAction, Command};
-use program_words::VERSION;
+use program_edges::VERSION;
 use std::alloc::{AllocError, Global};
 
 fn early_settings<'a>(alloc: Global) -> Arg<'a>

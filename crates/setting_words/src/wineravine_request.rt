@@ -3,7 +3,7 @@ ghost use Rattle.std.specs.Prelude.{◌≡◌, ◌<◌, ◌++◌, false, [], len
 ghost use Rattle.clap.specs.Words.{rows_of, found_of, kind_of, HasKind};
 ghost use Rattle.line_io.specs.Event.{has_feed};
 ghost use Rattle.policy_rules.specs.Policy.{IsProper};
-ghost use Rattle.program_words.specs.Words.{bytes_of};
+ghost use Rattle.program_edges.specs.Words.{bytes_of};
 ghost use Rattle.setting_words.specs.WineravineWords.{faults_found, values_found, has_feed_within, log_named, engine_words, AreAsked, IsAsked, Ask, Fail, Shows, Blames, BlamesFeed};
 ghost use Rattle.setting_words.specs.Values.{all_values};
 
@@ -13,7 +13,7 @@ use crate::{copied_value, first_value, flag, policy_of, put_copies, texts, value
 use clap::error::ErrorKind;
 use clap::{ArgMatches, Error};
 use policy_rules::Settings;
-use program_words::WordsRefusal;
+use program_edges::WordsRefusal;
 use std::alloc::{AllocError, Global};
 
 /// A run, as words ask for it.

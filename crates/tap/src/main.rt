@@ -2,11 +2,10 @@
 #![tactic(auto)]
 
 use child_engine::{Closing, RealHost};
+use host_run::Interface;
 use line_io::{ReadAdapter, WriteAdapter};
 use os::FromRawFd;
-use program_edges::{ClosedStreams, NO_MEMORY, WORDS_ROOM, words_of};
-use program_words::{About, answer_about};
-use sink_offers::Interface;
+use program_edges::{About, ClosedStreams, NO_MEMORY, WORDS_ROOM, answer_about, words_of};
 use std::os::fd::OwnedFd;
 use std::process::{ChildStdin, ExitCode};
 use tap_runner::{refuse_for_memory, tap_main};

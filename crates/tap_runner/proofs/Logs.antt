@@ -9,12 +9,12 @@ use Rattle.line_io.specs.Source.{Received}
 use Rattle.event_pipe.specs.Message.{is_good}
 use Rattle.event_pipe.specs.Rule.{of, has_last_event}
 use Rattle.event_pipe.proofs.Roles.{more_ended}
-use Rattle.sink_offers.specs.Streams.{Offered}
-use Rattle.sink_offers.specs.Took.{LogTook}
+use Rattle.host_run.specs.Streams.{Offered}
+use Rattle.host_run.specs.Took.{LogTook}
 use Rattle.tap_runner.specs.declared.logging.EndedSides.{EndedSides}
 use Rattle.tap_runner.specs.Marks.{log_of_event, log_text}
 use Rattle.tap_runner.specs.Logging.{mark_length, ends_after, Logged, Logging}
-use Rattle.sink_offers.proofs.Took.{took_nothing, took_next}
+use Rattle.host_run.proofs.Took.{took_nothing, took_next}
 
 within : (n : ℕ) → nat_le n 65536 ≡ true → n ≤ 65536
 within n h = grind (arith, nat_tests)

@@ -9,7 +9,7 @@ use Rattle.line_io.specs.Source.{Supplied, Received}
 use Rattle.event_pipe.specs.declared.message.Peer.{Peer}
 use Rattle.event_pipe.specs.Counts.{Tells}
 use Rattle.event_pipe.specs.Rule.{has_last_event}
-use Rattle.sink_offers.specs.Took.{LogTook}
+use Rattle.host_run.specs.Took.{LogTook}
 use Rattle.tap_runner.specs.declared.passing.PassingTurn.{PassingTurn}
 use Rattle.tap_runner.specs.declared.passing.PassingTurn.TheVariants as turns
 use Rattle.tap_runner.specs.declared.passing.PassEnd.{PassEnd}
@@ -18,7 +18,7 @@ use Rattle.tap_runner.specs.Marks.{piece_event, piece_events, end_event}
 use Rattle.tap_runner.specs.Hearing.{Open, fresh, EndsHearing}
 use Rattle.tap_runner.specs.Passing.{Passed, Passing, Turned, is_last, has_failed_to_read, has_failed_to_write}
 use Rattle.tap_runner.proofs.Splits.{line_append, pieces_append, items_all}
-use Rattle.sink_offers.proofs.Took.{took_nothing, took_then}
+use Rattle.host_run.proofs.Took.{took_nothing, took_then}
 
 unlacked : (a b : Bool) → (a ≡ true → b ≡ true) → b ≡ false → a ≡ false
 unlacked true b f h = sym (f refl) ∙ h

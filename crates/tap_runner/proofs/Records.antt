@@ -4,7 +4,7 @@ use Rattle.std.specs.Io.KnownBytes.{Appends, IsAtEnd}
 use Rattle.line_io.specs.Source.{Supplied, Received}
 use Rattle.line_io.specs.Lines.{Reads}
 use Rattle.event_pipe.specs.declared.message.Peer.TheVariants as peers
-use Rattle.sink_offers.specs.Streams.{Streams, streams, sinks}
+use Rattle.host_run.specs.Streams.{Streams, streams, sinks}
 use Rattle.child_engine.specs.Hosts.{Books, Told, fresh_source, fresh_sink, told_by}
 use Rattle.host_run.specs.declared.failures.Failures.{Failures}
 use Rattle.host_run.specs.Early.{no_failure}

@@ -7,7 +7,7 @@ use Rattle.event_pipe.specs.declared.message.Peer.TheVariants as peers
 use Rattle.event_pipe.specs.Rule.{sent_by, has_last_event}
 use Rattle.event_pipe.specs.Ends.{Came}
 use Rattle.event_pipe.proofs.Roles.{all_came}
-use Rattle.sink_offers.specs.Streams.{sinks, streams}
+use Rattle.host_run.specs.Streams.{sinks, streams}
 use Rattle.tap_runner.specs.declared.passing.PassEnd.{PassEnd}
 use Rattle.tap_runner.specs.Logging.{Logged}
 use Rattle.tap_runner.specs.Passing.{Passed}

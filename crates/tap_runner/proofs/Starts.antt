@@ -1,7 +1,7 @@
 -- What a run leaves, seen from before the engine was started.
 use Rattle.std.proofs.Common.{◌≡◌, ◌∙◌, ℕ, Bool, refl, sym, ap, subst, arith, List, Option}
 use Rattle.line_io.specs.Source.{Supplied, Received}
-use Rattle.sink_offers.specs.Streams.{Streams, streams, sinks}
+use Rattle.host_run.specs.Streams.{Streams, streams, sinks}
 use Rattle.child_engine.specs.Hosts.{Books, IsUnused, with_run, fresh_source, fresh_sink}
 use Rattle.child_engine.specs.declared.host.Faults.{Faults}
 use Rattle.host_run.specs.declared.failures.Failures.{Failures}

@@ -4,7 +4,7 @@ use Rattle.line_io.specs.Event.{Event, Iface, IfaceEnd, Engine, EngineEnd}
 use Rattle.line_io.specs.Source.{Received}
 use Rattle.event_pipe.specs.declared.message.Peer.TheVariants as peers
 use Rattle.event_pipe.specs.Rule.{sent_by, has_last_event}
-use Rattle.sink_offers.specs.Took.{LogTook}
+use Rattle.host_run.specs.Took.{LogTook}
 use Rattle.tap_runner.specs.declared.logging.EndedSides.{EndedSides}
 use Rattle.tap_runner.specs.Marks.{log_text}
 

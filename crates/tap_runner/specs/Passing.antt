@@ -7,7 +7,7 @@ use Rattle.line_io.specs.Lines.{Reads}
 use Rattle.event_pipe.specs.declared.message.Peer.{Peer}
 use Rattle.event_pipe.specs.Counts.{Tells}
 use Rattle.event_pipe.specs.Rule.{has_last_event}
-use Rattle.sink_offers.specs.Took.{LogTook}
+use Rattle.host_run.specs.Took.{LogTook}
 use Rattle.tap_runner.specs.declared.passing.PassingTurn.{PassingTurn}
 use Rattle.tap_runner.specs.declared.passing.PassingTurn.TheVariants as turns
 use Rattle.tap_runner.specs.declared.passing.PassEnd.{PassEnd}

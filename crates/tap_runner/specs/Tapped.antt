@@ -2,7 +2,7 @@
 use Rattle.std.specs.Prelude.{◌≡◌, ◌<◌, ◌⊎◌, true, false, [], ◌∷◌, IfSome}
 use Rattle.line_io.specs.Source.{Received}
 use Rattle.child_engine.specs.Hosts.{Books, told_by}
-use Rattle.sink_offers.specs.Streams.{Streams}
+use Rattle.host_run.specs.Streams.{Streams}
 use Rattle.host_run.specs.declared.failures.Failures.{Failures}
 use Rattle.host_run.specs.Early.{no_failure}
 use Rattle.host_run.specs.Logs.{closed_logs}

@@ -2,7 +2,7 @@
 ghost use Rattle.std.specs.Prelude.{◌≡◌, ◌≤◌, ◌&&◌, ◌++◌, ◌∷◌, ◌+◌, [], length, is_some};
 ghost use Rattle.line_io.specs.Event.{event_of};
 ghost use Rattle.event_pipe.specs.Ends.{IsFreshTaker, KeepsTaker, events_taken};
-ghost use Rattle.sink_offers.specs.Streams.{log_state, Offered};
+ghost use Rattle.host_run.specs.Streams.{log_state, Offered};
 ghost use Rattle.tap_runner.specs.Marks.{log_of_event};
 ghost use Rattle.tap_runner.specs.Logging.{Logged, ends_after, mark_length};
 ghost use Rattle.line_io.specs.Lines.{line_feed};
@@ -10,8 +10,8 @@ ghost use Rattle.tap_runner.specs.declared.part.TheConstants.{MARK_ROOM};
 ghost use Rattle.tap_runner.specs.declared.logging.TheConstants.{LOG_ROOM};
 
 use event_pipe::PipeTake;
+use host_run::offer_log;
 use line_io::{Event, Out, PEER_LINE, Sink};
-use sink_offers::offer_log;
 use std::sync::Wait;
 
 /// The room for a mark in the log.

@@ -8,8 +8,8 @@ ghost use Rattle.tap_runner.specs.Passing.{Turned, Passed, is_last, has_failed_t
 use crate::OpenLine;
 use child_engine::LetGo;
 use event_pipe::PipeSend;
+use host_run::offer;
 use line_io::{Sink, Source};
-use sink_offers::offer;
 use std::alloc::Global;
 use std::sync::Wait;
 

@@ -2,7 +2,7 @@
 ghost use Rattle.std.specs.Prelude.{◌≡◌, ◌≤◌, is_some};
 ghost use Rattle.event_pipe.specs.Ends.{IsFreshTaker, events_taken, events_sent};
 ghost use Rattle.event_pipe.specs.declared.message.Peer.TheVariants as peers;
-ghost use Rattle.sink_offers.specs.Streams.{log_state, streams_of};
+ghost use Rattle.host_run.specs.Streams.{log_state, streams_of};
 ghost use Rattle.tap_runner.specs.Logging.{Logged};
 ghost use Rattle.tap_runner.specs.Parts.{AreReady, KeepsEnds};
 ghost use Rattle.tap_runner.specs.Passing.{Passed};
@@ -12,8 +12,8 @@ ghost use Rattle.tap_runner.specs.declared.logging.TheConstants.{LOG_ROOM};
 use crate::{PassEnd, TapParts, hand_on, keep_log};
 use child_engine::LetGo;
 use event_pipe::{Pipe, join_three};
+use host_run::{HandedStreams, Interface};
 use line_io::{Sink, Source};
-use sink_offers::{HandedStreams, Interface};
 use std::alloc::Global;
 use std::sync::Wait;
 use std::thread::Threads;

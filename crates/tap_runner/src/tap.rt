@@ -12,12 +12,11 @@ use crate::parts::make_parts;
 use crate::{TapParts, run_tap};
 use child_engine::{Host, LetGo, Started};
 use host_run::{
-    Failures, Opened, close_log, either, is_open_failure, is_open_memory, only_memory, open_log,
-    start_engine,
+    Failures, HandedStreams, Interface, Opened, close_log, either, is_open_failure, is_open_memory,
+    only_memory, open_log, start_engine,
 };
 use line_io::Source;
-use program_words::EngineRequest;
-use sink_offers::{HandedStreams, Interface};
+use program_edges::EngineRequest;
 use std::alloc::Global;
 use std::sync::Wait;
 use std::thread::Threads;

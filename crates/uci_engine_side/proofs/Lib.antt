@@ -1,3 +1,7 @@
+pub mod Cuts
+pub mod Played
+pub mod Fields
+pub mod Saying
 pub mod Rooms
 pub mod Kept
 pub mod Again

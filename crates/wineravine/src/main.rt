@@ -2,9 +2,9 @@
 #![tactic(auto)]
 
 use child_engine::{EngineInput, RealHost};
+use host_run::Interface;
 use line_io::{ReadAdapter, WriteAdapter};
 use program_edges::{ClosedStreams, NO_MEMORY, WORDS_ROOM, words_of};
-use sink_offers::Interface;
 use std::process::{ChildStdin, ExitCode};
 use wineravine_app::{refuse_for_memory, wineravine_main};
 

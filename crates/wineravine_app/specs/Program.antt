@@ -12,7 +12,7 @@ use Rattle.host_run.specs.Program.{Answers, IsToldTo}
 use Rattle.host_run.specs.declared.ending.ProgramEnding.TheVariants as endings
 use Rattle.bridge_runner.specs.Program.{RunsAsAsked}
 use Rattle.peer_words.specs.Bytes.{carriage_return}
-use Rattle.program_words.specs.About.{version_line}
+use Rattle.program_edges.specs.About.{version_line}
 use Rattle.setting_words.specs.Values.{text_or_empty}
 use Rattle.setting_words.specs.WineravineWords.{AreTaken, AskForHelp, AskForVersion, AreWrong}
 use Rattle.setting_words.specs.WineravineWords.{AreAsked, first_lines, values_found}

@@ -1,7 +1,7 @@
 // The program over any host.
 ghost use Rattle.std.specs.Prelude.{◌≡◌, ◌≢◌, true, IfSome};
 ghost use Rattle.child_engine.specs.Hosts.{IsUnused};
-ghost use Rattle.program_words.specs.Words.{bytes_of};
+ghost use Rattle.program_edges.specs.Words.{bytes_of};
 ghost use Rattle.host_run.specs.Endings.{code_of, diagnostic};
 ghost use Rattle.host_run.specs.Asked.{AsksAsTold};
 ghost use Rattle.host_run.specs.Outside.{outside_of};
@@ -14,12 +14,11 @@ ghost use Rattle.wineravine_app.specs.Program.{Did, Does, Fit, engine_named, not
 use crate::telling::{not_started_line, refuse, show, write_once};
 use bridge_runner::run_bridge;
 use child_engine::Host;
-use host_run::{Failures, ProgramEnding, finish};
+use host_run::{Failures, Interface, ProgramEnding, finish};
 use line_io::{Sink, Source, Status};
 use mediator::RunRequest;
-use program_words::version_line;
+use program_edges::version_line;
 use setting_words::{AskedProgram, HELP, WineravineRequest, WrongWords, read_wineravine_words};
-use sink_offers::Interface;
 use std::alloc::Global;
 use std::sync::Wait;
 use std::thread::Threads;

@@ -2,9 +2,9 @@
 use crate::expected::{expect_bytes, words_of};
 use crate::program::Counts;
 use child_engine::{Fails, MemHost};
+use host_run::Interface;
 use line_io::MemSink;
 use paced_host::{DueText, PacedHost, PacedLog, PacedTexts};
-use sink_offers::Interface;
 use std::alloc::Global;
 use std::process::Abort;
 use std::sync::Wait;

@@ -1,5 +1,5 @@
 // The texts that the program shows are those of its command.
-use program_words::version_line;
+use program_edges::version_line;
 use setting_words::{HELP, wineravine_command};
 
 #[test]

@@ -3,8 +3,8 @@ use super::positions::{move_of, position_of};
 use crate::expect::{expect, expect_text, room};
 use chess_board::{Move, Position, equal_positions};
 use game_record::{Game, GameEnd, NoMove, PlayFault};
-use game_text::sans_are_lawful;
 use line_io::Out;
+use san_text::sans_are_lawful;
 use std::alloc::Global;
 use std::process::Abort;
 

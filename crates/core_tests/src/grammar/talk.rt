@@ -2,7 +2,7 @@
 use crate::expect::expect;
 use fen_text::write_fen;
 use peer_words::GoKind;
-use uci_talk::{go_kind, spoken};
+use uci_engine_side::{go_kind, spoken};
 
 const START: &str = "rnbqkbnr/pppppppp/8/8/8/8/PPPPPPPP/RNBQKBNR w KQkq - 0 1";
 

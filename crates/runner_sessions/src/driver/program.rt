@@ -6,7 +6,7 @@ use crate::runs::{Peers, WholeLog, expect_log, expect_runs};
 use crate::streams::{sink, words_of};
 use driver_runner::{logs_are_whole, refuse_for_memory};
 use paced_host::DueText;
-use program_words::{EngineRequest, WordsRefusal, read_words};
+use program_edges::{EngineRequest, WordsRefusal, read_words};
 use std::alloc::Global;
 use std::process::Abort;
 

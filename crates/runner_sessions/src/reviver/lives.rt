@@ -5,15 +5,15 @@ ghost use Rattle.engine_revival.specs.declared.script.TheConstants.{EVENT_ROOM};
 ghost use Rattle.event_pipe.specs.Ends.{IsSender, IsTaker, KeepsSender, KeepsTaker, events_sent};
 ghost use Rattle.event_pipe.specs.Rule.{has_last_event};
 ghost use Rattle.event_pipe.specs.declared.message.Peer.TheVariants as peers;
-ghost use Rattle.life_runner.specs.Looped.{IsReadyLoop, KeepsLoop};
+ghost use Rattle.reviver_runner.specs.Looped.{IsReadyLoop, KeepsLoop};
 
 use crate::expected::{expect_bytes, expect_true};
 use crate::streams::{letters_before, sink, source};
 use engine_revival::{EVENT_ROOM, Revival};
 use event_pipe::{Pipe, PipeSend, PipeTake, ReadEnd, read_pipe};
-use life_runner::{LifeRun, MarkedLog, RevivalLoop, one_life, read_life};
+use host_run::LoopEnd;
 use line_io::{Event, MemSink, MemSource, Out};
-use sink_offers::LoopEnd;
+use reviver_runner::{LifeRun, MarkedLog, RevivalLoop, one_life, read_life};
 use std::alloc::Global;
 use std::process::Abort;
 use std::sync::Wait;

@@ -4,9 +4,9 @@
 use crate::expected::{expect_bytes, expect_true};
 use crate::paced_sink::PacedSink;
 use crate::tap::directions::{is_end, run_both};
+use host_run::{HandedStreams, Interface};
 use line_io::MemSink;
 use paced_host::{DueText, PacedLog, PacedTexts};
-use sink_offers::{HandedStreams, Interface};
 use std::alloc::Global;
 use std::process::Abort;
 use std::sync::Wait;

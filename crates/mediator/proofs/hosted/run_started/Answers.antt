@@ -1,7 +1,7 @@
 use Rattle.std.proofs.Common.{◌∙◌, ap, refl, sym, ◌||◌, Bool, ℕ}
 use Rattle.line_io.specs.Source.{Supplied, Received}
 use Rattle.child_engine.specs.Hosts.{Books}
-use Rattle.sink_offers.specs.Streams.{log_state}
+use Rattle.host_run.specs.Streams.{log_state}
 use Rattle.host_run.specs.Logs.{closed_logs}
 use Rattle.host_run.proofs.Telling.{fresh_faults}
 use Rattle.host_run.proofs.Counts.{retold, told_by, log_told, reads_kept, writes_kept, waits_kept, starts_kept}

@@ -1,7 +1,7 @@
 use Rattle.std.proofs.Common.{◌≡◌}
 use Rattle.std.specs.Prelude.{is_some}
 use Rattle.event_pipe.specs.Ends.{KeepsTaker, events_taken}
-use Rattle.sink_offers.specs.Streams.{sinks_of}
+use Rattle.host_run.specs.Streams.{sinks_of}
 use Rattle.mediator.specs.Reached.{Opened}
 use Rattle.mediator.proofs.looping.mediate.Given as goal
 

@@ -1,6 +1,6 @@
 use Rattle.std.proofs.Common.{◌∙◌, List, Bool, ◌||◌, refl, ap, sym, subst, arith}
 use Rattle.child_engine.specs.Hosts.{Books, RisesBy}
-use Rattle.life_runner.specs.declared.life.LifeRun.{LifeRun}
+use Rattle.reviver_runner.specs.declared.life.LifeRun.{LifeRun}
 use Rattle.reviver_runner.specs.Closing.{read_faults, write_faults}
 use Rattle.reviver_runner.proofs.CloseSteps.{closed_count, closed_told, all_closed, none_told, fewer_processes, no_process}
 use Rattle.reviver_runner.proofs.CountSteps.{cause_more, rises_both, rises_none, none_left}

@@ -1,4 +1,4 @@
-use Rattle.life_runner.proofs.LoopSteps.{keeps_same, keeps_both, ready_still}
+use Rattle.reviver_runner.proofs.HearSteps.{keeps_same, keeps_both, ready_still}
 use Rattle.reviver_runner.proofs.DrainSteps.{drained_none, drained_both}
 use Rattle.reviver_runner.proofs.drain.drain.Goals as goal
 

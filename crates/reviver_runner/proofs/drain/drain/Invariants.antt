@@ -1,4 +1,4 @@
-use Rattle.life_runner.specs.Looped.{KeepsLoop, loop_reports}
+use Rattle.reviver_runner.specs.Looped.{KeepsLoop, loop_reports}
 use Rattle.reviver_runner.specs.Drained.{Drained}
 use Rattle.reviver_runner.proofs.drain.drain.Given as goal
 

@@ -3,7 +3,7 @@ use Rattle.std.proofs.Common.{◌≡◌, ◌+◌}
 use Rattle.std.specs.Prelude.{map, string_bytes}
 use Rattle.std.specs.VecDeque.{deque_len, deque_capacity}
 use Rattle.event_pipe.specs.Ends.{events_sent}
-use Rattle.life_runner.specs.Looped.{loop_reports}
+use Rattle.reviver_runner.specs.Looped.{loop_reports}
 use Rattle.reviver_runner.specs.Lives.{Goes, GoesOn, HostGoes, host_shown}
 use Rattle.reviver_runner.specs.Parts.{KeepsEnds}
 use Rattle.reviver_runner.proofs.outcome.run_lives.Given as goal

@@ -1,5 +1,5 @@
 use Rattle.std.proofs.Common.{◌∙◌, ℕ, ◌≤◌, refl, subst}
-use Rattle.life_runner.proofs.Appends.{took}
+use Rattle.reviver_runner.proofs.Appends.{took}
 use Rattle.reviver_runner.proofs.EndSteps.{heard, lived_from}
 use Rattle.reviver_runner.proofs.RunSteps.{lives_count}
 use Rattle.reviver_runner.proofs.outcome.run_opened.Goals as goal

@@ -7,7 +7,7 @@ use Rattle.host_run.proofs.Counts.{retold}
 use Rattle.host_run.proofs.Telling.{fresh_faults}
 use Rattle.host_run.proofs.Asked.{asked_logs, asks_more}
 use Rattle.host_run.proofs.Closes.{same_count, length_told, few_logs, told_as, lacked, log_opened, left_of, right_of}
-use Rattle.sink_offers.specs.Streams.{log_state}
+use Rattle.host_run.specs.Streams.{log_state}
 use Rattle.reviver_runner.specs.Ran.{TellsRun}
 use Rattle.reviver_runner.proofs.RunSteps.{ran, close_may, log_may, may_as, lives_count, each_as, logged_as, why_refused, unopened, or_left, or_right}
 use Rattle.reviver_runner.proofs.Records.{recorded_by}

@@ -1,6 +1,6 @@
 use Rattle.std.proofs.Common.{sym, ◌∙◌}
 use Rattle.peer_words.specs.Tokens.{tokens}
-use Rattle.uci_talk.specs.Views.{said_by}
+use Rattle.uci_engine_side.specs.Views.{said_by}
 use Rattle.session_judge.proofs.Lines.{said_leads, some_tokens}
 use Rattle.session_judge.proofs.played.play_whole.Goals as goal
 

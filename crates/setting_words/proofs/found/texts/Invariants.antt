@@ -1,6 +1,6 @@
 -- What is left of the words completes the texts.
 use Rattle.std.proofs.Common.{◌≡◌, ◌++◌, drop, map}
-use Rattle.program_words.specs.Words.{bytes_of, AreUtf8}
+use Rattle.program_edges.specs.Words.{bytes_of, AreUtf8}
 use Rattle.setting_words.proofs.found.texts.Given as goal
 
 abbrev pub invariant-loop-word : goal.invariant-loop-word

@@ -1,7 +1,7 @@
 use Rattle.std.proofs.Common.{◌≡◌, ◌∙◌, List, ap, subst, map}
 use Rattle.std.proofs.lemmas.Result.{IfOk-weaker}
 use Rattle.clap.specs.Words.{HasKind, Text}
-use Rattle.program_words.specs.Words.{bytes_of}
+use Rattle.program_edges.specs.Words.{bytes_of}
 use Rattle.setting_words.specs.WineravineWords.{faults_found}
 use Rattle.setting_words.proofs.Reading.{asked_by}
 use Rattle.setting_words.proofs.wineravine_request.read_wineravine_words.Goals as goal

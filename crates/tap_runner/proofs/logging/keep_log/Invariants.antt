@@ -1,7 +1,7 @@
 use Rattle.std.proofs.Common.{◌≡◌}
 use Rattle.std.specs.Prelude.{is_some}
 use Rattle.event_pipe.specs.Ends.{KeepsTaker, events_taken}
-use Rattle.sink_offers.specs.Streams.{log_state}
+use Rattle.host_run.specs.Streams.{log_state}
 use Rattle.tap_runner.specs.Logging.{Logging}
 use Rattle.tap_runner.proofs.logging.keep_log.Given as goal
 

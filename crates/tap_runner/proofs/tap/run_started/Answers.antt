@@ -1,6 +1,6 @@
 use Rattle.std.proofs.Common.{◌∙◌, ap, refl, sym, ◌||◌, Bool, false, ℕ}
 use Rattle.line_io.specs.Source.{Supplied, Received}
-use Rattle.sink_offers.specs.Streams.{log_state}
+use Rattle.host_run.specs.Streams.{log_state}
 use Rattle.host_run.specs.Logs.{closed_logs}
 use Rattle.host_run.proofs.Telling.{fresh_faults}
 use Rattle.host_run.specs.declared.failures.Failures.{Failures}

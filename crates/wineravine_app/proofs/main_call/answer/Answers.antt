@@ -3,7 +3,7 @@ use Rattle.line_io.specs.Source.{Received}
 use Rattle.host_run.specs.Outside.{outside_of}
 use Rattle.host_run.specs.Program.{IsToldTo}
 use Rattle.host_run.proofs.Causes as causes
-use Rattle.program_words.specs.Words.{bytes_of}
+use Rattle.program_edges.specs.Words.{bytes_of}
 use Rattle.setting_words.specs.WineravineWords.{Ask, IsRunnable}
 use Rattle.setting_words.specs.declared.wineravine_request.AskedProgram.{AskedProgram}
 use Rattle.wineravine_app.specs.Program.{engine_named, not_started}

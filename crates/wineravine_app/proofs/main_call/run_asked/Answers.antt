@@ -3,7 +3,7 @@ use Rattle.host_run.specs.Outside.{outside_of}
 use Rattle.host_run.proofs.Asked.{asks_told}
 use Rattle.mediator.specs.First.{AreOpening}
 use Rattle.bridge_runner.specs.Program.{Runs}
-use Rattle.program_words.specs.Words.{bytes_of}
+use Rattle.program_edges.specs.Words.{bytes_of}
 use Rattle.setting_words.specs.WineravineWords.{values_found}
 use Rattle.wineravine_app.proofs.Opening.{are_opening}
 use Rattle.wineravine_app.proofs.main_call.run_asked.Goals as goal

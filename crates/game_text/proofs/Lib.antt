@@ -1,2 +1,0 @@
-pub mod Sans
-pub mod Spaced

@@ -1,2 +1,0 @@
-pub mod San
-pub mod Text

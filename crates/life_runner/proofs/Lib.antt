@@ -1,4 +1,0 @@
-pub mod Appends
-pub mod Stays
-mod ReadSteps
-pub mod LoopSteps

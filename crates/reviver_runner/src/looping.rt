@@ -1,0 +1,205 @@
+// The loop of a life: each event that comes is heard by the revival, whose lines go up, to the life
+// and into the log.
+ghost use Rattle.std.specs.Prelude.{◌≡◌, ◌≤◌, is_some, true, false};
+ghost use Rattle.line_io.specs.Event.{event_of};
+ghost use Rattle.line_io.specs.Source.{Received};
+ghost use Rattle.script_lines.specs.StepText.{step_marks};
+ghost use Rattle.engine_revival.specs.Marks.{HaveRoom};
+ghost use Rattle.engine_revival.specs.Script.{may_happen, state_after, event_text};
+ghost use Rattle.engine_revival.specs.Steps.{is_alive};
+ghost use Rattle.engine_revival.specs.declared.script.TheConstants.{EVENT_ROOM};
+ghost use Rattle.event_pipe.specs.Message.{is_good};
+ghost use Rattle.host_run.specs.Streams.{sinks, log_state};
+ghost use Rattle.reviver_runner.specs.Looped.{IsReadyLoop, KeepsLoop, KeepsMarks, Offers, Shown, loop_reports, Going, GoesOrEnds, LoopedLife};
+ghost use Rattle.reviver_runner.specs.Played.{event_up, event_child, is_heard};
+
+use child_engine::LetGo;
+use engine_revival::{Revival, RevivalStep, put_marks};
+use event_pipe::PipeTake;
+use host_run::{LoopEnd, offer, offer_log};
+use line_io::{Event, Out, Sink};
+use std::sync::Wait;
+use std::thread;
+
+/// A log that may be missing, and the room for the marks of an event.
+#[derive(Drop)]
+pub struct MarkedLog<L> {
+    pub log: Option<L>,
+    pub text: Out,
+}
+
+/// What hears the lives of an engine: the revival, the end of the channel that it hears by, the log,
+/// and which sinks have failed.
+#[derive(Drop)]
+pub struct RevivalLoop<L> {
+    pub revival: Revival,
+    pub from: PipeTake,
+    pub marks: MarkedLog<L>,
+    pub failed: LoopEnd,
+}
+
+/// Offers the lines that a call gave for an event to the life and to the interface, and then the
+/// marks of both to the log, which nobody waits for; each unless it failed before.
+pub fn offer_all<K: Sink, O: Sink, L: Sink>(
+    event: &Event,
+    both: RevivalStep,
+    child: &mut K,
+    output: &mut O,
+    marks: &mut MarkedLog<L>,
+    failed: LoopEnd,
+) -> LoopEnd
+    requires good { is_good (event_of event.now) ≡ true }
+    requires marks { HaveRoom both.up.now both.child.now }
+    requires room { EVENT_ROOM ≤ marks.old.text.room }
+    ensures offers { Offers both.entry.up.now both.entry.child.now
+        (step_marks (event_of event.now) both.entry.up.now both.entry.child.now)
+        (sinks (O.state output.old) (K.state child.old) (log_state L.state marks.old.log))
+        (sinks (O.state output.new) (K.state child.new) (log_state L.state marks.new.log))
+        failed result }
+    ensures keeps { KeepsMarks marks.old marks.new }
+{
+    let MarkedLog { log, text } = marks;
+    text.clear();
+    put_marks(event, both, text);
+    LoopEnd {
+        engine: offer(child, both.child, failed.engine),
+        output: offer(output, both.up, failed.output),
+        log: offer_log(log, text.bytes(), failed.log),
+    }
+}
+
+/// Has the revival hear an order or a line, and offers what it gives.
+pub fn hear<K: Sink, O: Sink, L: Sink>(
+    revival: &mut Revival,
+    event: &Event,
+    child: &mut K,
+    output: &mut O,
+    marks: &mut MarkedLog<L>,
+    failed: LoopEnd,
+) -> LoopEnd
+    requires may { may_happen revival.old.state (event_of event.now) ≡ true }
+    requires heard { is_heard (event_of event.now) ≡ true }
+    requires good { is_good (event_of event.now) ≡ true }
+    requires room { EVENT_ROOM ≤ marks.old.text.room }
+    ensures state { revival.new.state ≡ state_after revival.old.state (event_of event.now) }
+    ensures offers { Offers (event_up revival.old.state (event_of event.now))
+        (event_child revival.old.state (event_of event.now))
+        (event_text revival.old.state (event_of event.now))
+        (sinks (O.state output.old) (K.state child.old) (log_state L.state marks.old.log))
+        (sinks (O.state output.new) (K.state child.new) (log_state L.state marks.new.log))
+        failed result }
+    ensures keeps { KeepsMarks marks.old marks.new }
+{
+    match event {
+        Event::Iface(line) => {
+            let both = revival.order(line);
+            offer_all(event, both, child, output, marks, failed)
+        }
+        Event::IfaceEnd => {
+            let both = revival.order(b"quit");
+            offer_all(event, both, child, output, marks, failed)
+        }
+        Event::Engine(line) => {
+            let both = revival.heard(line);
+            offer_all(event, both, child, output, marks, failed)
+        }
+        _ => failed,
+    }
+}
+
+// Once `quit` was accepted nothing more is written to the life: its input is let go, so that it can
+// end also if it got no order.
+fn let_go_at_quit<K: LetGo>(revival: &Revival, child: &mut K)
+    ensures shown { K.state child.new ≡ K.state child.old }
+    ensures let_go { revival.now.state.quit ≡ true → K.is_let_go child.new }
+    ensures kept { revival.now.state.quit ≡ false → child.new ≡ child.old }
+{
+    if revival.has_quit() {
+        child.let_go();
+    }
+}
+
+/// Waits for what never comes.
+pub fn wait_for_ever<R: Wait>(rt: &R)
+    ensures { ⊥ }
+{
+    for _ in rt.forever() {
+        thread::yield_now();
+    }
+    unreachable!()
+}
+
+// An order, the end of the orders, or a line of the present life.
+fn is_heard(event: &Event) -> bool
+    ensures { result ≡ is_heard (event_of event.now) }
+{
+    matches!(event, Event::Iface(_) | Event::IfaceEnd | Event::Engine(_))
+}
+
+// Takes an event and has the revival hear it. It reports whether the life goes on.
+fn hear_next<K: LetGo, O: Sink, L: Sink, R: Wait>(
+    rt: &R,
+    looping: &mut RevivalLoop<L>,
+    child: &mut K,
+    output: &mut O,
+) -> bool
+    requires alive { is_alive looping.old.revival.state.life ≡ true }
+    requires ready { IsReadyLoop looping.old }
+    ensures keeps { KeepsLoop looping.old looping.new }
+    ensures alive { is_alive looping.new.revival.state.life ≡ true }
+    ensures let_go { (looping.old.revival.state.quit ≡ true → K.is_let_go child.old)
+        → looping.new.revival.state.quit ≡ true → K.is_let_go child.new }
+    ensures next { (first : Shown) (sink : Received)
+        → Going first (loop_reports O.state L.state looping.old output.old) sink (K.state child.old)
+        → GoesOrEnds result first (loop_reports O.state L.state looping.new output.new)
+        sink (K.state child.new) }
+{
+    let RevivalLoop {
+        revival,
+        from,
+        marks,
+        failed,
+    } = looping;
+    let sent = from.take(rt);
+    let event = sent.event();
+    if is_heard(&event) {
+        *failed = hear(revival, &event, child, output, marks, *failed);
+        let_go_at_quit(revival, child);
+        return true;
+    }
+    match event {
+        Event::EngineLong => return false,
+        Event::IfaceLong => return true,
+        _ => {
+            wait_for_ever(rt);
+            return false;
+        }
+    }
+}
+
+/// Has the revival hear each event that comes, until a Long of the engine is taken, which is the
+/// mark of the life's end. The interface's long lines are ignored. If the engine's end is
+/// taken, which the reader of a life never sends, it does not return.
+pub(crate) fn life_loop<K: LetGo, O: Sink, L: Sink, R: Wait>(
+    rt: &R,
+    looping: &mut RevivalLoop<L>,
+    child: &mut K,
+    output: &mut O,
+)
+    requires alive { is_alive looping.old.revival.state.life ≡ true }
+    requires ready { IsReadyLoop looping.old }
+    ensures keeps { KeepsLoop looping.old looping.new }
+    ensures alive { is_alive looping.new.revival.state.life ≡ true }
+    ensures let_go { looping.old.revival.state.quit ≡ false
+        → looping.new.revival.state.quit ≡ true → K.is_let_go child.new }
+    ensures looped { LoopedLife (loop_reports O.state L.state looping.old output.old)
+        (loop_reports O.state L.state looping.new output.new) (K.state child.old)
+        (K.state child.new) }
+{
+    for _ in rt.forever() {
+        if !hear_next(rt, looping, child, output) {
+            return;
+        }
+    }
+    unreachable!()
+}

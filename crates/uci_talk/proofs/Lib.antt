@@ -1,4 +1,0 @@
-pub mod Cuts
-pub mod Played
-pub mod Fields
-pub mod Saying

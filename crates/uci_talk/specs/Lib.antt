@@ -1,4 +1,0 @@
-pub mod Kinds
-pub mod Lines
-pub mod Views
-pub mod Speaks
