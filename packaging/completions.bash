@@ -1,24 +1,51 @@
-# Completion in bash for the programs of Wineravine: words, settings with their values, logs, engines.
+# Completion in bash for the programs of Wineravine: arguments, settings with their values, logs, engines.
 
-_wineravine_values() { # the setting that the word before names
+# files and folders, with what a shell needs before a blank
+_wineravine_files() { # the word so far
+  mapfile -t COMPREPLY < <(compgen -f -- "$1")
+  compopt -o filenames 2>/dev/null
+}
+
+# The values of a setting. Where one has no list of them, nothing is offered: neither commands nor
+# files could come there.
+_wineravine_values() { # the setting, the word so far
   case $1 in
     --Resign | --ShowPonder | --EarlySettings | --ResignWhenGone | --HandleDraws | --ShowSan | --StrengthOptions)
       mapfile -t COMPREPLY < <(compgen -W 'true false' -- "$2") ;;
-    --LogFile) mapfile -t COMPREPLY < <(compgen -f -- "$2") ;;
-    *) return 1 ;;
+    --ResignMoves) mapfile -t COMPREPLY < <(compgen -W 3 -- "$2") ;;
+    --ResignScore) mapfile -t COMPREPLY < <(compgen -W 600 -- "$2") ;;
+    --LogFile) _wineravine_files "$2" ;;
   esac
 }
 
 _wineravine() {
-  local word=${COMP_WORDS[COMP_CWORD]} before=${COMP_WORDS[COMP_CWORD - 1]} settings
+  local word=${COMP_WORDS[COMP_CWORD]} at=1 setting='' settings
   settings='--Resign --ResignMoves --ResignScore --ShowPonder --LogFile'
   [ "${1##*/}" != wineravine ] ||
     settings="$settings --EarlySettings --ResignWhenGone --HandleDraws --ShowSan --StrengthOptions --Option --help --version"
-  ! _wineravine_values "$before" "$word" || return 0
-  case $word in
-    -*) mapfile -t COMPREPLY < <(compgen -W "$settings" -- "$word") ;;
-    *) mapfile -t COMPREPLY < <(compgen -c -- "$word"; compgen -f -- "$word") ;;
-  esac
+  COMPREPLY=()
+  # each setting with its value, which bash takes apart at `=`, until the engine comes
+  while [ "$at" -lt "$COMP_CWORD" ]; do
+    case ${COMP_WORDS[at]} in
+      --) at=$((at + 1)) && settings='' && break ;;
+      --help | --version) return ;;
+      --*) setting=${COMP_WORDS[at]} ;;
+      *) break ;;
+    esac
+    at=$((at + 2))
+    [ "${COMP_WORDS[at - 1]}" != = ] || at=$((at + 1))
+    # a value may have `=` itself
+    while [ "$at" -lt "$COMP_CWORD" ] && [ "${COMP_WORDS[at]}" = = ]; do at=$((at + 2)); done
+  done
+  if [ "$at" -lt "$COMP_CWORD" ]; then
+    _wineravine_files "$word"
+  elif [ "$at" -gt "$COMP_CWORD" ]; then
+    _wineravine_values "$setting" "${word#=}"
+  elif [ "${word:0:1}" = - ]; then
+    mapfile -t COMPREPLY < <(compgen -W "$settings" -- "$word")
+  else
+    mapfile -t COMPREPLY < <(compgen -c -- "$word"; compgen -f -- "$word")
+  fi
 }
 
 _wineravine_replay() {

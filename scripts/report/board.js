@@ -89,5 +89,9 @@ function putGame(game, k) {
   put(p, "b", {}, game.result + (game.told && game.told !== game.result ? " (the interface: " + game.told + ")" : ""));
 }
 S.games.forEach(putGame);
+const onTimeOf = k => S.forfeits.some(it => it.game === k + 1);
+const sidesOf = game => game.side === "black" ? ["?", S.engine || "?"] : [game.side ? S.engine || "?" : "?", "?"];
+const pgnOfLog = () => S.games.map((game, k) => pgnOf({ ...game, onTime: onTimeOf(k) }, sidesOf(game), k + 1)).join("");
+if (S.games.length) offer($("steps"), "games.pgn", pgnOfLog);
 if (!S.games.length) put($("moves"), "p", {}, S.kind === "bridge" ? "No moves were played." : "Moves are told of logs of bridge alone.");
 

@@ -24,7 +24,12 @@ function draw(to, tag, set = {}, text) {
   return e;
 }
 // Lines that a page leads to: the number of each, and what stands in its link.
-const latePlaces = summary => summary.late.map(n => [n, "line " + n]);
-const faultPlaces = summary => summary.engineFaults.map(it => [it.line, it.what + ", line " + it.line]);
+const latePlaces = summary => summary.late.map(n => [n, "line " + n + (summary.lateOnTime.includes(n) ? ", in a game lost on time" : "")]);
+const placesOf = found => found.map(it => [it.line, it.what + ", line " + it.line]);
+const faultPlaces = summary => placesOf(summary.engineFaults);
+const unansweredPlaces = summary => placesOf(summary.unanswered);
+// The games that the engine lost on time; where its side is not known, those in which either side did.
+const forfeitsOf = summary => summary.forfeits.filter(it => it.own !== false);
+const forfeitPlaces = summary => forfeitsOf(summary).map(it => [it.line, "game " + it.game + " (" + it.side + "), line " + it.line]);
 const plural = (n, one, many) => n + " " + (n === 1 ? one : many || one + "s");
 

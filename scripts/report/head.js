@@ -33,6 +33,8 @@ if (!isTap) fact("moves shown", S.shown);
 if (isBridge || isTap) fact("searches", Object.keys(kinds).map(kind => S.searches[kind] + " " + kinds[kind]).join(", "));
 if (isBridge) fact("late answers, not shown", S.late.length, S.late.length ? "bad" : "").id = "late-count";
 else fact("late answers", "not told by the log of a " + S.kind);
+if (isBridge) fact("lost on time", forfeitsOf(S).length, forfeitsOf(S).length ? "bad" : "").id = "forfeit-count";
+if (isBridge || isTap) fact("unanswered", S.unanswered.length, S.unanswered.length ? "bad" : "").id = "unanswered-count";
 if (isBridge) fact("engine faults", S.engineFaults.length, S.engineFaults.length ? "bad" : "").id = "fault-count";
 if (isBridge) fact("given up by pondering or analysis", S.givenUp);
 fact("lines", S.count);
@@ -45,6 +47,8 @@ function putLinks(id, title, places) {
   }
 }
 putLinks("late", "Came late and was not shown: ", latePlaces(S));
+putLinks("forfeits", "Lost on time: ", forfeitPlaces(S));
+putLinks("unanswered", "Not answered by the engine: ", unansweredPlaces(S));
 putLinks("engine-faults", "Engine faults: ", faultPlaces(S));
 
 // SEARCHES, as the judge tells of them; where one was stopped stands in the log

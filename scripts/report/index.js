@@ -1,11 +1,18 @@
-const LOGS = dataIn("rows"), CROSS = dataIn("table");
+const LOGS = dataIn("rows"), TABLE = dataIn("table"), CROSS = TABLE.cross;
 const of = (row, name) => row.summary ? row.summary[name] : undefined;
 const saidBy = (row, word) => (of(row, "verdicts") || []).find(v => v.program.startsWith("replay " + word));
-const results = row => gamesIn(row).map(game => game.told || game.result).join(", ");
+// How often each result came, without its comment.
+function results(row) {
+  const counts = new Map();
+  for (const game of gamesIn(row)) counts.set(resultOf(game), (counts.get(resultOf(game)) || 0) + 1);
+  return [...counts].map(([result, n]) => n === 1 ? result : result + " × " + n).join(", ");
+}
 const sum = get => LOGS.reduce((n, row) => n + (get(row) || 0), 0);
 
 const lateIn = row => of(row, "late") ? latePlaces(row.summary) : [];
 const faultsIn = row => of(row, "engineFaults") ? faultPlaces(row.summary) : [];
+const forfeitsIn = row => of(row, "forfeits") ? forfeitPlaces(row.summary) : [];
+const unansweredIn = row => of(row, "unanswered") ? unansweredPlaces(row.summary) : [];
 const gamesIn = row => of(row, "games") || [];
 // The verdict on the log as such, and that on its talk.
 const words = { check: ["check", "drive", "revive"], talk: ["judge"] };
@@ -33,6 +40,8 @@ const columns = [
   ["results", results],
   ["moves shown", row => of(row, "kind") === "tap" ? "" : of(row, "shown") ?? "", "number"],
   ["late answers", row => toldBy(row, lateIn(row).length), "number", lateIn],
+  ["lost on time", row => toldBy(row, forfeitsIn(row).length), "number", forfeitsIn],
+  ["unanswered", row => ["bridge", "tap"].includes(of(row, "kind")) ? unansweredIn(row).length : "", "number", unansweredIn],
   ["engine faults", row => toldBy(row, of(row, "engineFaults")?.length ?? ""), "number", faultsIn],
   ["lines", row => of(row, "count") ?? "", "number"],
 ];
@@ -42,12 +51,12 @@ const bad = LOGS.filter(row => !isGood(row, "check") || !isGood(row, "talk")).le
 fact("logs", LOGS.length);
 fact("lawful", LOGS.length - bad, bad ? "" : "good");
 if (bad) fact("not lawful, or not read", bad, "bad");
-fact("games", sum(row => gamesIn(row).length));
+fact("games", TABLE.games.length);
 fact("moves shown", sum(row => of(row, "shown")));
-const late = sum(row => lateIn(row).length);
-fact("late answers, not shown", late, late ? "bad" : "");
-const faults = sum(row => faultsIn(row).length);
-fact("engine faults", faults, faults ? "bad" : "");
+for (const [name, placesIn] of [["late answers, not shown", lateIn], ["lost on time", forfeitsIn], ["unanswered", unansweredIn], ["engine faults", faultsIn]]) {
+  const count = sum(row => placesIn(row).length);
+  fact(name, count, count ? "bad" : "");
+}
 
 let sorted = 0, down = false, wanted = "";
 function putCell(e, row, [name, text, sort, placesIn]) {
@@ -85,27 +94,3 @@ $("find").addEventListener("input", e => {
   $("found").textContent = wanted ? plural(count, "log") : "";
 });
 
-if (CROSS.engines.length) {
-  $("cross").hidden = false;
-  const head = put($("cells"), "tr");
-  put(head, "td");
-  for (const name of CROSS.engines) put(head, "th", { scope: "col" }, name);
-  put(head, "th", { scope: "col" }, "points");
-  CROSS.engines.forEach((name, k) => {
-    const e = put($("cells"), "tr");
-    put(e, "th", { scope: "row" }, name);
-    let points = 0, played = 0;
-    for (const cell of CROSS.cells[k]) {
-      if (!cell) { put(e, "td", {}, "–"); continue; }
-      const mine = cell.won + cell.drawn / 2, all = cell.won + cell.drawn + cell.lost;
-      points += mine;
-      played += all;
-      const open = cell.open ? ", " + cell.open + " without a result" : "";
-      put(e, "td", {}, mine + " of " + all + " (+" + cell.won + " =" + cell.drawn + " −" + cell.lost + ")" + open);
-    }
-    put(e, "td", { class: "number" }, points + " of " + played);
-  });
-}
-if (!LOGS.length) put($("logs"), "tr").append("No log (*.log) is below this folder.");
-order();
-document.body.dataset.ready = "yes";

@@ -1,54 +1,131 @@
-"""A cross table.
+"""The games of a folder, each once, and the cross table.
 
-Two logs are of one match if they have the same games, and the engine of one has the other side.
+Two logs are of one match if they have the same games, and the engine of one has the other side. A
+move that came when the game was over, as after the flag fell, is in the log of its engine alone.
 """
+from courses import POINTS, decided, lost_on_time, result_of
 
-POINTS = {"1-0": 1, "0-1": 0, "1/2-1/2": 0.5}
+OTHER = {"white": "black", "black": "white"}
 
 
-def result_in(game):
-    """The result that the interface told, else that of the board, without its comment."""
-    for text in (game.get("told"), game["result"]):
-        if text and text.split(" ")[0] in POINTS:
-            return text.split(" ")[0]
-    return None
+def folder_of(row):
+    return row["log"].rpartition("/")[0]
+
+
+def games_of(row):
+    return (row["summary"] or {}).get("games") or []
+
+
+def is_own(game, ply):
+    """Whether the engine of the log made this move."""
+    black = (game["start"] or " w").split(" ")[1] == "b"
+    return game["side"] == ("black" if (ply + black) % 2 else "white")
+
+
+def is_same(one, two):
+    """Whether two logs tell of one game: one may have a last move of its engine that came too late."""
+    short, long = sorted((one, two), key=lambda it: len(it["moves"]))
+    count = len(short["moves"])
+    if long["moves"][:count] != short["moves"]:
+        return False
+    extra = len(long["moves"]) - count
+    return extra == 0 or (extra == 1 and is_own(long, count))
+
+
+def partners(rows, key_of):
+    """Takes rows that are of one match from those that are left, in their order."""
+    waiting, found = {}, []
+    for row in rows:
+        games = games_of(row)
+        sides = tuple(game.get("side") for game in games)
+        if not sides or not all(sides):
+            continue
+        key, starts = key_of(row), tuple(game["start"] for game in games)
+        others = waiting.get((key, starts, tuple(OTHER[it] for it in sides)), [])
+        other = next((it for it in others if all(map(is_same, games_of(it), games))), None)
+        if other:
+            others.remove(other)
+            found.append((other, row))
+        else:
+            waiting.setdefault((key, starts, sides), []).append(row)
+    return found
 
 
 def pairs_in(rows):
-    """Logs with the same games, the engine of one against that of the other."""
-    waiting = {}
+    """The two logs of each match: those in one folder first, then those of different ones."""
+    near = partners(rows, folder_of)
+    taken = {id(row) for pair in near for row in pair}
+    return near + partners([row for row in rows if id(row) not in taken], lambda _: "")
+
+
+def names_of(pair):
+    """The names of the engines, with those of their logs if they are alike."""
+    names = [row["summary"]["engine"] or row["log"] for row in pair]
+    if names[0] != names[1]:
+        return names
+    files = [row["log"] for row in pair]
+    ends = [file.rpartition("/")[2] for file in files]
+    return [f"{name} ({file})" for name, file in zip(names, files if ends[0] == ends[1] else ends)]
+
+
+def told_in(games):
+    """What the interface told of a game, in the first of its logs that has a result."""
+    told = [game["told"] for game in games if game.get("told")]
+    return next((text for text in told if decided(text)), told[0] if told else None)
+
+
+def game_entry(places, names):
+    """A game, by its places: for each of its logs the number of the row, that in the log, the game.
+
+    `given` is the number of moves before the first one of an engine: the opening that the
+    interface set.
+    """
+    games = [game for _, _, game in places]
+    told = told_in(games)
+    by_side = {game.get("side"): name for game, name in zip(games, names)}
+    return {"of": [[row, number] for row, number, _ in places], "told": told, "engines": names,
+            "white": by_side.get("white", "?"), "black": by_side.get("black", "?"),
+            "result": decided(told) or result_of(games[0]) or "*",
+            "onTime": next((it for it in map(lost_on_time, games) if it), None),
+            "plies": min(len(game["moves"]) for game in games),
+            "given": min(game.get("given", 0) for game in games)}
+
+
+def game_list(rows):
+    """The games of all logs; one that two logs of a match have is there once."""
+    numbers, pairs = {id(row): number for number, row in enumerate(rows)}, pairs_in(rows)
+    partner, seconds = {id(one): two for one, two in pairs}, {id(two) for _, two in pairs}
     for row in rows:
-        games = (row["summary"] or {}).get("games") or []
-        sides = [game.get("side") for game in games]
-        if not games or not all(sides):
+        if not games_of(row) or id(row) in seconds:
             continue
-        moves = tuple((game["start"], *game["moves"]) for game in games)
-        other = {"white": "black", "black": "white"}
-        mine, theirs = (moves, tuple(sides)), (moves, tuple(other[it] for it in sides))
-        if waiting.get(theirs):
-            yield waiting[theirs].pop(0), row
-        else:
-            waiting.setdefault(mine, []).append(row)
+        logs = [row, partner[id(row)]] if id(row) in partner else [row]
+        names = names_of(logs) if len(logs) == 2 else [row["summary"]["engine"] or row["log"]]
+        for number, games in enumerate(zip(*map(games_of, logs))):
+            yield game_entry([(numbers[id(log)], number, game) for log, game in zip(logs, games)],
+                             names)
 
 
-def cross_table(rows):
+def is_whole(game):
+    """Whether both logs of a game are there."""
+    return len(game["of"]) == 2
+
+
+def outcome(game, name):
+    """What a game was to the engine of this name."""
+    if game["result"] not in POINTS:
+        return "open"
+    points = POINTS[game["result"]]
+    return {1: "won", 0.5: "drawn", 0: "lost"}[points if game["white"] == name else 1 - points]
+
+
+def cross_table(games):
     """The engines, and for two of them how often the first won, drew, lost, or had no result."""
     scores, names = {}, []
-    for one, two in pairs_in(rows):
-        engines = [row["summary"]["engine"] or row["log"] for row in (one, two)]
-        if engines[0] == engines[1]:
-            engines = [f"{name} ({row['log'].rpartition('/')[2]})" for name,
-                       row in zip(engines, (one, two))]
-        for name in engines:
+    for game in filter(is_whole, games):
+        for name, other in (game["engines"], game["engines"][::-1]):
             if name not in names:
                 names.append(name)
-        for mine, theirs, game in ((*engines, it) for it in one["summary"]["games"]):
-            result, black = result_in(game), game["side"] == "black"
-            for left, right, swapped in ((mine, theirs, black), (theirs, mine, not black)):
-                cell = scores.setdefault((left, right),
-                                         {"won": 0, "drawn": 0, "lost": 0, "open": 0})
-                points = None if result is None else POINTS[result]
-                points = 1 - points if swapped and points is not None else points
-                cell[{None: "open", 1: "won", 0.5: "drawn", 0: "lost"}[points]] += 1
+            cell = scores.setdefault((name, other), {"won": 0, "drawn": 0, "lost": 0, "open": 0})
+            cell[outcome(game, name)] += 1
     return {"engines": names,
             "cells": [[scores.get((left, right)) for right in names] for left in names]}

@@ -1,4 +1,4 @@
--- What the interface commands does not depend on when the engine speaks.
+-- The commands of the interface do not depend on when the engine speaks.
 use Rattle.std.proofs.Common.{◌≡◌, ℕ, List, [], ◌∷◌, ◌++◌, map, Bool, true, false, not, cond, ◌&&◌, ◌||◌, Option, Some, None, Result, Ok, Err, refl, sym, ap, ◌∙◌}
 use Rattle.std.proofs.lemmas.Bool.{or_parts, both_ways}
 use Rattle.line_io.specs.Event.{Event}
@@ -21,32 +21,32 @@ use Rattle.search_epochs.specs.Tickets.{is_move}
 use Rattle.desk_rules.specs.declared.effect.Refusal.{Refusal}
 use Rattle.desk_rules.specs.declared.effect.Refusal.TheVariants as refusals
 use Rattle.desk_rules.specs.declared.desk.Desk.{Desk}
-use Rattle.desk_rules.specs.Desk.{Situation, table, plays, has_ended, is_gone, is_boot, owes_move, owed_at, call_of, call_before}
+use Rattle.desk_rules.specs.Desk.{Situation, table, plays, has_ended, is_gone, is_boot, owes_move, owed_at, call_of_desk, call_before}
 use Rattle.desk_rules.specs.Early.{is_setting, may_wait}
-use Rattle.desk_rules.specs.Lines.{verdict, verdict_on, is_early, early_verdict, asks, or_else, where_true, refused_option, does_not_fit, refusal, change}
+use Rattle.desk_rules.specs.Lines.{line_verdict, verdict_on, is_early, early_verdict, asks, or_else, reason_where, refused_option, does_not_fit, refusal, change}
 use Rattle.desk_rules.specs.Steps.{Effect, Nothing, LongLine, Refuses, Accepts, Defers, Boots, Thinks, Shows, Dies, classify, line_effect, desk_after_effect, answers_pings, is_death}
-use Rattle.desk_rules.specs.Replies.{row, row_accepted, result_of, result_at, resign_where, offer_where, draw_row, hint_row, replies_of}
+use Rattle.desk_rules.specs.Replies.{reply_row, row_accepted, result_reply_of, result_at, resign_where, offer_where, draw_row, hint_row, replies_of}
 use Rattle.desk_rules.proofs.Firsts.{no_table}
 use Rattle.adapter_core.specs.Ends.{ends_after}
-use Rattle.adapter_core.specs.Trace.{State, Step, IsLawful, Lawful, state, state_after, situation, effect, owed_after, closed_after, desk_of, replies}
-use Rattle.adapter_core.specs.Alone.{Commanded, commanded_part, Alone, lone_situation, lone_effect, lone_owes, lone_after, lone_replies, alone, is_of_iface, iface_events, is_answer, is_overfull, tells_of_engine, IsWithoutSay, DeskIsAlone, IsApartFromEngine, RepliesAreAlone}
+use Rattle.adapter_core.specs.Trace.{State, Step, IsLawfulStep, LawfulTrace, state, trace_state_after, situation_of_state, effect, owed_after, closed_after, desk_of, step_replies}
+use Rattle.adapter_core.specs.Alone.{Commanded, commanded_part, Alone, lone_situation, lone_effect, lone_owes, lone_after, lone_replies, commanded_alone, is_of_iface, iface_events, is_move_answer, is_overfull, may_report_engine, IsWithoutSay, DeskIsAlone, IsApartFromEngine, RepliesAreAlone}
 use Rattle.adapter_core.proofs.Fresh.{calls_move, call_is}
 use Rattle.adapter_core.proofs.Traces.{Lasts, lasts, gone_is, owed_is}
 use Rattle.adapter_core.proofs.Commands.{alike_changed, setting_changes, plain_option, refused_by, option_refusal, fit_refusal, refusal_is, is_full_refusal, unfilled, lone_fits}
-use Rattle.adapter_core.proofs.Sides.{IsIfaceDeed, iface_effect, no_death, no_answer, no_hint, no_scores, still_unbooted, IsQuietDeed, quiet_desk, engine_effect, closed_same, closed_still, or_no, kept_pings, given_up, no_resigner, answered}
+use Rattle.adapter_core.proofs.Sides.{IsIfaceAction, iface_effect, no_death, no_answer, no_hint, no_scores, still_unbooted, IsQuietAction, quiet_desk, engine_effect, closed_same, closed_still, or_no, kept_pings, given_up, no_resigner, answered}
 
 -- TWO THAT STAND ALIKE
 
 -- the effects are equal, or each leaves the desk as it is and the reply tells of the engine
-abbrev IsIdleDeed : Effect → Type 0
-IsIdleDeed (Refuses r line) = Unit {0}
-IsIdleDeed (Accepts m) = is_setting m ≡ true
-IsIdleDeed (Defers line) = Unit {0}
-IsIdleDeed d = ⊥
+abbrev IsIdleAction : Effect → Type 0
+IsIdleAction (Refuses r line) = Unit {0}
+IsIdleAction (Accepts m) = is_setting m ≡ true
+IsIdleAction (Defers line) = Unit {0}
+IsIdleAction d = ⊥
 
 data Pair (d x : Effect) : Type 0 where
   Equal : d ≡ x → Pair d x
-  Idle : IsIdleDeed d → IsIdleDeed x → (tells_of_engine d ≡ false → ⊥) → Pair d x
+  Idle : IsIdleAction d → IsIdleAction x → (may_report_engine d ≡ false → ⊥) → Pair d x
 
 record Alike (o : Settings) (s : State) (a : Alone) : Type 0 where
   settings : s.settings ≡ o
@@ -57,33 +57,33 @@ record Alike (o : Settings) (s : State) (a : Alone) : Type 0 where
   lone_hint : a.desk.hint ≡ None
   unbooted : a.desk.booted ≡ false
 
-idle_judged : (m : IfaceMsg) (o : Option Refusal) (line : List ℕ) → is_setting m ≡ true → IsIdleDeed (line_effect (verdict_on m o) line)
+idle_judged : (m : IfaceMsg) (o : Option Refusal) (line : List ℕ) → is_setting m ≡ true → IsIdleAction (line_effect (verdict_on m o) line)
 idle_judged m None line p = p
 idle_judged m (Some r) line p = tt
 
-early_idle : (b w : Bool) (m : IfaceMsg) (o : Option Refusal) (line : List ℕ) → is_setting m ≡ true → IsIdleDeed (line_effect (cond b (early_verdict w) (verdict_on m o)) line)
+early_idle : (b w : Bool) (m : IfaceMsg) (o : Option Refusal) (line : List ℕ) → is_setting m ≡ true → IsIdleAction (line_effect (cond b (early_verdict w) (verdict_on m o)) line)
 early_idle true true m o line p = tt
 early_idle true false m o line p = tt
 early_idle false w m o line p = idle_judged m o line p
 
 -- what is deferred tells of the engine
-early_tells : (b w : Bool) (m : IfaceMsg) (o : Option Refusal) (line : List ℕ)
-    → (is_overfull (line_effect (verdict_on m o) line) ≡ false → tells_of_engine (line_effect (verdict_on m o) line) ≡ false → ⊥)
-    → is_overfull (line_effect (cond b (early_verdict w) (verdict_on m o)) line) ≡ false → tells_of_engine (line_effect (cond b (early_verdict w) (verdict_on m o)) line) ≡ false → ⊥
-early_tells true true m o line f n t = cc
-early_tells true false m o line f n t = cc
-early_tells false w m o line f n t = f n t
+early_reports : (b w : Bool) (m : IfaceMsg) (o : Option Refusal) (line : List ℕ)
+    → (is_overfull (line_effect (verdict_on m o) line) ≡ false → may_report_engine (line_effect (verdict_on m o) line) ≡ false → ⊥)
+    → is_overfull (line_effect (cond b (early_verdict w) (verdict_on m o)) line) ≡ false → may_report_engine (line_effect (cond b (early_verdict w) (verdict_on m o)) line) ≡ false → ⊥
+early_reports true true m o line f n t = cc
+early_reports true false m o line f n t = cc
+early_reports false w m o line f n t = f n t
 
 -- a line that sets no option is not early
 not_early : (h : Situation) (m : IfaceMsg) → is_setting m ≡ false → is_early h m ≡ false
 not_early h m p = ap (λ (b : Bool). b && is_boot h.engine && h.settings.early_settings) p
 
-tells_setting : (m : IfaceMsg) → is_setting m ≡ true → tells_of_engine (Accepts m) ≡ true
-tells_setting (says.SetOption name value) p = refl
-tells_setting (says.Memory n) p = refl
-tells_setting (says.Cores n) p = refl
-tells_setting (says.EgtPath kind path) p = refl
-tells_setting m p = cc
+reports_setting : (m : IfaceMsg) → is_setting m ≡ true → may_report_engine (Accepts m) ≡ true
+reports_setting (says.SetOption name value) p = refl
+reports_setting (says.Memory n) p = refl
+reports_setting (says.Cores n) p = refl
+reports_setting (says.EgtPath kind path) p = refl
+reports_setting m p = cc
 
 setting_refusal : (h : Situation) (held : List Order) (m : IfaceMsg) → is_setting m ≡ true → refusal h held m ≡ or_else (option_refusal h m) (or_else (fit_refusal h held m) None)
 unfolding refusal
@@ -93,12 +93,12 @@ setting_refusal h held (says.Cores n) p = refl
 setting_refusal h held (says.EgtPath kind path) p = refl
 setting_refusal h held m p = cc
 
-tells_judged : (m : IfaceMsg) (a : Result (Option Order) OptionFault) (b : Bool) (line : List ℕ) → is_setting m ≡ true
-    → (let d = line_effect (verdict_on m (or_else (refused_option a) (or_else (where_true b reasons.TooManySettings) None))) line in is_overfull d ≡ false → tells_of_engine d ≡ false → ⊥)
-tells_judged m (Err UnknownOption) b line p n t = cc
-tells_judged m (Err BadValue) b line p n t = cc
-tells_judged m (Ok order) true line p n t = cc
-tells_judged m (Ok order) false line p n t = both_ways (tells_of_engine (Accepts m)) t (tells_setting m p)
+reports_judged : (m : IfaceMsg) (a : Result (Option Order) OptionFault) (b : Bool) (line : List ℕ) → is_setting m ≡ true
+    → (let d = line_effect (verdict_on m (or_else (refused_option a) (or_else (reason_where b reasons.TooManySettings) None))) line in is_overfull d ≡ false → may_report_engine d ≡ false → ⊥)
+reports_judged m (Err UnknownOption) b line p n t = cc
+reports_judged m (Err BadValue) b line p n t = cc
+reports_judged m (Ok order) true line p n t = cc
+reports_judged m (Ok order) false line p n t = both_ways (may_report_engine (Accepts m)) t (reports_setting m p)
 
 full_effect : (m : IfaceMsg) (r : Option Refusal) (line : List ℕ) → is_overfull (line_effect (verdict_on m r) line) ≡ false → is_full_refusal r ≡ false
 full_effect m None line n = refl
@@ -115,7 +115,7 @@ owed_unspent : (b : Bool) (c : _) → (b ≡ true → is_move c ≡ false) → i
 owed_unspent true c f = sym (f refl)
 owed_unspent false c f = refl
 
-idle_desk : (h : Situation) (d : Effect) → IsIdleDeed d → commanded_part (desk_after_effect h d) ≡ commanded_part h.desk
+idle_desk : (h : Situation) (d : Effect) → IsIdleAction d → commanded_part (desk_after_effect h d) ≡ commanded_part h.desk
 unfolding desk_after_effect
 idle_desk h (Refuses r line) i = refl
 idle_desk h (Defers line) i = refl
@@ -124,7 +124,7 @@ idle_desk h d i = absurd i
 
 -- THE CALL FOR A MOVE
 
-calls_alike : (closed closed' gone gone' : Bool) (d d' : Desk) → closed ≡ closed' → gone ≡ gone' → commanded_part d ≡ commanded_part d' → is_move (call_of closed gone d) ≡ is_move (call_of closed' gone' d')
+calls_alike : (closed closed' gone gone' : Bool) (d d' : Desk) → closed ≡ closed' → gone ≡ gone' → commanded_part d ≡ commanded_part d' → is_move (call_of_desk closed gone d) ≡ is_move (call_of_desk closed' gone' d')
 calls_alike closed closed' gone gone' d d' c g e =
     call_is closed gone d
     ∙ ap (λ (b : Bool). calls_move b gone d.game d.mode) c
@@ -144,9 +144,9 @@ refused_alike o o' gone gone' owes owes' d d' option option' fit fit' m s g w e 
     ∙ ap (λ (r : Option Refusal). refused_by o' gone' d'.game d'.mode d'.pings owes' r fit m) p
     ∙ ap (λ (r : Option Refusal). refused_by o' gone' d'.game d'.mode d'.pings owes' option' r m) f
 
-module _ (o : Settings) (s : State) (a : Alone) (holds : Lasts s) (alike : Alike o s a) (there : is_gone (situation s).engine ≡ false) where
+module _ (o : Settings) (s : State) (a : Alone) (holds : Lasts s) (alike : Alike o s a) (there : is_gone (situation_of_state s).engine ≡ false) where
   abbrev h : Situation
-  h = situation s
+  h = situation_of_state s
 
   abbrev g : Situation
   g = lone_situation o a
@@ -166,7 +166,7 @@ module _ (o : Settings) (s : State) (a : Alone) (holds : Lasts s) (alike : Alike
       ∙ unfilled s.settings (is_gone h.engine) h.desk.game h.desk.mode h.desk.pings (owes_move h) (option_refusal h m) unfit m n'
       ∙ refused_alike s.settings o (is_gone h.engine) false (owes_move h) (owes_move g) s.desk a.desk (option_refusal h m) (option_refusal g m) None (fit_refusal g [] m) m alike.settings there owes_alike alike.parts
       (plain_option (table h.desk) m p ∙ sym (plain_option (table g.desk) m p))
-      (ap (λ (b : Bool). where_true b reasons.TooManySettings) (sym (lone_fits a.desk m (no_table a.desk.booted a.desk.options alike.unbooted) p)))
+      (ap (λ (b : Bool). reason_where b reasons.TooManySettings) (sym (lone_fits a.desk m (no_table a.desk.booted a.desk.options alike.unbooted) p)))
       ∙ sym (refusal_is g [] m)
 
   -- the verdict on a message, by whether it is early
@@ -187,12 +187,12 @@ module _ (o : Settings) (s : State) (a : Alone) (holds : Lasts s) (alike : Alike
   judged_pair m line true p n =
       let r = setting_refusal h held m p in
       Idle (early_idle (is_early h m) (may_wait h.desk.early line) m (refusal h held m) line p) (early_idle (is_early g m) (may_wait g.desk.early line) m (refusal g [] m) line p)
-      (early_tells (is_early h m) (may_wait h.desk.early line) m (refusal h held m) line
-      (λ f t. tells_judged m (asked (table h.desk) m) (does_not_fit held (asks (is_gone h.engine) h.desk m)) line p
-      (ap (λ (x : Option Refusal). is_overfull (line_effect (verdict_on m x) line)) (sym r) ∙ f) (ap (λ (x : Option Refusal). tells_of_engine (line_effect (verdict_on m x) line)) (sym r) ∙ t)) n)
+      (early_reports (is_early h m) (may_wait h.desk.early line) m (refusal h held m) line
+      (λ f t. reports_judged m (asked (table h.desk) m) (does_not_fit held (asks (is_gone h.engine) h.desk m)) line p
+      (ap (λ (x : Option Refusal). is_overfull (line_effect (verdict_on m x) line)) (sym r) ∙ f) (ap (λ (x : Option Refusal). may_report_engine (line_effect (verdict_on m x) line)) (sym r) ∙ t)) n)
 
-  line_pair : (line : List ℕ) (r : Result IfaceMsg IfaceFault) → is_overfull (line_effect (verdict h held line r) line) ≡ false → Pair (line_effect (verdict h held line r) line) (line_effect (verdict g [] line r) line)
-  unfolding verdict
+  line_pair : (line : List ℕ) (r : Result IfaceMsg IfaceFault) → is_overfull (line_effect (line_verdict h held line r) line) ≡ false → Pair (line_effect (line_verdict h held line r) line) (line_effect (line_verdict g [] line r) line)
+  unfolding line_verdict
   line_pair line (Err faults.UnknownCommand) n = Equal refl
   line_pair line (Err faults.BadArgument) n = Equal refl
   line_pair line (Ok m) n = judged_pair m line (is_setting m) refl n
@@ -207,7 +207,7 @@ module _ (o : Settings) (s : State) (a : Alone) (holds : Lasts s) (alike : Alike
 
   -- THE DESK AFTER A DEED
 
-  alike_effect : (d : Effect) → IsIfaceDeed d → commanded_part (desk_after_effect h d) ≡ commanded_part (desk_after_effect g d)
+  alike_effect : (d : Effect) → IsIfaceAction d → commanded_part (desk_after_effect h d) ≡ commanded_part (desk_after_effect g d)
   unfolding desk_after_effect
   alike_effect (Accepts m) i = alike_changed (is_boot h.engine) false s.desk a.desk m alike.parts
   alike_effect Nothing i = alike.parts
@@ -216,14 +216,14 @@ module _ (o : Settings) (s : State) (a : Alone) (holds : Lasts s) (alike : Alike
   alike_effect (Defers line) i = alike.parts
   alike_effect d i = absurd i
 
-  pair_desk : (d x : Effect) → IsIfaceDeed d → Pair d x → commanded_part (desk_after_effect h d) ≡ commanded_part (desk_after_effect g x)
+  pair_desk : (d x : Effect) → IsIfaceAction d → Pair d x → commanded_part (desk_after_effect h d) ≡ commanded_part (desk_after_effect g x)
   pair_desk d x i (Equal q) = alike_effect d i ∙ ap (λ (y : Effect). commanded_part (desk_after_effect g y)) q
   pair_desk d x i (Idle p q n) = idle_desk h d p ∙ alike.parts ∙ sym (idle_desk g x q)
 
   -- A ROW ALIKE
 
   result_alike : (m : IfaceMsg) → result_at (change false h.desk m) ≡ result_at (change false g.desk m)
-  result_alike m = ap (λ (c : Commanded). cond (plays c.mode) (result_of c.game) []) (alike_changed false false s.desk a.desk m alike.parts)
+  result_alike m = ap (λ (c : Commanded). cond (plays c.mode) (result_reply_of c.game) []) (alike_changed false false s.desk a.desk m alike.parts)
 
   offer_alike : draw_row h ≡ draw_row g
   offer_alike =
@@ -231,7 +231,7 @@ module _ (o : Settings) (s : State) (a : Alone) (holds : Lasts s) (alike : Alike
       ∙ ap (λ (x : Settings). offer_where (x.handle_draws && plays a.desk.mode && not (has_ended a.desk.game) && does_accept x s.scores)) alike.settings
       ∙ ap (λ (xs : List Score). offer_where (o.handle_draws && plays a.desk.mode && not (has_ended a.desk.game) && does_accept o xs)) alike.scores
 
-  accepted_alike : (m : IfaceMsg) → tells_of_engine (Accepts m) ≡ false → row_accepted h m ≡ row_accepted g m
+  accepted_alike : (m : IfaceMsg) → may_report_engine (Accepts m) ≡ false → row_accepted h m ≡ row_accepted g m
   unfolding row_accepted
   accepted_alike (says.Protover n) t = cc
   accepted_alike says.Dot t = cc
@@ -242,8 +242,8 @@ module _ (o : Settings) (s : State) (a : Alone) (holds : Lasts s) (alike : Alike
   accepted_alike says.Hint t = ap hint_row (alike.hint ∙ sym alike.lone_hint)
   accepted_alike m t = refl
 
-  row_alike : (d : Effect) → IsIfaceDeed d → tells_of_engine d ≡ false → row h d ≡ row g d
-  unfolding row
+  row_alike : (d : Effect) → IsIfaceAction d → may_report_engine d ≡ false → reply_row h d ≡ reply_row g d
+  unfolding reply_row
   row_alike (Accepts m) i t = accepted_alike m t
   row_alike Boots i t = absurd i
   row_alike (Thinks k facts) i t = absurd i
@@ -253,7 +253,7 @@ module _ (o : Settings) (s : State) (a : Alone) (holds : Lasts s) (alike : Alike
 
   -- THROUGH A STEP
 
-  module _ (step : Step) (l : IsLawful s step) where
+  module _ (step : Step) (l : IsLawfulStep s step) where
     abbrev e : Event
     e = step.event
 
@@ -273,10 +273,10 @@ module _ (o : Settings) (s : State) (a : Alone) (holds : Lasts s) (alike : Alike
     closed_alike = closed_same s.ends a.ends e alike.closed
 
     module _ (i : is_of_iface e ≡ true) (p : Pair d x) where
-      of_iface : IsIfaceDeed d
+      of_iface : IsIfaceAction d
       of_iface = iface_effect h held e i
 
-      of_lone : IsIfaceDeed x
+      of_lone : IsIfaceAction x
       of_lone = iface_effect g [] e i
 
       desk_alike : commanded_part (desk_after_effect h d) ≡ commanded_part (desk_after_effect g x)
@@ -294,14 +294,14 @@ module _ (o : Settings) (s : State) (a : Alone) (holds : Lasts s) (alike : Alike
       iface_parts : commanded_part (desk_of s e) ≡ commanded_part (lone_after o a e).desk
       iface_parts =
           ap (λ (b : Bool). answered (answers_pings (closed_after s e) owes) (given_up b (commanded_part (desk_after_effect h d))))
-          (no_resigner s.settings.resign_when_gone (is_gone h.engine || is_death d) (is_move (call_of (closed_after s e) false (desk_after_effect h d))) still_here)
+          (no_resigner s.settings.resign_when_gone (is_gone h.engine || is_death d) (is_move (call_of_desk (closed_after s e) false (desk_after_effect h d))) still_here)
           ∙ ap (answered (answers_pings (closed_after s e) owes)) desk_alike
           ∙ ap (λ (b : Bool). answered (answers_pings b owes) (commanded_part (desk_after_effect g x))) closed_alike
           ∙ ap (λ (b : Bool). answered (answers_pings closed_then b) (commanded_part (desk_after_effect g x))) owed_alike
           ∙ sym (ap (λ (b : Bool). answered (answers_pings closed_then (lone_owes o a e)) (given_up b (commanded_part (desk_after_effect g x))))
-          (no_resigner o.resign_when_gone (is_death x) (is_move (call_of closed_then false (desk_after_effect g x))) (no_death x of_lone)))
+          (no_resigner o.resign_when_gone (is_death x) (is_move (call_of_desk closed_then false (desk_after_effect g x))) (no_death x of_lone)))
 
-      iface_alike : Alike o (state_after s step) (lone_after o a e)
+      iface_alike : Alike o (trace_state_after s step) (lone_after o a e)
       iface_alike = record {
         settings = alike.settings;
         parts = iface_parts;
@@ -312,24 +312,24 @@ module _ (o : Settings) (s : State) (a : Alone) (holds : Lasts s) (alike : Alike
         unbooted = still_unbooted g x of_lone alike.unbooted;
       }
 
-      equal_replies : d ≡ x → tells_of_engine d ≡ false → replies s e ≡ lone_replies o a e
+      equal_replies : d ≡ x → may_report_engine d ≡ false → step_replies s e ≡ lone_replies o a e
       equal_replies q t =
           ap (λ (b : Bool). replies_of b owes h d) closed_alike
           ∙ ap (λ (b : Bool). replies_of closed_then b h d) owed_alike
-          ∙ ap (λ (b : Bool). cond closed_then [] (row h d ++ resign_where b ++ cond (lone_owes o a e) [] (map reply.Pong (desk_after_effect h d).pings)))
-          (no_resigner s.settings.resign_when_gone (is_gone h.engine || is_death d) (is_move (call_of closed_then false (desk_after_effect h d))) still_here)
+          ∙ ap (λ (b : Bool). cond closed_then [] (reply_row h d ++ resign_where b ++ cond (lone_owes o a e) [] (map reply.Pong (desk_after_effect h d).pings)))
+          (no_resigner s.settings.resign_when_gone (is_gone h.engine || is_death d) (is_move (call_of_desk closed_then false (desk_after_effect h d))) still_here)
           ∙ ap (λ (rows : List Reply). cond closed_then [] (rows ++ [] ++ cond (lone_owes o a e) [] (map reply.Pong (desk_after_effect h d).pings))) (row_alike d of_iface t)
-          ∙ ap (λ (c : Commanded). cond closed_then [] (row g d ++ [] ++ cond (lone_owes o a e) [] (map reply.Pong c.pings))) (alike_effect d of_iface)
-          ∙ sym (ap (λ (b : Bool). cond closed_then [] (row g d ++ resign_where b ++ cond (lone_owes o a e) [] (map reply.Pong (desk_after_effect g d).pings)))
-          (no_resigner o.resign_when_gone (is_death d) (is_move (call_of closed_then false (desk_after_effect g d))) (no_death d of_iface)))
+          ∙ ap (λ (c : Commanded). cond closed_then [] (reply_row g d ++ [] ++ cond (lone_owes o a e) [] (map reply.Pong c.pings))) (alike_effect d of_iface)
+          ∙ sym (ap (λ (b : Bool). cond closed_then [] (reply_row g d ++ resign_where b ++ cond (lone_owes o a e) [] (map reply.Pong (desk_after_effect g d).pings)))
+          (no_resigner o.resign_when_gone (is_death d) (is_move (call_of_desk closed_then false (desk_after_effect g d))) (no_death d of_iface)))
           ∙ ap (λ (y : Effect). replies_of closed_then (lone_owes o a e) g y) q
 
-    iface_replies : is_of_iface e ≡ true → Pair d x → tells_of_engine d ≡ false → replies s e ≡ lone_replies o a e
+    iface_replies : is_of_iface e ≡ true → Pair d x → may_report_engine d ≡ false → step_replies s e ≡ lone_replies o a e
     iface_replies i (Equal q) t = equal_replies i (Equal q) q t
     iface_replies i (Idle p q n) t = absurd (n t)
 
-    module _ (i : is_of_iface e ≡ false) (n : is_answer d ≡ false) (m : is_death d ≡ false) where
-      quiet : IsQuietDeed d
+    module _ (i : is_of_iface e ≡ false) (n : is_move_answer d ≡ false) (m : is_death d ≡ false) where
+      quiet : IsQuietAction d
       quiet = engine_effect h held e i n m
 
       quiet_before : closed_after s e ≡ false → owes ≡ false → s.desk.pings ≡ []
@@ -342,11 +342,11 @@ module _ (o : Settings) (s : State) (a : Alone) (holds : Lasts s) (alike : Alike
       engine_parts : commanded_part (desk_of s e) ≡ commanded_part s.desk
       engine_parts =
           ap (λ (b : Bool). answered (answers_pings (closed_after s e) owes) (given_up b (commanded_part (desk_after_effect h d))))
-          (no_resigner s.settings.resign_when_gone (is_gone h.engine || is_death d) (is_move (call_of (closed_after s e) false (desk_after_effect h d))) (or_no (is_gone h.engine) (is_death d) m ∙ there))
+          (no_resigner s.settings.resign_when_gone (is_gone h.engine || is_death d) (is_move (call_of_desk (closed_after s e) false (desk_after_effect h d))) (or_no (is_gone h.engine) (is_death d) m ∙ there))
           ∙ ap (answered (answers_pings (closed_after s e) owes)) (quiet_desk h d quiet)
           ∙ ap (λ (ps : List ℕ). let c : Commanded = record (commanded_part s.desk) { pings = ps } in c) (kept_pings (closed_after s e) owes s.desk.pings quiet_before)
 
-      engine_alike : Alike o (state_after s step) a
+      engine_alike : Alike o (trace_state_after s step) a
       engine_alike = record {
         settings = alike.settings;
         parts = engine_parts ∙ alike.parts;
@@ -360,38 +360,38 @@ module _ (o : Settings) (s : State) (a : Alone) (holds : Lasts s) (alike : Alike
 -- WHOLE TRACES
 
 -- the engine was there before the step, and did not end in it
-still_there : (o : Settings) (step : Step) (t : List Step) → Lawful o (step ∷ t) → is_gone (situation (state o (step ∷ t))).engine ≡ false
-    → (is_gone (situation (state o t)).engine ≡ false) × (is_death (effect (state o t) step.event) ≡ false)
+still_there : (o : Settings) (step : Step) (t : List Step) → LawfulTrace o (step ∷ t) → is_gone (situation_of_state (state o (step ∷ t))).engine ≡ false
+    → (is_gone (situation_of_state (state o t)).engine ≡ false) × (is_death (effect (state o t) step.event) ≡ false)
 still_there o step t l g =
     let s = state o t in
-    or_parts (is_gone (situation s).engine) (is_death (effect s step.event)) (sym (gone_is s step (lasts o t l.0) l.1) ∙ g)
+    or_parts (is_gone (situation_of_state s).engine) (is_death (effect s step.event)) (sym (gone_is s step (lasts o t l.0) l.1) ∙ g)
 
-before : (o : Settings) (step : Step) (t : List Step) → Lawful o (step ∷ t) → IsWithoutSay o (step ∷ t) → IsWithoutSay o t
+before : (o : Settings) (step : Step) (t : List Step) → LawfulTrace o (step ∷ t) → IsWithoutSay o (step ∷ t) → IsWithoutSay o t
 before o step t l w = record { unanswered = w.unanswered.0; there = (still_there o step t l w.there).0 }
 
-all_alike : (o : Settings) (t : List Step) → Lawful o t → IsWithoutSay o t → Alike o (state o t) (alone o (iface_events t))
+all_alike : (o : Settings) (t : List Step) → LawfulTrace o t → IsWithoutSay o t → Alike o (state o t) (commanded_alone o (iface_events t))
 all_alike o [] l w = record { settings = refl; parts = refl; closed = refl; hint = refl; scores = refl; lone_hint = refl; unbooted = refl }
 all_alike o (step ∷ t) l w = by_side (all_alike o t l.0 (before o step t l w)) (is_of_iface step.event) refl where
-  by_side : Alike o (state o t) (alone o (iface_events t)) → (b : Bool) → is_of_iface step.event ≡ b → Alike o (state o (step ∷ t)) (alone o (cond b (step.event ∷ iface_events t) (iface_events t)))
+  by_side : Alike o (state o t) (commanded_alone o (iface_events t)) → (b : Bool) → is_of_iface step.event ≡ b → Alike o (state o (step ∷ t)) (commanded_alone o (cond b (step.event ∷ iface_events t) (iface_events t)))
   by_side a true i =
       let s = state o t in
       let holds = lasts o t l.0 in
       let there = (still_there o step t l w.there).0 in
-      iface_alike o s (alone o (iface_events t)) holds a there step l.1 i (event_pair o s (alone o (iface_events t)) holds a there step.event i w.unanswered.2)
+      iface_alike o s (commanded_alone o (iface_events t)) holds a there step l.1 i (event_pair o s (commanded_alone o (iface_events t)) holds a there step.event i w.unanswered.2)
   by_side a false i =
       let still = still_there o step t l w.there in
-      engine_alike o (state o t) (alone o (iface_events t)) (lasts o t l.0) a still.0 step l.1 i w.unanswered.1 still.1
+      engine_alike o (state o t) (commanded_alone o (iface_events t)) (lasts o t l.0) a still.0 step l.1 i w.unanswered.1 still.1
 
 pub desk_is_alone : (o : Settings) → DeskIsAlone o
 desk_is_alone o t l w = (all_alike o t l w).parts
 
 pub apart_from_engine : (o : Settings) → IsApartFromEngine o
-apart_from_engine o t t' l l' w w' e = desk_is_alone o t l w ∙ ap (λ (es : List Event). commanded_part (alone o es).desk) e ∙ sym (desk_is_alone o t' l' w')
+apart_from_engine o t t' l l' w w' e = desk_is_alone o t l w ∙ ap (λ (es : List Event). commanded_part (commanded_alone o es).desk) e ∙ sym (desk_is_alone o t' l' w')
 
 pub replies_are_alone : (o : Settings) → RepliesAreAlone o
 replies_are_alone o step t l w i n =
     let s = state o t in
-    let a = alone o (iface_events t) in
+    let a = commanded_alone o (iface_events t) in
     let holds = lasts o t l.0 in
     let there = (still_there o step t l w.there).0 in
     let alike = all_alike o t l.0 (before o step t l w) in

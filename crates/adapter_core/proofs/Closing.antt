@@ -1,5 +1,5 @@
--- How sessions open and close.
-use Rattle.std.proofs.Common.{◌≡◌, ℕ, List, Bool, true, false, not, cond, ◌&&◌, ◌||◌, Option, Some, None, Result, Ok, Err, refl, ◌∙◌}
+-- The opening and the closing of sessions.
+use Rattle.std.proofs.Common.{sym, ◌≡◌, ℕ, List, Bool, true, false, not, cond, ◌&&◌, ◌||◌, Option, Some, None, Result, Ok, Err, refl, ◌∙◌}
 use Rattle.std.proofs.lemmas.Bool.{or_left, and_parts}
 use Rattle.line_io.specs.Event.{Event, is_line}
 use Rattle.line_io.specs.Event as events
@@ -12,12 +12,14 @@ use Rattle.uci_lines.specs.Orders.{Order}
 use Rattle.uci_lines.specs.Engine.{engine_message}
 use Rattle.desk_rules.specs.declared.effect.Refusal.{Refusal}
 use Rattle.desk_rules.specs.Desk.{Situation, is_gone}
-use Rattle.desk_rules.specs.Lines.{verdict, verdict_on, refusal, is_epoch_line}
+use Rattle.desk_rules.specs.Lines.{line_verdict, verdict_on, refusal, is_epoch_line}
 use Rattle.desk_rules.specs.Steps.{Effect, Nothing, LongLine, Accepts, Boots, Dies, classify, line_effect, engine_says, begins_epoch}
 use Rattle.desk_rules.specs.Fits.{IsLineEvent}
 use Rattle.adapter_core.specs.declared.ends.Ends.{Ends}
 use Rattle.adapter_core.specs.Ends.{may, ends_after, is_open}
-use Rattle.cecp_lines.specs.Quit.{is_quit, is_quit_message}
+use Rattle.peer_words.specs.Quit.{is_quit}
+use Rattle.cecp_lines.specs.Quit.{is_quit_message}
+use Rattle.cecp_lines.proofs.Quits.{quit_first}
 
 pub opened_before : (a b : Bool) (c : Bool) → (a && b && c) ≡ true → a ≡ true
 opened_before true b c e = refl
@@ -69,15 +71,15 @@ unfolding is_epoch_line
 quit_rises h line None = refl
 quit_rises h line (Some r) = refl
 
-line_rises : (h : Situation) (held : List Order) (line : List ℕ) (r : Result IfaceMsg IfaceFault) → is_quit_message r ≡ true → begins_epoch h (line_effect (verdict h held line r) line) ≡ false
-unfolding verdict
+line_rises : (h : Situation) (held : List Order) (line : List ℕ) (r : Result IfaceMsg IfaceFault) → is_quit_message r ≡ true → begins_epoch h (line_effect (line_verdict h held line r) line) ≡ false
+unfolding line_verdict
 line_rises h held line (Err faults.UnknownCommand) q = cc
 line_rises h held line (Err faults.BadArgument) q = cc
 line_rises h held line (Ok says.Quit) q = quit_rises h line (refusal h held says.Quit)
 line_rises h held line (Ok m) q = cc
 
 either_rises : (h : Situation) (held : List Order) (b q : Bool) (line : List ℕ) (r : Result IfaceMsg IfaceFault) → is_quit_message r ≡ q → (b || q) ≡ true
-    → begins_epoch h (cond b Nothing (line_effect (verdict h held line r) line)) ≡ false
+    → begins_epoch h (cond b Nothing (line_effect (line_verdict h held line r) line)) ≡ false
 either_rises h held true q line r e c = refl
 either_rises h held false true line r e c = line_rises h held line r e
 either_rises h held false false line r e c = cc
@@ -88,7 +90,7 @@ dead_rises h false = refl
 
 pub closed_rises : (ends : Ends) (h : Situation) (held : List Order) (e : Event) → h.closed ≡ ends.closed → (ends_after ends e).closed ≡ true → begins_epoch h (classify h held e) ≡ false
 unfolding classify
-closed_rises ends h held (events.Iface line) same c = either_rises h held h.closed (is_quit line) line (message_or_fault line) refl (rw same c)
+closed_rises ends h held (events.Iface line) same c = either_rises h held h.closed (is_quit line) line (message_or_fault line) (sym (quit_first line)) (rw same c)
 closed_rises ends h held events.IfaceLong same c = nothing_rises h h.closed LongLine (same ∙ c)
 closed_rises ends h held (events.Engine line) same c = nothing_rises h h.closed (engine_says h (engine_message line)) (same ∙ c)
 closed_rises ends h held events.EngineEnd same c = dead_rises h (is_gone h.engine)
@@ -114,8 +116,8 @@ quit_closes : (line : List ℕ) (r : Option Refusal) → Closes (line_effect (ve
 quit_closes line None = tt
 quit_closes line (Some r) = tt
 
-line_closes : (h : Situation) (held : List Order) (line : List ℕ) (r : Result IfaceMsg IfaceFault) → is_quit_message r ≡ true → Closes (line_effect (verdict h held line r) line)
-unfolding verdict
+line_closes : (h : Situation) (held : List Order) (line : List ℕ) (r : Result IfaceMsg IfaceFault) → is_quit_message r ≡ true → Closes (line_effect (line_verdict h held line r) line)
+unfolding line_verdict
 line_closes h held line (Err faults.UnknownCommand) q = cc
 line_closes h held line (Err faults.BadArgument) q = cc
 line_closes h held line (Ok says.Quit) q = quit_closes line (refusal h held says.Quit)
@@ -125,7 +127,7 @@ cond_closes : (b : Bool) (d : Effect) → b ≡ true → Closes (cond b Nothing 
 cond_closes true d e = tt
 cond_closes false d e = cc
 
-either_closes : (h : Situation) (held : List Order) (b q : Bool) (line : List ℕ) (r : Result IfaceMsg IfaceFault) → is_quit_message r ≡ q → (b || q) ≡ true → Closes (cond b Nothing (line_effect (verdict h held line r) line))
+either_closes : (h : Situation) (held : List Order) (b q : Bool) (line : List ℕ) (r : Result IfaceMsg IfaceFault) → is_quit_message r ≡ q → (b || q) ≡ true → Closes (cond b Nothing (line_effect (line_verdict h held line r) line))
 either_closes h held true q line r e c = tt
 either_closes h held false true line r e c = line_closes h held line r e
 either_closes h held false false line r e c = cc
@@ -136,7 +138,7 @@ dead_closes false = tt
 
 pub closing : (ends : Ends) (h : Situation) (held : List Order) (e : Event) → h.closed ≡ ends.closed → (ends_after ends e).closed ≡ true → Closes (classify h held e)
 unfolding classify
-closing ends h held (events.Iface line) same c = either_closes h held h.closed (is_quit line) line (message_or_fault line) refl (rw same c)
+closing ends h held (events.Iface line) same c = either_closes h held h.closed (is_quit line) line (message_or_fault line) (sym (quit_first line)) (rw same c)
 closing ends h held events.IfaceLong same c = cond_closes h.closed LongLine (same ∙ c)
 closing ends h held (events.Engine line) same c = cond_closes h.closed (engine_says h (engine_message line)) (same ∙ c)
 closing ends h held events.EngineEnd same c = dead_closes (is_gone h.engine)

@@ -12,7 +12,7 @@ use Rattle.search_epochs.specs.Dialogue.{after_what, mid_dialogue, stale_state, 
 use Rattle.desk_rules.specs.Desk.{Situation}
 use Rattle.desk_rules.specs.Steps.{Effect, Boots, what_of, desk_after_effect}
 use Rattle.desk_rules.specs.Orders.{orders_waiting}
-use Rattle.desk_rules.specs.Fits.{IsFirst}
+use Rattle.desk_rules.specs.Fits.{OnlyNewGameIsHeld}
 use Rattle.desk_rules.proofs.Firsts.{IsBoots, orders_first, effect_booted}
 
 -- BOOT IS NEVER ENTERED AGAIN
@@ -74,13 +74,13 @@ was_settled e chosen.Hit x = cc
 was_settled (states.Search k stale s) chosen.Stop x = cc
 was_settled e o x = x
 
-batch_first : (b : Bool) (ls : List Order) → IsFirst ls → IsFirst (cond b [] ls)
+batch_first : (b : Bool) (ls : List Order) → OnlyNewGameIsHeld ls → OnlyNewGameIsHeld (cond b [] ls)
 batch_first true ls f = inl refl
 batch_first false ls f = f
 
 -- what is held after the step, and whether options count, where the engine is in Boot then
-pub first_after : (h : Situation) (held : List Order) (d : Effect) (v : dialogues.Dialogue) (r b : Bool) (o : Orders) → (v.state ≡ states.Boot → IsFirst held × (h.desk.booted ≡ false))
-    → settled_state (mid_dialogue v (what_of d) r).state o ≡ states.Boot → IsFirst (cond b [] (orders_waiting h held d)) × ((desk_after_effect h d).booted ≡ false)
+pub first_after : (h : Situation) (held : List Order) (d : Effect) (v : dialogues.Dialogue) (r b : Bool) (o : Orders) → (v.state ≡ states.Boot → OnlyNewGameIsHeld held × (h.desk.booted ≡ false))
+    → settled_state (mid_dialogue v (what_of d) r).state o ≡ states.Boot → OnlyNewGameIsHeld (cond b [] (orders_waiting h held d)) × ((desk_after_effect h d).booted ≡ false)
 first_after h held d v r b o f x =
     let said = risen v d r (was_settled (mid_dialogue v (what_of d) r).state o x) in
     let none = no_boots v d said in

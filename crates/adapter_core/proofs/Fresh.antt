@@ -1,4 +1,4 @@
--- Whether a Move is called for rests on the game and the mode alone.
+-- The call for a Move rests on the game and the mode alone.
 use Rattle.std.proofs.Common.{◌≡◌, [], Bool, true, false, not, cond, ◌&&◌, ◌||◌, Option, Some, None, refl, sym, ap, ◌∙◌}
 use Rattle.std.specs.Option.{is_some}
 use mathlib.Core.Bool.{and-false}
@@ -7,7 +7,7 @@ use Rattle.chess_board.specs.Board.{same_side}
 use Rattle.cecp_lines.specs.Messages.{IfaceMsg}
 use Rattle.cecp_lines.specs.Messages as says
 use Rattle.option_map.specs.Shown.{check_named}
-use Rattle.game_record.specs.Game.{Game, now_of}
+use Rattle.game_record.specs.Game.{Game, current_position}
 use Rattle.game_record.specs.Ending.{has_legal}
 use Rattle.search_epochs.specs.declared.words.Call.{Call}
 use Rattle.search_epochs.specs.declared.words.Call.TheVariants as calls
@@ -15,7 +15,7 @@ use Rattle.search_epochs.specs.Tickets.{is_move}
 use Rattle.desk_rules.specs.declared.mode.Mode.{Mode}
 use Rattle.desk_rules.specs.declared.mode.Mode.TheVariants as modes
 use Rattle.desk_rules.specs.declared.desk.Desk.{Desk}
-use Rattle.desk_rules.specs.Desk.{Situation, call_of, call_in, call_for_hint, call_while_waiting, call_before, has_ended, on_move, played, is_gone, is_boot, is_full, owes_move, table, ponder_name}
+use Rattle.desk_rules.specs.Desk.{Situation, call_of_desk, call_in, call_for_hint, call_while_waiting, call_before, has_ended, on_move, game_played, is_gone, is_boot, is_full, owes_move, table, ponder_name}
 use Rattle.desk_rules.specs.Lines.{asks, change, is_epoch_line}
 use Rattle.desk_rules.specs.Steps.{Effect, Accepts, Shows, Forfeits, Dies, desk_after_effect, begins_epoch, call_after, is_death, over_where, resigns_at_end}
 
@@ -33,7 +33,7 @@ hint_not false g = refl
 
 for_hint_not : (g : Game) (o : Option Move) → is_move (call_for_hint g o) ≡ false
 for_hint_not g None = refl
-for_hint_not g (Some h) = hint_not (has_ended (played g h)) h
+for_hint_not g (Some h) = hint_not (has_ended (game_played g h)) h
 
 wait_not : (b : Bool) (d : Desk) → is_move (cond b (call_for_hint d.game d.hint) calls.Nothing) ≡ false
 wait_not true d = for_hint_not d.game d.hint
@@ -51,24 +51,24 @@ analyses_not false = refl
 in_is : (d : Desk) (m : Mode) → is_move (call_in d m) ≡ plays_now d.game m
 in_is d modes.Force = refl
 in_is d modes.Over = refl
-in_is d modes.Analyse = analyses_not (has_legal (now_of d.game))
+in_is d modes.Analyse = analyses_not (has_legal (current_position d.game))
 in_is d (modes.Plays s) = mine (has_ended d.game) (same_side s (on_move d.game)) (call_while_waiting d) (wait_not (d.pondering && is_some (check_named ponder_name (table d))) d)
 
 out_is : (b : Bool) (c : Call) (p : Bool) → is_move c ≡ p → is_move (cond b calls.Nothing c) ≡ (not b && p)
 out_is true c p e = refl
 out_is false c p e = e
 
-pub call_is : (closed gone : Bool) (d : Desk) → is_move (call_of closed gone d) ≡ calls_move closed gone d.game d.mode
-unfolding call_of
+pub call_is : (closed gone : Bool) (d : Desk) → is_move (call_of_desk closed gone d) ≡ calls_move closed gone d.game d.mode
+unfolding call_of_desk
 call_is closed gone d = out_is (closed || gone || is_full d.game) (call_in d d.mode) (plays_now d.game d.mode) (in_is d d.mode)
 
 -- in a closed session none is called for
-pub closed_calls : (closed gone : Bool) (d : Desk) → closed ≡ true → is_move (call_of closed gone d) ≡ false
+pub closed_calls : (closed gone : Bool) (d : Desk) → closed ≡ true → is_move (call_of_desk closed gone d) ≡ false
 closed_calls true gone d e = call_is true gone d
 closed_calls false gone d e = cc
 
 -- nor where the game is over
-pub over_calls : (closed gone : Bool) (d : Desk) → d.mode ≡ modes.Over → is_move (call_of closed gone d) ≡ false
+pub over_calls : (closed gone : Bool) (d : Desk) → d.mode ≡ modes.Over → is_move (call_of_desk closed gone d) ≡ false
 over_calls closed gone d e = call_is closed gone d ∙ ap (λ (x : Mode). calls_move closed gone d.game x) e ∙ and-false (not (closed || gone || is_full d.game))
 
 -- the game and the mode are as before, or the mode is Over
@@ -110,7 +110,7 @@ or_gone false true x f p e = refl
 or_gone false false true f p e = refl
 or_gone false false false f p e = e
 
-stays_quiet : (h : Situation) (d : Effect) (e : Desk) → Stays h.desk e → is_move (call_before h) ≡ false → is_move (call_of h.closed (is_gone h.engine || is_death d) e) ≡ false
+stays_quiet : (h : Situation) (d : Effect) (e : Desk) → Stays h.desk e → is_move (call_before h) ≡ false → is_move (call_of_desk h.closed (is_gone h.engine || is_death d) e) ≡ false
 stays_quiet h d e (Same g m) p =
     call_is h.closed (is_gone h.engine || is_death d) e
     ∙ ap (λ (x : Game). calls_move h.closed (is_gone h.engine || is_death d) x e.mode) g

@@ -11,43 +11,45 @@ use Rattle.uci_lines.specs.Orders as orders
 use Rattle.clock_map.specs.declared.clocks.Clocks.{Clocks}
 use Rattle.clock_map.specs.declared.clocks.Control.{Control}
 use Rattle.clock_map.specs.declared.clocks.Control.TheVariants.{Session, Fixed}
-use Rattle.clock_map.specs.Search.{search_order, time_of}
+use Rattle.clock_map.specs.declared.request.SearchRequest.{SearchRequest}
+use Rattle.clock_map.specs.Search.{order_by_kind, time_of}
+use Rattle.policy_rules.specs.declared.settings.Settings.{Settings}
 use Rattle.search_epochs.specs.declared.words.Orders.{Orders}
 use Rattle.search_epochs.specs.declared.words.Orders.TheVariants as chosen
 use Rattle.search_epochs.specs.declared.words.Said.TheVariants as said
-use Rattle.search_epochs.specs.Tickets.{Engine, Boot, Getting, Idle, Search, Gone, Word, Setup, IsReady, Position, Go, AllSetup, What, Says, Quiet, kind_of, leaves_boot, is_empty}
+use Rattle.search_epochs.specs.Tickets.{Engine, Boot, Getting, Idle, Search, Gone, Word, Setup, IsReady, Position, Go, AllSetup, What, Says, Quiet, kind_of, leaves_boot, has_no_order}
 use Rattle.search_epochs.specs.Dialogue.{words, is_batch_order, forget}
 use Rattle.desk_rules.specs.declared.desk.Desk.{Desk}
-use Rattle.desk_rules.specs.Desk.{Situation, is_boot, on_move, plies}
+use Rattle.desk_rules.specs.Desk.{Situation, is_boot}
 use Rattle.desk_rules.specs.Steps.{Effect, Accepts, Boots, Readies, Shows, Forfeits, Answers, Dies, what_of, what_accepted, is_boots}
-use Rattle.desk_rules.specs.Orders.{order_list, searched, word_of, kind_named}
-use Rattle.desk_rules.specs.Fits.{Fits}
+use Rattle.desk_rules.specs.Orders.{order_list, search_request, dialogue_word_of, go_kind_named}
+use Rattle.desk_rules.specs.Fits.{EffectFitsDesk}
 use Rattle.adapter_core.specs.Trace.{has_ready}
 use Rattle.adapter_core.specs.Parts.{none_held}
 
 -- WORDS
 
-times_named : (c : Clocks) (control : Control) (side : Side) (q : ℕ) → kind_named false (time_of control c side q) ≡ kinds.Move
+times_named : (c : Clocks) (control : Control) (side : Side) (q : ℕ) → go_kind_named false (time_of control c side q) ≡ kinds.Move
 times_named c Session White q = refl
 times_named c Session Black q = refl
 times_named c (Fixed time) side q = refl
 
-search_word : (c : Clocks) (side : Side) (q : ℕ) (k : GoKind) → word_of (search_order c side q k) ≡ Go k
-search_word c side q kinds.Move = ap Go (times_named c c.control side q)
-search_word c side q kinds.Ponder = refl
-search_word c side q kinds.Analyse = refl
+search_word : (k : GoKind) (r : SearchRequest) (c : Clocks) → dialogue_word_of (order_by_kind k r c) ≡ Go k
+search_word kinds.Move r c = ap Go (times_named c c.control r.side r.plies)
+search_word kinds.Ponder r c = refl
+search_word kinds.Analyse r c = refl
 
-batch_words : (ws : List Order) → map word_of (ws ++ orders.IsReady ∷ []) ≡ map word_of ws ++ IsReady ∷ []
+batch_words : (ws : List Order) → map dialogue_word_of (ws ++ orders.IsReady ∷ []) ≡ map dialogue_word_of ws ++ IsReady ∷ []
 batch_words [] = refl
-batch_words (w ∷ ws) = ap (λ xs. word_of w ∷ xs) (batch_words ws)
+batch_words (w ∷ ws) = ap (λ xs. dialogue_word_of w ∷ xs) (batch_words ws)
 
 -- the words of the chosen orders
-pub words_are : (ws : List Order) (d : Desk) (o : Orders) → map word_of (order_list ws d o) ≡ words (map word_of ws) o
-words_are ws d chosen.None = refl
-words_are ws d chosen.Batch = batch_words ws
-words_are ws d (chosen.Begin c) = ap (λ w. Position ∷ w ∷ []) (search_word d.clocks (on_move (searched d.game c)) (plies (searched d.game c)) (kind_of c))
-words_are ws d chosen.Hit = refl
-words_are ws d chosen.Stop = refl
+pub words_are : (s : Settings) (ws : List Order) (d : Desk) (o : Orders) → map dialogue_word_of (order_list s ws d o) ≡ words (map dialogue_word_of ws) o
+words_are s ws d chosen.None = refl
+words_are s ws d chosen.Batch = batch_words ws
+words_are s ws d (chosen.Begin c) = ap (λ w. Position ∷ w ∷ []) (search_word (kind_of c) (search_request s d.game c) d.clocks)
+words_are s ws d chosen.Hit = refl
+words_are s ws d chosen.Stop = refl
 
 batch_ready : (ws : List Word) → AllSetup ws → has_ready (ws ++ IsReady ∷ []) ≡ true
 batch_ready [] a = refl
@@ -62,7 +64,7 @@ ready_words ws (chosen.Begin c) a = refl
 ready_words ws chosen.Hit a = refl
 ready_words ws chosen.Stop a = refl
 
-pub no_words : (ws : List Order) → none_held ws ≡ is_empty (map word_of ws)
+pub no_words : (ws : List Order) → none_held ws ≡ has_no_order (map dialogue_word_of ws)
 no_words [] = refl
 no_words (w ∷ ws) = refl
 
@@ -89,7 +91,7 @@ in_boot epoch Gone b = cc
 in_boot epoch (Search k t s) b = cc
 
 -- Boot is left exactly by its effect
-pub boots_are : (epoch : ℕ) (e : Engine) (h : Situation) (held : List Order) (d : Effect) → h.engine ≡ forget epoch e → Fits h held d → is_boots d ≡ leaves_boot e (what_of d)
+pub boots_are : (epoch : ℕ) (e : Engine) (h : Situation) (held : List Order) (d : Effect) → h.engine ≡ forget epoch e → EffectFitsDesk h held d → is_boots d ≡ leaves_boot e (what_of d)
 boots_are epoch e h held Boots same f = in_boot epoch e (rw (← same) (f.1))
 boots_are epoch e h held (Accepts m) same f = not_boots e (what_accepted m) (line_boots m)
 boots_are epoch e h held Readies same f = not_boots e (Says said.ReadyOk) refl

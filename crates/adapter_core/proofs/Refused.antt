@@ -17,26 +17,28 @@ use Rattle.uci_lines.specs.Messages.{EngineMsg}
 use Rattle.uci_lines.specs.Messages as hears
 use Rattle.uci_lines.specs.Engine.{engine_message}
 use Rattle.uci_lines.specs.Orders.{Order}
-use Rattle.game_record.specs.Game.{Game, now_of}
+use Rattle.game_record.specs.Game.{Game, current_position}
 use Rattle.chess_board.specs.Place.{legal}
 use Rattle.policy_rules.specs.declared.settings.Settings.{Settings}
 use Rattle.policy_rules.specs.Scores.{Score}
 use Rattle.search_epochs.specs.declared.words.Call.{Call}
 use Rattle.search_epochs.specs.declared.words.EngineState.{EngineState}
 use Rattle.search_epochs.specs.declared.words.EngineState.TheVariants as states
-use Rattle.search_epochs.specs.Tickets.{DialogueTurn, Engine, Boot, Getting, Idle, Search, Gone, Word, Ticketed, Quiet, IsLiveOnlyAt, owed, before_orders, after, is_move, is_nothing, is_idle, is_empty, is_hint, is_hurry, is_due, is_hit, stops, ponders, leaves_boot, only}
+use Rattle.search_epochs.specs.Tickets.{DialogueTurn, Engine, Boot, Getting, Idle, Search, Gone, Word, Ticketed, Quiet, IsLiveOnlyAt, owed, before_orders, engine_after_orders, is_move, is_no_call, is_engine_idle, has_no_order, is_hint_played, is_move_now, is_due, is_ponder_hit, orders_stop, ticket_ponders, leaves_boot, only}
 use Rattle.search_epochs.proofs.Same.{only_orders}
 use Rattle.search_epochs.proofs.Whole.{no_hint_quiet}
 use Rattle.desk_rules.specs.declared.effect.Refusal.{Refusal}
 use Rattle.desk_rules.specs.declared.desk.Desk.{Desk}
-use Rattle.desk_rules.specs.Desk.{Situation, current, call_of, call_before, is_gone, is_boot, is_getting}
-use Rattle.desk_rules.specs.Lines.{verdict, verdict_on, refusal, or_else, where_true, does_not_fit, asks}
-use Rattle.desk_rules.specs.Steps.{Effect, Nothing, LongLine, Refuses, Names, Declares, Boots, Readies, Shows, Forfeits, Dies, classify, line_effect, engine_says, answers, shows, thinks, begins_epoch, call_after, desk_after, desk_after_effect, answers_pings, scores_after, what_of, over_where, resigns_when_gone}
-use Rattle.desk_rules.specs.Orders.{word_of, orders_waiting, asked_by_effect}
+use Rattle.desk_rules.specs.Desk.{Situation, current, call_of_desk, call_before, is_gone, is_boot, is_getting}
+use Rattle.desk_rules.specs.Lines.{line_verdict, verdict_on, refusal, or_else, reason_where, does_not_fit, asks}
+use Rattle.desk_rules.specs.Steps.{Effect, Nothing, LongLine, Refuses, Names, Declares, Boots, Readies, Shows, Forfeits, Dies, classify, line_effect, engine_says, answers, shows, search_reports, begins_epoch, call_after, desk_after, desk_after_effect, answers_pings, scores_after, what_of, over_where, resigns_when_gone}
+use Rattle.desk_rules.specs.Orders.{dialogue_word_of, orders_waiting, asked_by_effect}
 use Rattle.adapter_core.specs.declared.ends.Ends.{Ends}
 use Rattle.adapter_core.specs.Ends.{ends_after, is_open}
-use Rattle.cecp_lines.specs.Quit.{is_quit, is_quit_message}
-use Rattle.adapter_core.specs.Trace.{State, Step, IsLawful, state, state_after, situation, effect, turn, mid, owed_after, closed_after, desk_of, still_held}
+use Rattle.peer_words.specs.Quit.{is_quit}
+use Rattle.cecp_lines.specs.Quit.{is_quit_message}
+use Rattle.cecp_lines.proofs.Quits.{quit_first}
+use Rattle.adapter_core.specs.Trace.{State, Step, IsLawfulStep, state, trace_state_after, situation_of_state, effect, turn_of_event, mid, owed_after, closed_after, desk_of, still_held}
 use Rattle.adapter_core.specs.Shown.{RefusedLinesChangeNothing}
 use Rattle.adapter_core.proofs.Traces.{Lasts, lasts, other_ticket, owed_is}
 
@@ -53,7 +55,7 @@ record IsLine (s : State) (e : Event) : Type 0 where
 quit_passes : (h : Situation) (held : List Order) → refusal h held says.Quit ≡ None
 unfolding refusal asks
 quit_passes h held = by_gone (is_gone h.engine) where
-  by_gone : (b : Bool) → or_else (where_true (does_not_fit held (cond b None None)) reasons.TooManySettings) None ≡ None
+  by_gone : (b : Bool) → or_else (reason_where (does_not_fit held (cond b None None)) reasons.TooManySettings) None ≡ None
   by_gone true = refl
   by_gone false = refl
 
@@ -61,8 +63,8 @@ judged_back : (m : IfaceMsg) (o : Option Refusal) (line : List ℕ) (r : Refusal
 judged_back m None line r text e = absurd (cc)
 judged_back m (Some x) line r text e = cc
 
-refused_stays : (h : Situation) (held : List Order) (line : List ℕ) (a : Result IfaceMsg IfaceFault) (r : Refusal) (text : List ℕ) → line_effect (verdict h held line a) line ≡ Refuses r text → is_quit_message a ≡ false
-unfolding verdict
+refused_stays : (h : Situation) (held : List Order) (line : List ℕ) (a : Result IfaceMsg IfaceFault) (r : Refusal) (text : List ℕ) → line_effect (line_verdict h held line a) line ≡ Refuses r text → is_quit_message a ≡ false
+unfolding line_verdict
 refused_stays h held line (Err faults.UnknownCommand) r text e = refl
 refused_stays h held line (Err faults.BadArgument) r text e = refl
 refused_stays h held line (Ok says.Quit) r text e = let p = judged_back says.Quit (refusal h held says.Quit) line r text e in let q = quit_passes h held in cc
@@ -82,7 +84,7 @@ not_where false d r text n e = n e
 
 shows_not : (g : Game) (best hint : Option Move) (r : Refusal) (text : List ℕ) → shows g best hint ≡ Refuses r text → ⊥
 shows_not g None hint r text e = cc
-shows_not g (Some m) hint r text e = by_legal (legal (now_of g) m) e where
+shows_not g (Some m) hint r text e = by_legal (legal (current_position g) m) e where
   by_legal : (b : Bool) → cond b (Shows m hint) Forfeits ≡ Refuses r text → ⊥
   by_legal true e = cc
   by_legal false e = cc
@@ -91,7 +93,7 @@ answers_not : (x : EngineState) (g : Game) (best hint : Option Move) (r : Refusa
 answers_not (states.Search kinds.Move false stopped) g best hint r text e = shows_not g best hint r text e
 answers_not x g best hint r text e = cc
 
-thinks_not : (k : Option GoKind) (facts : Info) (r : Refusal) (text : List ℕ) → thinks k facts ≡ Refuses r text → ⊥
+thinks_not : (k : Option GoKind) (facts : Info) (r : Refusal) (text : List ℕ) → search_reports k facts ≡ Refuses r text → ⊥
 thinks_not None facts r text e = cc
 thinks_not (Some k) facts r text e = cc
 
@@ -108,11 +110,11 @@ refused_line : (s : State) (e : Event) (r : Refusal) (text : List ℕ) → effec
 unfolding classify
 refused_line s (events.Iface line) r text e =
     let o = open_back s.ends.closed _ r text e in
-    record { line = line; event = refl; is_open = o.0; stays = refused_stays (situation s) s.held line (message_or_fault line) r text o.1 }
+    record { line = line; event = refl; is_open = o.0; stays = quit_first line ∙ refused_stays (situation_of_state s) s.held line (message_or_fault line) r text o.1 }
 refused_line s events.IfaceLong r text e = absurd (not_where s.ends.closed LongLine r text (λ x. cc) e)
-refused_line s (events.Engine line) r text e = absurd (not_where s.ends.closed (engine_says (situation s) (engine_message line)) r text (says_not (situation s) (engine_message line) r text) e)
-refused_line s events.EngineEnd r text e = absurd (not_where (is_gone (situation s).engine) Dies r text (λ x. cc) e)
-refused_line s events.EngineLost r text e = absurd (not_where (is_gone (situation s).engine) Dies r text (λ x. cc) e)
+refused_line s (events.Engine line) r text e = absurd (not_where s.ends.closed (engine_says (situation_of_state s) (engine_message line)) r text (says_not (situation_of_state s) (engine_message line) r text) e)
+refused_line s events.EngineEnd r text e = absurd (not_where (is_gone (situation_of_state s).engine) Dies r text (λ x. cc) e)
+refused_line s events.EngineLost r text e = absurd (not_where (is_gone (situation_of_state s).engine) Dies r text (λ x. cc) e)
 refused_line s x r text e = absurd (cc)
 
 or_no : (a b : Bool) → b ≡ false → (a || b) ≡ a
@@ -137,10 +139,10 @@ no_hit : (a b c : Bool) → b ≡ false → (a && b && c) ≡ false
 no_hit true b c e = ap (λ (x : Bool). x && c) e
 no_hit false b c e = refl
 
-not_due : (idle boot : Bool) (held : List Order) → boot ≡ false → (idle ≡ true → held ≡ []) → (idle && (boot || not (is_empty (map word_of held)))) ≡ false
+not_due : (idle boot : Bool) (held : List Order) → boot ≡ false → (idle ≡ true → held ≡ []) → (idle && (boot || not (has_no_order (map dialogue_word_of held)))) ≡ false
 not_due false boot held b f = refl
 not_due true true held b f = cc
-not_due true false held b f = ap (λ (os : List Order). not (is_empty (map word_of os))) (f refl)
+not_due true false held b f = ap (λ (os : List Order). not (has_no_order (map dialogue_word_of os))) (f refl)
 
 not_begun : (idle nothing : Bool) → (idle ≡ true → nothing ≡ true) → (idle && not nothing) ≡ false
 not_begun false nothing f = refl
@@ -150,7 +152,7 @@ not_begun true false f = cc (f refl)
 same_ticket : (t epoch : ℕ) → t ≡ epoch → not (t == epoch) ≡ false
 same_ticket t epoch e = grind (arith, nat_tests)
 
-not_stopped : (epoch : ℕ) (e : Engine) → IsLiveOnlyAt epoch e → stops false epoch false e ≡ false
+not_stopped : (epoch : ℕ) (e : Engine) → IsLiveOnlyAt epoch e → orders_stop false epoch false e ≡ false
 not_stopped epoch (Search kinds.Move t false) i = ap (λ (b : Bool). b || false) (same_ticket t epoch i)
 not_stopped epoch (Search k t true) i = refl
 not_stopped epoch (Search k t x) i = same_ticket t epoch i
@@ -163,11 +165,11 @@ chosen_none false false true i a b c f p q r t = cc
 chosen_none false false false true a b c f p q r t = cc
 chosen_none false false false false a b c f p q r t = refl
 
-none_only : (e : Engine) (epoch : ℕ) (o : Call) (waits : List Word) (due hits : Bool) → due ≡ false → hits ≡ false → stops false epoch false e ≡ false → (is_idle e && not (is_nothing o)) ≡ false
+none_only : (e : Engine) (epoch : ℕ) (o : Call) (waits : List Word) (due hits : Bool) → due ≡ false → hits ≡ false → orders_stop false epoch false e ≡ false → (is_engine_idle e && not (is_no_call o)) ≡ false
     → only e epoch o waits due hits false ≡ []
-none_only e epoch o waits due hits d h s i = chosen_none due hits (stops hits epoch false e) (is_idle e && not (is_nothing o)) _ _ _ _ d h (ap (λ (b : Bool). stops b epoch false e) h ∙ s) i
+none_only e epoch o waits due hits d h s i = chosen_none due hits (orders_stop hits epoch false e) (is_engine_idle e && not (is_no_call o)) _ _ _ _ d h (ap (λ (b : Bool). orders_stop b epoch false e) h ∙ s) i
 
-no_orders : (os : List Order) → map word_of os ≡ [] → os ≡ []
+no_orders : (os : List Order) → map dialogue_word_of os ≡ [] → os ≡ []
 no_orders [] e = refl
 no_orders (o ∷ os) e = cc
 
@@ -176,15 +178,15 @@ kept_pings true owes ps f = refl
 kept_pings false true ps f = refl
 kept_pings false false ps f = sym (f refl)
 
-module _ (s : State) (step : Step) (holds : Lasts s) (l : IsLawful s step) (r : Refusal) (line : List ℕ) (q : effect s step.event ≡ Refuses r line) where
+module _ (s : State) (step : Step) (holds : Lasts s) (l : IsLawfulStep s step) (r : Refusal) (line : List ℕ) (q : effect s step.event ≡ Refuses r line) where
   abbrev e : Event
   e = step.event
 
   abbrev h : Situation
-  h = situation s
+  h = situation_of_state s
 
   abbrev ws : List Word
-  ws = map word_of step.orders
+  ws = map dialogue_word_of step.orders
 
   spelled : IsLine s e
   spelled = refused_line s e r line q
@@ -199,21 +201,21 @@ module _ (s : State) (step : Step) (holds : Lasts s) (l : IsLawful s step) (r : 
   not_open = ap is_open spelled.event
 
   abbrev turn_by : Effect → DialogueTurn
-  turn_by d = record { what = what_of d; hint = s.desk.hint; begins_epoch = begins_epoch h d; call = call_after (closed_after s e) h d; waiting = map word_of (orders_waiting h s.held d) }
+  turn_by d = record { what = what_of d; hint = s.desk.hint; begins_epoch = begins_epoch h d; call = call_after (closed_after s e) h d; waiting = map dialogue_word_of (orders_waiting h s.held d) }
 
   -- what it is to the dialogue
   abbrev quiet : DialogueTurn
-  quiet = record { what = Quiet; hint = s.desk.hint; begins_epoch = false; call = call_before h; waiting = map word_of s.held }
+  quiet = record { what = Quiet; hint = s.desk.hint; begins_epoch = false; call = call_before h; waiting = map dialogue_word_of s.held }
 
   same_call : call_after (closed_after s e) h (Refuses r line) ≡ call_before h
   unfolding desk_after_effect
   same_call =
-      ap (λ (x : Ends). call_of x.closed (is_gone h.engine || false) s.desk) ends_stay
-      ∙ ap (λ (b : Bool). call_of s.ends.closed b s.desk) (or_no (is_gone h.engine) false refl)
+      ap (λ (x : Ends). call_of_desk x.closed (is_gone h.engine || false) s.desk) ends_stay
+      ∙ ap (λ (b : Bool). call_of_desk s.ends.closed b s.desk) (or_no (is_gone h.engine) false refl)
 
-  turn_is : turn s e ≡ quiet
+  turn_is : turn_of_event s e ≡ quiet
   unfolding asked_by_effect
-  turn_is = ap turn_by q ∙ ap (λ (c : Call). let t : DialogueTurn = record { what = Quiet; hint = s.desk.hint; begins_epoch = false; call = c; waiting = map word_of s.held } in t) same_call
+  turn_is = ap turn_by q ∙ ap (λ (c : Call). let t : DialogueTurn = record { what = Quiet; hint = s.desk.hint; begins_epoch = false; call = c; waiting = map dialogue_word_of s.held } in t) same_call
 
   mid_is : mid s e ≡ s.dialogue
   mid_is =
@@ -221,20 +223,20 @@ module _ (s : State) (step : Step) (holds : Lasts s) (l : IsLawful s step) (r : 
       ∙ ap (λ (o : Option ℕ). let t : Ticketed = record { engine = s.dialogue.engine; epoch = s.dialogue.epoch; last = o } in t) (other_ticket s.dialogue.engine None s.dialogue.last refl)
 
   abbrev only_by : Ticketed → DialogueTurn → List Word
-  only_by m u = only m.engine m.epoch (owed m u.call) u.waiting (is_due s.dialogue u) (is_hit s.dialogue u) (is_hurry u.what)
+  only_by m u = only m.engine m.epoch (owed m u.call) u.waiting (is_due s.dialogue u) (is_ponder_hit s.dialogue u) (is_move_now u.what)
 
   none_is_only : only_by s.dialogue quiet ≡ []
   none_is_only =
-      none_only s.dialogue.engine s.dialogue.epoch (owed s.dialogue (call_before h)) (map word_of s.held) (is_due s.dialogue quiet) (is_hit s.dialogue quiet)
-      (not_due (is_idle s.dialogue.engine) (leaves_boot s.dialogue.engine Quiet) s.held (quiet_boot s.dialogue.engine) (λ i. (holds.rests spelled.is_open i).0))
-      (no_hit (ponders s.dialogue) (is_hint s.desk.hint Quiet) _ (no_hint_quiet s.desk.hint))
+      none_only s.dialogue.engine s.dialogue.epoch (owed s.dialogue (call_before h)) (map dialogue_word_of s.held) (is_due s.dialogue quiet) (is_ponder_hit s.dialogue quiet)
+      (not_due (is_engine_idle s.dialogue.engine) (leaves_boot s.dialogue.engine Quiet) s.held (quiet_boot s.dialogue.engine) (λ i. (holds.rests spelled.is_open i).0))
+      (no_hit (ticket_ponders s.dialogue) (is_hint_played s.desk.hint Quiet) _ (no_hint_quiet s.desk.hint))
       (not_stopped s.dialogue.epoch s.dialogue.engine (holds.live spelled.is_open))
-      (not_begun (is_idle s.dialogue.engine) (is_nothing (owed s.dialogue (call_before h))) (λ i. (holds.rests spelled.is_open i).1))
+      (not_begun (is_engine_idle s.dialogue.engine) (is_no_call (owed s.dialogue (call_before h))) (λ i. (holds.rests spelled.is_open i).1))
 
   no_words : ws ≡ []
   no_words =
-      only_orders (mid s e).engine (mid s e).epoch (owed_after s e) (turn s e).waiting (is_due s.dialogue (turn s e)) (is_hit s.dialogue (turn s e)) (is_hurry (turn s e).what) ws (l.settled not_open closed_now).words
-      ∙ ap (λ (m : Ticketed). only_by m (turn s e)) mid_is
+      only_orders (mid s e).engine (mid s e).epoch (owed_after s e) (turn_of_event s e).waiting (is_due s.dialogue (turn_of_event s e)) (is_ponder_hit s.dialogue (turn_of_event s e)) (is_move_now (turn_of_event s e).what) ws (l.settled not_open closed_now).words
+      ∙ ap (λ (m : Ticketed). only_by m (turn_of_event s e)) mid_is
       ∙ ap (only_by s.dialogue) turn_is
       ∙ none_is_only
 
@@ -254,13 +256,13 @@ module _ (s : State) (step : Step) (holds : Lasts s) (l : IsLawful s step) (r : 
   none_resigns : resigns_when_gone (closed_after s e) h (Refuses r line) ≡ false
   unfolding desk_after_effect
   none_resigns =
-      not_again s.settings.resign_when_gone (is_gone h.engine) (is_move (call_of (closed_after s e) false s.desk))
-      (λ w g. ap (λ (x : Ends). is_move (call_of x.closed false s.desk)) ends_stay ∙ holds.resigned w g)
+      not_again s.settings.resign_when_gone (is_gone h.engine) (is_move (call_of_desk (closed_after s e) false s.desk))
+      (λ w g. ap (λ (x : Ends). is_move (call_of_desk x.closed false s.desk)) ends_stay ∙ holds.resigned w g)
 
   desk_stays : desk_of s e ≡ s.desk
   unfolding desk_after_effect
   desk_stays =
-      ap (λ (d : Effect). desk_after (closed_after s e) (is_move (owed_after s e)) (is_hit s.dialogue (turn s e)) h d) q
+      ap (λ (d : Effect). desk_after (closed_after s e) (is_move (owed_after s e)) (is_ponder_hit s.dialogue (turn_of_event s e)) h d) q
       ∙ ap (λ (b : Bool). let d : Desk = record s.desk {
         mode = over_where b s.desk.mode;
         pings = cond (answers_pings (closed_after s e) (is_move (owed_after s e))) [] s.desk.pings;
@@ -276,8 +278,8 @@ module _ (s : State) (step : Step) (holds : Lasts s) (l : IsLawful s step) (r : 
   unfolding asked_by_effect
   held_stays = ap (λ (d : Effect). still_held (orders_waiting h s.held d) ws) q ∙ ap (λ (xs : List Word). still_held s.held xs) no_words
 
-  dialogue_stays : after (mid s e) ws ≡ s.dialogue
-  dialogue_stays = ap (λ (m : Ticketed). after m ws) mid_is ∙ ap (after s.dialogue) no_words
+  dialogue_stays : engine_after_orders (mid s e) ws ≡ s.dialogue
+  dialogue_stays = ap (λ (m : Ticketed). engine_after_orders m ws) mid_is ∙ ap (engine_after_orders s.dialogue) no_words
 
   scores_stay : scores_after h (effect s e) s.scores ≡ s.scores
   scores_stay = ap (λ (d : Effect). scores_after h d s.scores) q
@@ -285,12 +287,12 @@ module _ (s : State) (step : Step) (holds : Lasts s) (l : IsLawful s step) (r : 
   abbrev parts : Ends → Desk → List Score → List Order → Ticketed → State
   parts ends desk scores held dialogue = record { settings = s.settings; ends = ends; desk = desk; scores = scores; held = held; dialogue = dialogue }
 
-  pub all_stays : (state_after s step ≡ s) × (step.orders ≡ [])
+  pub all_stays : (trace_state_after s step ≡ s) × (step.orders ≡ [])
   all_stays = (
-    ap (λ (x : Ends). parts x (desk_of s e) (scores_after h (effect s e) s.scores) (still_held (orders_waiting h s.held (effect s e)) ws) (after (mid s e) ws)) ends_stay
-        ∙ ap (λ (x : Desk). parts s.ends x (scores_after h (effect s e) s.scores) (still_held (orders_waiting h s.held (effect s e)) ws) (after (mid s e) ws)) desk_stays
-        ∙ ap (λ (x : List Score). parts s.ends s.desk x (still_held (orders_waiting h s.held (effect s e)) ws) (after (mid s e) ws)) scores_stay
-        ∙ ap (λ (x : List Order). parts s.ends s.desk s.scores x (after (mid s e) ws)) held_stays
+    ap (λ (x : Ends). parts x (desk_of s e) (scores_after h (effect s e) s.scores) (still_held (orders_waiting h s.held (effect s e)) ws) (engine_after_orders (mid s e) ws)) ends_stay
+        ∙ ap (λ (x : Desk). parts s.ends x (scores_after h (effect s e) s.scores) (still_held (orders_waiting h s.held (effect s e)) ws) (engine_after_orders (mid s e) ws)) desk_stays
+        ∙ ap (λ (x : List Score). parts s.ends s.desk x (still_held (orders_waiting h s.held (effect s e)) ws) (engine_after_orders (mid s e) ws)) scores_stay
+        ∙ ap (λ (x : List Order). parts s.ends s.desk s.scores x (engine_after_orders (mid s e) ws)) held_stays
         ∙ ap (λ (x : Ticketed). parts s.ends s.desk s.scores s.held x) dialogue_stays,
     no_orders step.orders no_words,
   )

@@ -3,7 +3,7 @@ use Rattle.std.proofs.Common.{◌≡◌, ℕ, List, [], ◌++◌, map, Bool, tru
 use Rattle.line_io.specs.Event.{Event}
 use Rattle.line_io.specs.Out.{Text, empty, with}
 use Rattle.cecp_lines.specs.Replies.{Reply}
-use Rattle.cecp_lines.specs.Replies as told
+use Rattle.cecp_lines.specs.Replies as cecp
 use Rattle.uci_lines.specs.Orders.{Order}
 use Rattle.think_text.specs.Kept.{nothing_seen}
 use Rattle.option_map.specs.Features.{reply_lines}
@@ -11,19 +11,19 @@ use Rattle.policy_rules.specs.declared.scores.Scores.{Scores}
 use Rattle.search_epochs.specs.declared.words.Call.{Call}
 use Rattle.search_epochs.specs.declared.words.Orders.{Orders}
 use Rattle.search_epochs.specs.declared.words.Orders.TheVariants as chosen
-use Rattle.search_epochs.specs.Tickets.{is_move, is_hurry}
+use Rattle.search_epochs.specs.Tickets.{is_move, is_move_now}
 use Rattle.search_epochs.specs.Dialogue.{Dialogue, owed_by_dialogue, settle, after_settled, played_of, is_hit_order, is_batch_order}
 use Rattle.desk_rules.specs.declared.effect.Context.{Context}
 use Rattle.desk_rules.specs.declared.desk.Desk.{Desk}
-use Rattle.desk_rules.specs.Desk.{at, call_of, is_gone}
+use Rattle.desk_rules.specs.Desk.{at, call_of_desk, is_gone}
 use Rattle.desk_rules.specs.Steps.{Effect, what_of, begins_epoch, desk_after_effect, owes_when_gone, over_where, answers_pings, is_death, counts_after}
-use Rattle.desk_rules.specs.Replies.{row, resign_where, replies_of, pongs}
+use Rattle.desk_rules.specs.Replies.{reply_row, resign_where, replies_of, pongs}
 use Rattle.desk_rules.specs.Texts.{order_lines}
 use Rattle.desk_rules.proofs.Rooms.{two_lines}
 use Rattle.adapter_core.specs.declared.ends.Ends.{Ends}
 use Rattle.adapter_core.specs.declared.session.TheConstants.{ROOM}
 use Rattle.adapter_core.specs.Ends.{ends_after, is_open}
-use Rattle.adapter_core.specs.Parts.{CoreParts, is_unsent, orders_of, advance_from}
+use Rattle.adapter_core.specs.Parts.{CoreParts, is_step_unsent, step_orders, advance_from}
 use Rattle.adapter_core.proofs.Fresh.{closed_calls}
 
 -- none resigns in a closed session
@@ -40,47 +40,47 @@ three_lines room rows resign more =
     two_lines (empty room) b (with b (reply_lines more)) (rows ++ resign) more (two_lines (empty room) a b rows resign refl refl) refl
 
 -- the row, `resign` for an engine that is gone, and the pongs
-pub all_told : (room : ℕ) (closed owes wants gone : Bool) (rows : List Reply) (d : Desk) (pings : List ℕ)
+pub all_shown : (room : ℕ) (closed owes wants gone : Bool) (rows : List Reply) (d : Desk) (pings : List ℕ)
     → with (with (with (empty room) (reply_lines (cond closed [] rows))) (reply_lines (resign_where (wants && owes_when_gone closed gone d)))) (reply_lines (pongs (answers_pings closed owes) pings))
-    ≡ with (empty room) (reply_lines (cond closed [] (rows ++ resign_where (wants && owes_when_gone closed gone d) ++ cond owes [] (map told.Pong pings))))
-all_told room true owes wants gone rows d pings =
-    ap (λ (b : Bool). with (with (with (empty room) []) (reply_lines (resign_where b))) []) (none_resigns wants gone (is_move (call_of true false d)) (closed_calls true false d refl))
-all_told room false true wants gone rows d pings = three_lines room rows (resign_where (wants && owes_when_gone false gone d)) []
-all_told room false false wants gone rows d pings = three_lines room rows (resign_where (wants && owes_when_gone false gone d)) (map told.Pong pings)
+    ≡ with (empty room) (reply_lines (cond closed [] (rows ++ resign_where (wants && owes_when_gone closed gone d) ++ cond owes [] (map cecp.Pong pings))))
+all_shown room true owes wants gone rows d pings =
+    ap (λ (b : Bool). with (with (with (empty room) []) (reply_lines (resign_where b))) []) (none_resigns wants gone (is_move (call_of_desk true false d)) (closed_calls true false d refl))
+all_shown room false true wants gone rows d pings = three_lines room rows (resign_where (wants && owes_when_gone false gone d)) []
+all_shown room false false wants gone rows d pings = three_lines room rows (resign_where (wants && owes_when_gone false gone d)) (map cecp.Pong pings)
 
 -- THE CORE AFTER AN EVENT, PART BY PART
 
 pub went_on : (context : Context) (v : CoreParts) (d : Effect) (e : Event) (ends : Ends) (opens gone rose owes unsent clears : Bool) (scores : Scores) (desk given_up desk' : Desk) (call : Call)
-    (dialogue : Dialogue) (orders : Orders) (row_told resign_told iface engine : Text) (held : List Order)
+    (dialogue : Dialogue) (orders : Orders) (row_shown resign_shown iface engine : Text) (held : List Order)
     → opens ≡ is_open e
     → ends ≡ ends_after v.ends e
     → gone ≡ (is_gone context.engine || is_death d)
     → rose ≡ begins_epoch (at context v.desk) d
-    → scores ≡ counts_after v.desk.seen.score d v.scores
+    → scores ≡ counts_after v.desk.search_info.score d v.scores
     → desk ≡ desk_after_effect (at context v.desk) d
-    → row_told ≡ with (empty ROOM) (reply_lines (cond ends.closed [] (row (at context v.desk) d)))
-    → call ≡ call_of ends.closed gone desk
+    → row_shown ≡ with (empty ROOM) (reply_lines (cond ends.closed [] (reply_row (at context v.desk) d)))
+    → call ≡ call_of_desk ends.closed gone desk
     → owes ≡ is_move (owed_by_dialogue v.dialogue call)
-    → unsent ≡ is_unsent v.held d
-    → orders ≡ cond (opens || ends.closed) chosen.None (settle v.dialogue call unsent (played_of (what_of d)) (is_hurry (what_of d)))
-    → dialogue ≡ after_settled v.dialogue (cond (opens || ends.closed) chosen.None (settle v.dialogue call unsent (played_of (what_of d)) (is_hurry (what_of d))))
+    → unsent ≡ is_step_unsent v.held d
+    → orders ≡ cond (opens || ends.closed) chosen.None (settle v.dialogue call unsent (played_of (what_of d)) (is_move_now (what_of d)))
+    → dialogue ≡ after_settled v.dialogue (cond (opens || ends.closed) chosen.None (settle v.dialogue call unsent (played_of (what_of d)) (is_move_now (what_of d))))
     → clears ≡ (rose && not (is_hit_order orders))
-    → resign_told ≡ with row_told (reply_lines (resign_where (context.settings.resign_when_gone && owes_when_gone ends.closed gone desk)))
+    → resign_shown ≡ with row_shown (reply_lines (resign_where (context.settings.resign_when_gone && owes_when_gone ends.closed gone desk)))
     → given_up ≡ record desk { mode = over_where (context.settings.resign_when_gone && owes_when_gone ends.closed gone desk) desk.mode }
-    → iface ≡ with resign_told (reply_lines (pongs (answers_pings ends.closed owes) given_up.pings))
-    → desk' ≡ record given_up { pings = cond (answers_pings ends.closed owes) [] given_up.pings; early = cond ends.closed [] given_up.early; seen = cond clears nothing_seen given_up.seen }
-    → engine ≡ with (empty v.to_engine.room) (order_lines (orders_of opens v.ends.closed ends.closed gone v.held desk' orders))
+    → iface ≡ with resign_shown (reply_lines (pongs (answers_pings ends.closed owes) given_up.pings))
+    → desk' ≡ record given_up { pings = cond (answers_pings ends.closed owes) [] given_up.pings; early = cond ends.closed [] given_up.early; search_info = cond clears nothing_seen given_up.search_info }
+    → engine ≡ with (empty v.to_engine.room) (order_lines (step_orders context.settings opens v.ends.closed ends.closed gone v.held desk' orders))
     → held ≡ cond (is_batch_order orders) [] v.held
     → v.to_iface.room ≡ ROOM
     → (let p : CoreParts = record { settings = v.settings; ends = ends; desk = desk'; scores = scores; held = held; dialogue = dialogue; to_iface = iface; to_engine = engine } in p)
     ≡ advance_from (at context v.desk) d e v v.held v.dialogue
-went_on context v d e ends opens gone rose owes unsent clears scores desk given_up desk' call dialogue orders row_told resign_told iface engine held
+went_on context v d e ends opens gone rose owes unsent clears scores desk given_up desk' call dialogue orders row_shown resign_shown iface engine held
     opens_is ends_is gone_is rose_is scores_are desk_is row_is call_is owes_is unsent_is orders_are dialogue_is clears_is resign_is given_is iface_is desk_after_is engine_is held_is room =
     let h = at context v.desk in
     let after = advance_from h d e v v.held v.dialogue in
     let closed = (ends_after v.ends e).closed in
     let gone_now = is_gone context.engine || is_death d in
-    let owes_now = is_move (owed_by_dialogue v.dialogue (call_of closed gone_now (desk_after_effect h d))) in
+    let owes_now = is_move (owed_by_dialogue v.dialogue (call_of_desk closed gone_now (desk_after_effect h d))) in
     rw (held_is, engine_is, desk_after_is, iface_is, given_is, resign_is, clears_is, dialogue_is, orders_are, unsent_is, owes_is, call_is, row_is, desk_is, scores_are, rose_is, gone_is, ends_is, opens_is)
-    (ap (λ (t : Text). let p : CoreParts = record after { to_iface = t } in p) (all_told ROOM closed owes_now context.settings.resign_when_gone gone_now (row h d) (desk_after_effect h d) (desk_after_effect h d).pings)
+    (ap (λ (t : Text). let p : CoreParts = record after { to_iface = t } in p) (all_shown ROOM closed owes_now context.settings.resign_when_gone gone_now (reply_row h d) (desk_after_effect h d) (desk_after_effect h d).pings)
     ∙ ap (λ (n : ℕ). let p : CoreParts = record after { to_iface = with (empty n) (reply_lines (replies_of closed owes_now h d)) } in p) (sym room))

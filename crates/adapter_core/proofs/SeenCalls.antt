@@ -1,4 +1,4 @@
--- What counts of a call settles the same orders as the call.
+-- The part of a call that counts settles the same orders as the call.
 use Rattle.std.proofs.Common.{◌≡◌, Bool, true, false, cond, Option, refl, ap, ◌∙◌}
 use Rattle.chess_board.specs.declared.board.Move.{Move}
 use Rattle.search_epochs.specs.declared.words.Call.{Call}
@@ -23,19 +23,19 @@ move_same states.Idle spent c = refl
 move_same (states.Search k stale stopped) spent c = asks_same spent c
 move_same states.Gone spent c = asks_same spent c
 
-choice_same : (e : EngineState) (spent : Bool) (c : Call) (unsent matches hurry : Bool)
-    → choose e (cond spent calls.Nothing (seen_call e c)) unsent matches hurry ≡ choose e (cond spent calls.Nothing c) unsent matches hurry
-choice_same states.Boot spent c unsent matches hurry = refl
-choice_same states.Getting spent c unsent matches hurry = refl
-choice_same states.Idle spent c unsent matches hurry = refl
-choice_same (states.Search k stale true) spent c unsent matches hurry = refl
-choice_same (states.Search k stale false) spent c unsent matches hurry = ap (λ (wants : Bool). choose_search k stale wants matches hurry) (asks_same spent c)
-choice_same states.Gone spent c unsent matches hurry = refl
+choice_same : (e : EngineState) (spent : Bool) (c : Call) (unsent matches move_now : Bool)
+    → choose e (cond spent calls.Nothing (seen_call e c)) unsent matches move_now ≡ choose e (cond spent calls.Nothing c) unsent matches move_now
+choice_same states.Boot spent c unsent matches move_now = refl
+choice_same states.Getting spent c unsent matches move_now = refl
+choice_same states.Idle spent c unsent matches move_now = refl
+choice_same (states.Search k stale true) spent c unsent matches move_now = refl
+choice_same (states.Search k stale false) spent c unsent matches move_now = ap (λ (wants : Bool). choose_search k stale wants matches move_now) (asks_same spent c)
+choice_same states.Gone spent c unsent matches move_now = refl
 
-pub seen_owes : (v : Dialogue) (seen c : Call) → seen ≡ seen_call v.state c → is_move (owed_by_dialogue v seen) ≡ is_move (owed_by_dialogue v c)
-seen_owes v seen c e = ap (λ (x : Call). is_move (owed_by_dialogue v x)) e ∙ move_same v.state v.spent c
+pub seen_owes : (v : Dialogue) (search_info c : Call) → search_info ≡ seen_call v.state c → is_move (owed_by_dialogue v search_info) ≡ is_move (owed_by_dialogue v c)
+seen_owes v search_info c e = ap (λ (x : Call). is_move (owed_by_dialogue v x)) e ∙ move_same v.state v.spent c
 
-pub seen_settles : (v : Dialogue) (seen c : Call) (unsent : Bool) (played : Option Move) (hurry : Bool) → seen ≡ seen_call v.state c
-    → settle v seen unsent played hurry ≡ settle v c unsent played hurry
-seen_settles v seen c unsent played hurry e =
-    ap (λ (x : Call). settle v x unsent played hurry) e ∙ choice_same v.state v.spent c unsent (is_pondered v.pondered played) hurry
+pub seen_settles : (v : Dialogue) (search_info c : Call) (unsent : Bool) (played : Option Move) (move_now : Bool) → search_info ≡ seen_call v.state c
+    → settle v search_info unsent played move_now ≡ settle v c unsent played move_now
+seen_settles v search_info c unsent played move_now e =
+    ap (λ (x : Call). settle v x unsent played move_now) e ∙ choice_same v.state v.spent c unsent (is_pondered v.pondered played) move_now

@@ -25,15 +25,15 @@ use Rattle.uci_lines.specs.Messages.{EngineMsg}
 use Rattle.uci_lines.specs.Messages as hears
 use Rattle.uci_lines.specs.Engine.{engine_message}
 use Rattle.game_record.specs.declared.ending.GameEnd.{GameEnd}
-use Rattle.game_record.specs.Game.{Game, now_of}
+use Rattle.game_record.specs.Game.{Game, current_position}
 use Rattle.game_record.specs.Ending.{ended_of}
 use Rattle.option_map.specs.Settings.{OptionSetting}
 use Rattle.option_map.specs.Shown.{takes_tables}
 use Rattle.uci_lines.specs.declared.messages.Score.{Score}
 use Rattle.think_text.specs.Line.{thinking_line, line_with, legal_run, run_texts, hint_text}
-use Rattle.option_map.specs.declared.talk.ProtoverAnswer.{ProtoverAnswer}
-use Rattle.option_map.specs.declared.talk.ProtoverAnswer.TheVariants as say
-use Rattle.option_map.specs.Due.{answer}
+use Rattle.option_map.specs.declared.negotiation.ProtoverAnswer.{ProtoverAnswer}
+use Rattle.option_map.specs.declared.negotiation.ProtoverAnswer.TheVariants as say
+use Rattle.option_map.specs.Due.{protover_answer}
 use Rattle.option_map.specs.Features.{feature_list, tables, option_feature, shown_options}
 use Rattle.policy_rules.specs.declared.settings.Settings.{Settings}
 use Rattle.search_epochs.specs.declared.words.EngineState.{EngineState}
@@ -43,14 +43,14 @@ use Rattle.search_epochs.specs.Dialogue.{forget}
 use Rattle.desk_rules.specs.declared.effect.Refusal.{Refusal}
 use Rattle.desk_rules.specs.declared.effect.Refusal.TheVariants as refusals
 use Rattle.desk_rules.specs.declared.desk.Desk.{Desk}
-use Rattle.desk_rules.specs.Desk.{Situation, is_boot, is_getting, is_gone, current, table, on_move, played, plays}
-use Rattle.desk_rules.specs.Lines.{Verdict, Refused, Accepted, Early, verdict, change, refused_option, early_answer}
-use Rattle.desk_rules.specs.Steps.{Effect, Nothing, LongLine, Refuses, Accepts, Names, Declares, Boots, Readies, Thinks, Shows, Forfeits, Dies, classify, line_effect, engine_says, answers, shows, thinks, searched_by, resigns_after, resigns_at_end, resigns_when_gone, desk_after_effect}
-use Rattle.desk_rules.specs.Replies.{refused, result_by, result_of, protover_row, offer_where, hint_row, row_accepted, list_where, resign_where, early_refusal, early_refusals, row, is_told, named_hint, spelling_of, replies_of}
-use Rattle.adapter_core.specs.Trace.{State, state, situation, effect, replies, owed_after, closed_after}
-use Rattle.adapter_core.specs.Shown.{Answers, MovesAreShownInTime, MovesAreShownOnce, moves_told}
+use Rattle.desk_rules.specs.Desk.{Situation, is_boot, is_getting, is_gone, current, table, on_move, game_played, plays}
+use Rattle.desk_rules.specs.Lines.{Verdict, Refused, Accepted, Early, line_verdict, change, refused_option, early_answer}
+use Rattle.desk_rules.specs.Steps.{Effect, Nothing, LongLine, Refuses, Accepts, Names, Declares, Boots, Readies, Thinks, Shows, Forfeits, Dies, classify, line_effect, engine_says, answers, shows, search_reports, searched_by, resigns_after, resigns_at_end, resigns_when_gone, desk_after_effect}
+use Rattle.desk_rules.specs.Replies.{refused, result_reply_by, result_reply_of, protover_row, offer_where, hint_row, row_accepted, list_where, resign_where, early_refusal, early_refusals, reply_row, shows_thinking, named_hint, spelling_of, replies_of}
+use Rattle.adapter_core.specs.Trace.{State, state, situation_of_state, effect, step_replies, owed_after, closed_after}
+use Rattle.adapter_core.specs.Shown.{AnswersWithMove, MovesAreShownInTime, MovesAreShownOnce, moves_shown}
 
--- LINES THAT TELL A MOVE
+-- LINES THAT SHOW A MOVE
 
 none_in : {X : Type 0} (x : X) → Contains [] x → ⊥
 none_in x c = absurd (omega (arith, c.1))
@@ -71,97 +71,97 @@ is_first x xs = Contains-append_left (x ∷ []) xs x (Contains-push [] x)
 named : (a b : AnyMove) → reply.Move a ≡ reply.Move b → a ≡ b
 named a b e = cc
 
-told_first : (b m : AnyMove) (lines : List Reply) → (reply.Move b ≡ reply.Move m) ⊎ Contains lines (reply.Move m) → (Contains lines (reply.Move m) → Contains (moves_told lines) m) → Contains (b ∷ moves_told lines) m
-told_first b m lines (inl e) f = subst (λ (x : AnyMove). Contains (b ∷ moves_told lines) x) (named b m e) (is_first b (moves_told lines))
-told_first b m lines (inr c) f = Contains-append_right (b ∷ []) (moves_told lines) m (f c)
+shown_first : (b m : AnyMove) (lines : List Reply) → (reply.Move b ≡ reply.Move m) ⊎ Contains lines (reply.Move m) → (Contains lines (reply.Move m) → Contains (moves_shown lines) m) → Contains (b ∷ moves_shown lines) m
+shown_first b m lines (inl e) f = subst (λ (x : AnyMove). Contains (b ∷ moves_shown lines) x) (named b m e) (is_first b (moves_shown lines))
+shown_first b m lines (inr c) f = Contains-append_right (b ∷ []) (moves_shown lines) m (f c)
 
 later : (A B C : Type 0) → A ⊎ B → (A → ⊥) → (B → C) → C
 later A B C (inl a) n f = absurd (n a)
 later A B C (inr b) n f = f b
 
--- a line that tells a move tells one of the moves told
-is_told_in : (lines : List Reply) (m : AnyMove) → Contains lines (reply.Move m) → Contains (moves_told lines) m
-is_told_in [] m c = absurd (none_in (reply.Move m) c)
-is_told_in (reply.Move b ∷ lines) m c = told_first b m lines (first_or_later (reply.Move b) lines (reply.Move m) c) (is_told_in lines m)
-is_told_in (line ∷ lines) m c = later (line ≡ reply.Move m) (Contains lines (reply.Move m)) (Contains (moves_told lines) m) (first_or_later line lines (reply.Move m) c) (λ e. cc) (is_told_in lines m)
+-- a line that shows a move shows one of the moves shown
+is_shown_in : (lines : List Reply) (m : AnyMove) → Contains lines (reply.Move m) → Contains (moves_shown lines) m
+is_shown_in [] m c = absurd (none_in (reply.Move m) c)
+is_shown_in (reply.Move b ∷ lines) m c = shown_first b m lines (first_or_later (reply.Move b) lines (reply.Move m) c) (is_shown_in lines m)
+is_shown_in (line ∷ lines) m c = later (line ≡ reply.Move m) (Contains lines (reply.Move m)) (Contains (moves_shown lines) m) (first_or_later line lines (reply.Move m) c) (λ e. cc) (is_shown_in lines m)
 
 -- the moves of lines that stand one after the other
-joined : (xs ys : List Reply) → moves_told (xs ++ ys) ≡ moves_told xs ++ moves_told ys
+joined : (xs ys : List Reply) → moves_shown (xs ++ ys) ≡ moves_shown xs ++ moves_shown ys
 joined [] ys = refl
 joined (reply.Move m ∷ xs) ys = ap (λ (l : List AnyMove). m ∷ l) (joined xs ys)
 joined (x ∷ xs) ys = joined xs ys
 
-none_joined : (xs ys : List Reply) → moves_told xs ≡ [] → moves_told ys ≡ [] → moves_told (xs ++ ys) ≡ []
-none_joined xs ys a b = joined xs ys ∙ ap (λ (l : List AnyMove). l ++ moves_told ys) a ∙ b
+none_joined : (xs ys : List Reply) → moves_shown xs ≡ [] → moves_shown ys ≡ [] → moves_shown (xs ++ ys) ≡ []
+none_joined xs ys a b = joined xs ys ∙ ap (λ (l : List AnyMove). l ++ moves_shown ys) a ∙ b
 
 -- ROWS WITHOUT A MOVE
 
-no_pongs : (b : Bool) (ns : List ℕ) → moves_told (cond b [] (map reply.Pong ns)) ≡ []
+no_pongs : (b : Bool) (ns : List ℕ) → moves_shown (cond b [] (map reply.Pong ns)) ≡ []
 no_pongs true ns = refl
 no_pongs false [] = refl
 no_pongs false (n ∷ ns) = no_pongs false ns
 
-no_options : (os : List OptionSetting) → moves_told (map option_feature os) ≡ []
+no_options : (os : List OptionSetting) → moves_shown (map option_feature os) ≡ []
 no_options [] = refl
 no_options (o ∷ os) = no_options os
 
-no_tables : (b : Bool) → moves_told (tables b) ≡ []
+no_tables : (b : Bool) → moves_shown (tables b) ≡ []
 no_tables true = refl
 no_tables false = refl
 
-no_features : (os : List OptionSetting) (said : List ℕ) → moves_told (feature_list os said) ≡ []
+no_features : (os : List OptionSetting) (said : List ℕ) → moves_shown (feature_list os said) ≡ []
 no_features os said =
     let last = reply.Feature (codes "done") (codes "1") ∷ [] in
     none_joined (tables (takes_tables os) ++ map option_feature (shown_options os)) last
     (none_joined (tables (takes_tables os)) (map option_feature (shown_options os)) (no_tables (takes_tables os)) (no_options (shown_options os))) refl
 
-no_list : (b : Bool) (d : Desk) → moves_told (list_where b d) ≡ []
+no_list : (b : Bool) (d : Desk) → moves_shown (list_where b d) ≡ []
 no_list true d = no_features (table d) d.name
 no_list false d = refl
 
-no_resign : (b : Bool) → moves_told (resign_where b) ≡ []
+no_resign : (b : Bool) → moves_shown (resign_where b) ≡ []
 no_resign true = refl
 no_resign false = refl
 
-no_offer : (b : Bool) → moves_told (offer_where b) ≡ []
+no_offer : (b : Bool) → moves_shown (offer_where b) ≡ []
 no_offer true = refl
 no_offer false = refl
 
-no_result : (side : Side) (end : Option GameEnd) → moves_told (result_by side end) ≡ []
+no_result : (side : Side) (end : Option GameEnd) → moves_shown (result_reply_by side end) ≡ []
 no_result side None = refl
 no_result side (Some end) = refl
 
-no_result_at : (b : Bool) (g : Game) → moves_told (cond b (result_of g) []) ≡ []
+no_result_at : (b : Bool) (g : Game) → moves_shown (cond b (result_reply_of g) []) ≡ []
 no_result_at true g = no_result (on_move g) (ended_of g)
 no_result_at false g = refl
 
-no_hint : (hint : Option AnyMove) → moves_told (hint_row hint) ≡ []
+no_hint : (hint : Option AnyMove) → moves_shown (hint_row hint) ≡ []
 no_hint None = refl
 no_hint (Some m) = refl
 
-no_wait : (s : ProtoverAnswer) (d : Desk) → moves_told (protover_row s d) ≡ []
+no_wait : (s : ProtoverAnswer) (d : Desk) → moves_shown (protover_row s d) ≡ []
 no_wait say.Wait d = refl
 no_wait say.List d = no_features (table d) d.name
 
-no_refusal : (r : Refusal) (line : List ℕ) → moves_told (refused r line ∷ []) ≡ []
+no_refusal : (r : Refusal) (line : List ℕ) → moves_shown (refused r line ∷ []) ≡ []
 no_refusal (refusals.Because reason) line = refl
 no_refusal (refusals.IllegalMove m) line = refl
 no_refusal (refusals.GameTooLong m) line = refl
 no_refusal refusals.IllegalPosition line = refl
 
-no_line : (depth : Option ℕ) (score : Option Score) (texts : List (List ℕ)) (facts : Info) (s : Spelling) (hint : Option (List ℕ)) → moves_told (option_to_list (line_with depth score texts facts s hint)) ≡ []
+no_line : (depth : Option ℕ) (score : Option Score) (texts : List (List ℕ)) (facts : Info) (s : Spelling) (hint : Option (List ℕ)) → moves_shown (option_to_list (line_with depth score texts facts s hint)) ≡ []
 no_line (Some depth) (Some score) (text ∷ texts) facts s hint = refl
 no_line (Some depth) (Some score) [] facts s hint = refl
 no_line (Some depth) None texts facts s hint = refl
 no_line None score texts facts s hint = refl
 
-no_thinking : (b : Bool) (x : Option Reply) → moves_told (option_to_list x) ≡ [] → moves_told (cond b (option_to_list x) []) ≡ []
+no_thinking : (b : Bool) (x : Option Reply) → moves_shown (option_to_list x) ≡ [] → moves_shown (cond b (option_to_list x) []) ≡ []
 no_thinking true x e = e
 no_thinking false x e = refl
 
-no_answer : (h : Situation) (m : IfaceMsg) → moves_told (row_accepted h m) ≡ []
+no_answer : (h : Situation) (m : IfaceMsg) → moves_shown (row_accepted h m) ≡ []
 unfolding row_accepted
-no_answer h (says.Protover n) = no_wait (answer (is_boot h.engine)) h.desk
+no_answer h (says.Protover n) = no_wait (protover_answer (is_boot h.engine)) h.desk
 no_answer h (says.UserMove m) = no_result_at (plays (change false h.desk (says.UserMove m)).mode) (change false h.desk (says.UserMove m)).game
 no_answer h says.Go = no_result_at (plays (change false h.desk says.Go).mode) (change false h.desk says.Go).game
 no_answer h says.PlayOther = no_result_at (plays (change false h.desk says.PlayOther).mode) (change false h.desk says.PlayOther).game
@@ -169,11 +169,11 @@ no_answer h says.Draw = no_offer _
 no_answer h says.Hint = no_hint h.desk.hint
 no_answer h m = refl
 
-no_early_line : (o : Option Refusal) (line : List ℕ) → moves_told (early_refusal o line) ≡ []
+no_early_line : (o : Option Refusal) (line : List ℕ) → moves_shown (early_refusal o line) ≡ []
 no_early_line None line = refl
 no_early_line (Some r) line = no_refusal r line
 
-no_early : (os : List OptionSetting) (lines : List (List ℕ)) → moves_told (early_refusals os lines) ≡ []
+no_early : (os : List OptionSetting) (lines : List (List ℕ)) → moves_shown (early_refusals os lines) ≡ []
 no_early os [] = refl
 no_early os (line ∷ lines) =
     let first = refused_option (early_answer os line) in
@@ -186,29 +186,29 @@ abbrev pub shown_by : Effect → List AnyMove
 shown_by (Shows best hint) = best ∷ []
 shown_by d = []
 
-row_shows : (h : Situation) (d : Effect) → moves_told (row h d) ≡ shown_by d
-unfolding row
+row_shows : (h : Situation) (d : Effect) → moves_shown (reply_row h d) ≡ shown_by d
+unfolding reply_row
 row_shows h (Refuses r line) = no_refusal r line
 row_shows h (Accepts m) = no_answer h m
 row_shows h Boots =
     none_joined (list_where h.desk.due (record h.desk { booted = true })) (early_refusals h.desk.options h.desk.early) (no_list h.desk.due (record h.desk { booted = true })) (no_early h.desk.options h.desk.early)
 row_shows h (Thinks k facts) =
-    let p = now_of (searched_by k h.desk.game h.desk.hint) in
+    let p = current_position (searched_by k h.desk.game h.desk.hint) in
     let s = spelling_of h.settings in
     let hint = named_hint k h.desk.game h.desk.hint in
-    no_thinking (is_told h k) (thinking_line s facts p hint) (no_line facts.depth facts.score (run_texts s p (legal_run p facts.pv)) facts s (hint_text s hint))
+    no_thinking (shows_thinking h k) (thinking_line s facts p hint) (no_line facts.depth facts.score (run_texts s p (legal_run p facts.pv)) facts s (hint_text s hint))
 row_shows h (Shows best hint) =
-    ap (λ (l : List AnyMove). best ∷ l) (none_joined (result_of (played h.desk.game best)) (resign_where (resigns_after h best)) (no_result (on_move (played h.desk.game best)) (ended_of (played h.desk.game best))) (no_resign (resigns_after h best)))
+    ap (λ (l : List AnyMove). best ∷ l) (none_joined (result_reply_of (game_played h.desk.game best)) (resign_where (resigns_after h best)) (no_result (on_move (game_played h.desk.game best)) (ended_of (game_played h.desk.game best))) (no_resign (resigns_after h best)))
 row_shows h Dies = none_joined (list_where h.desk.due h.desk) (reply.TellError _ ∷ resign_where (resigns_at_end h)) (no_list h.desk.due h.desk) (no_resign (resigns_at_end h))
 row_shows h d = refl
 
 -- the moves that are told in an open session
-pub open_shows : (owes : Bool) (h : Situation) (d : Effect) → moves_told (replies_of false owes h d) ≡ shown_by d
+pub open_shows : (owes : Bool) (h : Situation) (d : Effect) → moves_shown (replies_of false owes h d) ≡ shown_by d
 open_shows owes h d =
     let pongs = cond owes [] (map reply.Pong (desk_after_effect h d).pings) in
     let resign = resign_where (resigns_when_gone false h d) in
-    joined (row h d ++ resign) pongs ∙ ap (λ (l : List AnyMove). moves_told (row h d ++ resign) ++ l) (no_pongs owes (desk_after_effect h d).pings) ∙ append_none (moves_told (row h d ++ resign))
-    ∙ joined (row h d) resign ∙ ap (λ (l : List AnyMove). moves_told (row h d) ++ l) (no_resign (resigns_when_gone false h d)) ∙ append_none (moves_told (row h d)) ∙ row_shows h d where
+    joined (reply_row h d ++ resign) pongs ∙ ap (λ (l : List AnyMove). moves_shown (reply_row h d ++ resign) ++ l) (no_pongs owes (desk_after_effect h d).pings) ∙ append_none (moves_shown (reply_row h d ++ resign))
+    ∙ joined (reply_row h d) resign ∙ ap (λ (l : List AnyMove). moves_shown (reply_row h d) ++ l) (no_resign (resigns_when_gone false h d)) ∙ append_none (moves_shown (reply_row h d)) ∙ row_shows h d where
       append_none : (l : List AnyMove) → l ++ [] ≡ l
       append_none [] = refl
       append_none (m ∷ l) = ap (λ (xs : List AnyMove). m ∷ xs) (append_none l)
@@ -217,14 +217,14 @@ shown_few : (d : Effect) → length (shown_by d) ≤ 1
 shown_few (Shows best hint) = omega arith
 shown_few d = omega arith
 
-few_by : (closed owes : Bool) (h : Situation) (d : Effect) → length (moves_told (replies_of closed owes h d)) ≤ 1
+few_by : (closed owes : Bool) (h : Situation) (d : Effect) → length (moves_shown (replies_of closed owes h d)) ≤ 1
 few_by true owes h d = omega arith
 few_by false owes h d = subst (λ (l : List AnyMove). length l ≤ 1) (sym (open_shows owes h d)) (shown_few d)
 
 pub once : (o : Settings) → MovesAreShownOnce o
 once o step t l =
     let s = state o t in
-    subst (λ (rs : List Reply). length (moves_told rs) ≤ 1) (sym l.1.replies) (few_by (closed_after s step.event) (is_move (owed_after s step.event)) (situation s) (effect s step.event))
+    subst (λ (rs : List Reply). length (moves_shown rs) ≤ 1) (sym l.1.replies) (few_by (closed_after s step.event) (is_move (owed_after s step.event)) (situation_of_state s) (effect s step.event))
 
 -- FROM THE MOVE TO THE ANSWER
 
@@ -238,18 +238,18 @@ record SaysIt (h : Situation) (message : EngineMsg) (m : AnyMove) : Type 0 where
   stopped : Bool
   best : message ≡ hears.Best (Some m) hint
   engine : h.engine ≡ states.Search kinds.Move false stopped
-  is_legal : legal (now_of h.desk.game) m ≡ true
+  is_legal : legal (current_position h.desk.game) m ≡ true
 
-legal_back : (g : Game) (b : AnyMove) (hint : Option AnyMove) (m : AnyMove) (hint' : Option AnyMove) (x : Bool) → legal (now_of g) b ≡ x → cond x (Shows b hint) Forfeits ≡ Shows m hint'
-    → (b ≡ m) × (legal (now_of g) m ≡ true)
-legal_back g b hint m hint' true l e = let same : b ≡ m = cc in (same, subst (λ (y : AnyMove). legal (now_of g) y ≡ true) same l)
+legal_back : (g : Game) (b : AnyMove) (hint : Option AnyMove) (m : AnyMove) (hint' : Option AnyMove) (x : Bool) → legal (current_position g) b ≡ x → cond x (Shows b hint) Forfeits ≡ Shows m hint'
+    → (b ≡ m) × (legal (current_position g) m ≡ true)
+legal_back g b hint m hint' true l e = let same : b ≡ m = cc in (same, subst (λ (y : AnyMove). legal (current_position g) y ≡ true) same l)
 legal_back g b hint m hint' false l e = absurd (cc)
 
 shows_back : (h : Situation) (message : EngineMsg) (stopped : Bool) (best hint : Option AnyMove) (m : AnyMove) (hint' : Option AnyMove) → message ≡ hears.Best best hint
     → h.engine ≡ states.Search kinds.Move false stopped → shows h.desk.game best hint ≡ Shows m hint' → SaysIt h message m
 shows_back h message stopped None hint m hint' i n e = absurd (cc)
 shows_back h message stopped (Some b) hint m hint' i n e =
-    let back = legal_back h.desk.game b hint m hint' (legal (now_of h.desk.game) b) refl e in
+    let back = legal_back h.desk.game b hint m hint' (legal (current_position h.desk.game) b) refl e in
     record { hint = hint; stopped = stopped; best = i ∙ ap (λ (x : AnyMove). hears.Best (Some x) hint) back.0; engine = n; is_legal = back.1 }
 
 answers_back : (h : Situation) (message : EngineMsg) (x : EngineState) (best hint : Option AnyMove) (m : AnyMove) (hint' : Option AnyMove) → message ≡ hears.Best best hint
@@ -257,7 +257,7 @@ answers_back : (h : Situation) (message : EngineMsg) (x : EngineState) (best hin
 answers_back h message (states.Search kinds.Move false stopped) best hint m hint' i n e = shows_back h message stopped best hint m hint' i n e
 answers_back h message x best hint m hint' i n e = absurd (cc)
 
-thinks_not : (k : Option GoKind) (facts : Info) (m : AnyMove) (hint : Option AnyMove) → thinks k facts ≡ Shows m hint → ⊥
+thinks_not : (k : Option GoKind) (facts : Info) (m : AnyMove) (hint : Option AnyMove) → search_reports k facts ≡ Shows m hint → ⊥
 thinks_not None facts m hint e = cc
 thinks_not (Some k) facts m hint e = cc
 
@@ -294,11 +294,11 @@ engine_back epoch (Search k t s') s e =
     ap (λ (x : GoKind). Search x t s') kind ∙ ap (λ (x : ℕ). Search kinds.Move x s') same ∙ ap (λ (x : Bool). Search kinds.Move epoch x) stop
 
 -- an event whose effect shows m answers with m
-answer_back : (s : State) (e : Event) (m : AnyMove) (hint : Option AnyMove) → effect s e ≡ Shows m hint → Answers s e m
+answer_back : (s : State) (e : Event) (m : AnyMove) (hint : Option AnyMove) → effect s e ≡ Shows m hint → AnswersWithMove s e m
 unfolding classify
 answer_back s (events.Engine line) m hint e =
-    let o = open_back s.ends.closed (engine_says (situation s) (engine_message line)) m hint e in
-    let said = says_back (situation s) (engine_message line) m hint o.1 in
+    let o = open_back s.ends.closed (engine_says (situation_of_state s) (engine_message line)) m hint e in
+    let said = says_back (situation_of_state s) (engine_message line) m hint o.1 in
     record {
       line = line;
       hint = said.hint;
@@ -309,13 +309,13 @@ answer_back s (events.Engine line) m hint e =
       current = engine_back s.dialogue.epoch s.dialogue.engine said.stopped said.engine;
       is_legal = said.is_legal;
     }
-answer_back s (events.Iface line) m hint e = absurd (line_not (verdict (situation s) s.held line (message_or_fault line)) line m hint (open_back s.ends.closed _ m hint e).1)
+answer_back s (events.Iface line) m hint e = absurd (line_not (line_verdict (situation_of_state s) s.held line (message_or_fault line)) line m hint (open_back s.ends.closed _ m hint e).1)
 answer_back s events.IfaceLong m hint e = let o = open_back s.ends.closed LongLine m hint e in absurd (cc (o.1))
-answer_back s events.EngineEnd m hint e = absurd (dies_not (is_gone (situation s).engine) e) where
+answer_back s events.EngineEnd m hint e = absurd (dies_not (is_gone (situation_of_state s).engine) e) where
   dies_not : (b : Bool) → cond b Nothing Dies ≡ Shows m hint → ⊥
   dies_not true e = cc
   dies_not false e = cc
-answer_back s events.EngineLost m hint e = absurd (dies_not (is_gone (situation s).engine) e) where
+answer_back s events.EngineLost m hint e = absurd (dies_not (is_gone (situation_of_state s).engine) e) where
   dies_not : (b : Bool) → cond b Nothing Dies ≡ Shows m hint → ⊥
   dies_not true e = cc
   dies_not false e = cc
@@ -328,9 +328,9 @@ shown_is (Shows best hint) m c = (hint, ap (λ (x : AnyMove). Shows x hint) (alo
   alone (inr n) = absurd (none_in m n)
 shown_is d m c = absurd (none_in m c)
 
-told_by : (closed owes : Bool) (h : Situation) (d : Effect) (m : AnyMove) → Contains (replies_of closed owes h d) (reply.Move m) → (hint : Option AnyMove) × (d ≡ Shows m hint)
-told_by true owes h d m c = absurd (none_in (reply.Move m) c)
-told_by false owes h d m c = shown_is d m (subst (λ (l : List AnyMove). Contains l m) (open_shows owes h d) (is_told_in (replies_of false owes h d) m c))
+shown_reply_by : (closed owes : Bool) (h : Situation) (d : Effect) (m : AnyMove) → Contains (replies_of closed owes h d) (reply.Move m) → (hint : Option AnyMove) × (d ≡ Shows m hint)
+shown_reply_by true owes h d m c = absurd (none_in (reply.Move m) c)
+shown_reply_by false owes h d m c = shown_is d m (subst (λ (l : List AnyMove). Contains l m) (open_shows owes h d) (is_shown_in (replies_of false owes h d) m c))
 
 -- FROM THE ANSWER TO THE MOVE
 
@@ -346,29 +346,29 @@ open_effect true d e = cc
 open_effect false d e = refl
 
 event_shows : (s : State) (line : List ℕ) (m : AnyMove) (hint : Option AnyMove) (stopped : Bool) → engine_message line ≡ hears.Best (Some m) hint → s.ends.closed ≡ false
-    → s.dialogue.engine ≡ Search kinds.Move s.dialogue.epoch stopped → legal (now_of s.desk.game) m ≡ true → effect s (events.Engine line) ≡ Shows m hint
+    → s.dialogue.engine ≡ Search kinds.Move s.dialogue.epoch stopped → legal (current_position s.desk.game) m ≡ true → effect s (events.Engine line) ≡ Shows m hint
 unfolding classify
 event_shows s line m hint stopped b c n l =
-    open_effect s.ends.closed (engine_says (situation s) (engine_message line)) c
-    ∙ ap (λ (x : EngineMsg). engine_says (situation s) x) b
+    open_effect s.ends.closed (engine_says (situation_of_state s) (engine_message line)) c
+    ∙ ap (λ (x : EngineMsg). engine_says (situation_of_state s) x) b
     ∙ ap (λ (x : Engine). answers (forget s.dialogue.epoch x) s.desk.game (Some m) hint) n
     ∙ ap (λ (x : Bool). answers (states.Search kinds.Move x stopped) s.desk.game (Some m) hint) (ticket_now s.dialogue.epoch)
-    ∙ answer_shows s.desk.game m hint (legal (now_of s.desk.game) m) l
+    ∙ answer_shows s.desk.game m hint (legal (current_position s.desk.game) m) l
 
-effect_shows : (s : State) (e : Event) (m : AnyMove) (a : Answers s e m) → effect s e ≡ Shows m a.hint
+effect_shows : (s : State) (e : Event) (m : AnyMove) (a : AnswersWithMove s e m) → effect s e ≡ Shows m a.hint
 effect_shows s e m a = ap (effect s) a.event ∙ event_shows s a.line m a.hint a.stopped a.best a.is_open a.current a.is_legal
 
 row_first : (owes : Bool) (h : Situation) (m : AnyMove) (hint : Option AnyMove) → Contains (replies_of false owes h (Shows m hint)) (reply.Move m)
-unfolding row
+unfolding reply_row
 row_first owes h m hint =
-    Contains-append_left (row h (Shows m hint) ++ resign_where (resigns_when_gone false h (Shows m hint))) _ (reply.Move m)
-    (Contains-append_left (row h (Shows m hint)) (resign_where (resigns_when_gone false h (Shows m hint))) (reply.Move m) (is_first (reply.Move m) _))
+    Contains-append_left (reply_row h (Shows m hint) ++ resign_where (resigns_when_gone false h (Shows m hint))) _ (reply.Move m)
+    (Contains-append_left (reply_row h (Shows m hint)) (resign_where (resigns_when_gone false h (Shows m hint))) (reply.Move m) (is_first (reply.Move m) _))
 
-tells_it : (closed owes : Bool) (h : Situation) (d : Effect) (m : AnyMove) (hint : Option AnyMove) → closed ≡ false → d ≡ Shows m hint → Contains (replies_of closed owes h d) (reply.Move m)
-tells_it true owes h d m hint c e = absurd (cc)
-tells_it false owes h d m hint c e = subst (λ (x : Effect). Contains (replies_of false owes h x) (reply.Move m)) (sym e) (row_first owes h m hint)
+reports_it : (closed owes : Bool) (h : Situation) (d : Effect) (m : AnyMove) (hint : Option AnyMove) → closed ≡ false → d ≡ Shows m hint → Contains (replies_of closed owes h d) (reply.Move m)
+reports_it true owes h d m hint c e = absurd (cc)
+reports_it false owes h d m hint c e = subst (λ (x : Effect). Contains (replies_of false owes h x) (reply.Move m)) (sym e) (row_first owes h m hint)
 
-closed_still : (s : State) (e : Event) (m : AnyMove) (a : Answers s e m) → closed_after s e ≡ false
+closed_still : (s : State) (e : Event) (m : AnyMove) (a : AnswersWithMove s e m) → closed_after s e ≡ false
 closed_still s e m a = ap (closed_after s) a.event ∙ a.is_open
 
 pub shown : (o : Settings) → MovesAreShownInTime o
@@ -379,13 +379,13 @@ shown o step t l m = (there, back) where
   owes : Bool
   owes = is_move (owed_after s step.event)
 
-  there : Contains step.replies (reply.Move m) → Answers s step.event m
+  there : Contains step.replies (reply.Move m) → AnswersWithMove s step.event m
   there c =
-      let c' : Contains (replies s step.event) (reply.Move m) = subst (λ (rs : List Reply). Contains rs (reply.Move m)) l.1.replies c in
-      let d = told_by (closed_after s step.event) owes (situation s) (effect s step.event) m c' in
+      let c' : Contains (step_replies s step.event) (reply.Move m) = subst (λ (rs : List Reply). Contains rs (reply.Move m)) l.1.replies c in
+      let d = shown_reply_by (closed_after s step.event) owes (situation_of_state s) (effect s step.event) m c' in
       answer_back s step.event m d.0 d.1
 
-  back : Answers s step.event m → Contains step.replies (reply.Move m)
+  back : AnswersWithMove s step.event m → Contains step.replies (reply.Move m)
   back a =
       subst (λ (rs : List Reply). Contains rs (reply.Move m)) (sym l.1.replies)
-      (tells_it (closed_after s step.event) owes (situation s) (effect s step.event) m a.hint (closed_still s step.event m a) (effect_shows s step.event m a))
+      (reports_it (closed_after s step.event) owes (situation_of_state s) (effect s step.event) m a.hint (closed_still s step.event m a) (effect_shows s step.event m a))

@@ -1,4 +1,4 @@
--- What the interface alone commands: the desk as it is folded over the events of the interface,
+-- The commands of the interface alone: the desk as it is folded over the events of the interface,
 -- with an engine that never answers.
 use Rattle.std.specs.Prelude.{ℕ, ◌≡◌, List, [], ◌∷◌, filter, map, Bool, true, false}
 use Rattle.line_io.specs.Event.{Event}
@@ -22,7 +22,7 @@ use Rattle.desk_rules.specs.Steps.{Forfeits, classify, call_after, desk_after}
 use Rattle.desk_rules.specs.Replies.{replies_of}
 use Rattle.adapter_core.specs.declared.ends.Ends.{Ends}
 use Rattle.adapter_core.specs.Ends.{ends_after, at_start}
-use Rattle.adapter_core.specs.Trace.{Step, Lawful, state, situation, effect, event_in}
+use Rattle.adapter_core.specs.Trace.{Step, LawfulTrace, state, situation_of_state, effect, event_of_step}
 
 -- the parts of the desk that the interface commands
 pub record Commanded : Type 0 where
@@ -82,9 +82,9 @@ lone_after o a e = record {
 }
 
 -- after these events, the newest first
-abbrev pub alone : Settings → List Event → Alone
-alone o [] = record { ends = at_start; desk = opening_desk }
-alone o (e ∷ es) = lone_after o (alone o es) e
+abbrev pub commanded_alone : Settings → List Event → Alone
+commanded_alone o [] = record { ends = at_start; desk = opening_desk }
+commanded_alone o (e ∷ es) = lone_after o (commanded_alone o es) e
 
 abbrev pub lone_replies : Settings → Alone → Event → List Reply
 lone_replies o a e =
@@ -101,13 +101,13 @@ is_of_iface events.IfaceLost = true
 is_of_iface e = false
 
 abbrev pub iface_events : List Step → List Event
-iface_events trace = filter is_of_iface (map event_in trace)
+iface_events trace = filter is_of_iface (map event_of_step trace)
 
 -- an answer to a current search for a Move
-abbrev pub is_answer : Effect → Bool
-is_answer (Shows best hint) = true
-is_answer Forfeits = true
-is_answer d = false
+abbrev pub is_move_answer : Effect → Bool
+is_move_answer (Shows best hint) = true
+is_move_answer Forfeits = true
+is_move_answer d = false
 
 -- a line that asks for more than may be held
 abbrev pub is_overfull : Effect → Bool
@@ -118,45 +118,45 @@ is_overfull d = false
 abbrev pub IsUnanswered : Settings → List Step → Type 0
 IsUnanswered o [] = Unit {0}
 IsUnanswered o (step ∷ trace) =
-    IsUnanswered o trace × (is_answer (effect (state o trace) step.event) ≡ false)
+    IsUnanswered o trace × (is_move_answer (effect (state o trace) step.event) ≡ false)
     × (is_overfull (effect (state o trace) step.event) ≡ false)
 
 -- and the engine is there
 pub record IsWithoutSay (o : Settings) (trace : List Step) : Type 0 where
   pub unanswered : IsUnanswered o trace
-  pub there : is_gone (situation (state o trace)).engine ≡ false
+  pub there : is_gone (situation_of_state (state o trace)).engine ≡ false
 
 -- the replies to these may report on the engine's options and of its search
-abbrev pub tells_of_engine : Effect → Bool
-tells_of_engine (Accepts (says.Protover n)) = true
-tells_of_engine (Accepts (says.SetOption name value)) = true
-tells_of_engine (Accepts (says.Memory n)) = true
-tells_of_engine (Accepts (says.Cores n)) = true
-tells_of_engine (Accepts (says.EgtPath kind path)) = true
-tells_of_engine (Accepts says.Dot) = true
-tells_of_engine (Defers line) = true
-tells_of_engine (Refuses (refusals.Because reasons.UnknownOption) line) = true
-tells_of_engine (Refuses (refusals.Because reasons.BadValue) line) = true
-tells_of_engine d = false
+abbrev pub may_report_engine : Effect → Bool
+may_report_engine (Accepts (says.Protover n)) = true
+may_report_engine (Accepts (says.SetOption name value)) = true
+may_report_engine (Accepts (says.Memory n)) = true
+may_report_engine (Accepts (says.Cores n)) = true
+may_report_engine (Accepts (says.EgtPath kind path)) = true
+may_report_engine (Accepts says.Dot) = true
+may_report_engine (Defers line) = true
+may_report_engine (Refuses (refusals.Because reasons.UnknownOption) line) = true
+may_report_engine (Refuses (refusals.Because reasons.BadValue) line) = true
+may_report_engine d = false
 
 -- If the engine has no say, the parts that the interface commands are those of the interface alone.
 abbrev pub DeskIsAlone : Settings → Type 0
 DeskIsAlone o =
-    (trace : List Step) → Lawful o trace → IsWithoutSay o trace
-    → commanded_part (state o trace).desk ≡ commanded_part (alone o (iface_events trace)).desk
+    (trace : List Step) → LawfulTrace o trace → IsWithoutSay o trace
+    → commanded_part (state o trace).desk ≡ commanded_part (commanded_alone o (iface_events trace)).desk
 
 -- And so are the replies to its events, except those that report on the engine.
 abbrev pub RepliesAreAlone : Settings → Type 0
 RepliesAreAlone o =
-    (step : Step) (trace : List Step) → Lawful o (step ∷ trace) → IsWithoutSay o (step ∷ trace)
+    (step : Step) (trace : List Step) → LawfulTrace o (step ∷ trace) → IsWithoutSay o (step ∷ trace)
     → is_of_iface step.event ≡ true
-    → tells_of_engine (effect (state o trace) step.event) ≡ false
-    → step.replies ≡ lone_replies o (alone o (iface_events trace)) step.event
+    → may_report_engine (effect (state o trace) step.event) ≡ false
+    → step.replies ≡ lone_replies o (commanded_alone o (iface_events trace)) step.event
 
 -- So two traces with the same events of the interface have the same parts, whenever
 -- the engine spoke in them.
 abbrev pub IsApartFromEngine : Settings → Type 0
 IsApartFromEngine o =
-    (trace trace' : List Step) → Lawful o trace → Lawful o trace' → IsWithoutSay o trace
+    (trace trace' : List Step) → LawfulTrace o trace → LawfulTrace o trace' → IsWithoutSay o trace
     → IsWithoutSay o trace' → iface_events trace ≡ iface_events trace'
     → commanded_part (state o trace).desk ≡ commanded_part (state o trace').desk

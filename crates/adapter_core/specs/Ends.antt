@@ -1,8 +1,8 @@
--- Which events may come.
+-- The events that may come.
 use Rattle.std.specs.Prelude.{Bool, true, false, not, ◌&&◌, ◌||◌}
 use Rattle.line_io.specs.Event.{Event, is_line}
 use Rattle.line_io.specs.Event as events
-use Rattle.cecp_lines.specs.Quit.{is_quit}
+use Rattle.peer_words.specs.Quit.{is_quit}
 use Rattle.adapter_core.specs.declared.ends.Ends.{Ends}
 
 -- The event may come: Open is the first event and only the first, no event of a side follows that
@@ -45,5 +45,5 @@ at_start = record {
 }
 
 -- both sides have ended
-abbrev pub is_over : Ends → Bool
-is_over ends = ends.iface && ends.engine
+abbrev pub are_both_ended : Ends → Bool
+are_both_ended ends = ends.iface && ends.engine

@@ -2,6 +2,6 @@ pub mod Alone
 pub mod Ends
 pub mod Lending
 pub mod Shown
-pub mod Stands
+pub mod Represents
 pub mod Trace
 pub mod Parts

@@ -9,17 +9,17 @@ use Rattle.line_io.specs.Event as events
 use Rattle.cecp_lines.specs.Replies.{Reply, Move}
 use Rattle.uci_lines.specs.Messages.{Best}
 use Rattle.uci_lines.specs.Engine.{engine_message}
-use Rattle.game_record.specs.Game.{now_of}
+use Rattle.game_record.specs.Game.{current_position}
 use Rattle.policy_rules.specs.declared.settings.Settings.{Settings}
 use Rattle.search_epochs.specs.Tickets.{Search}
 use Rattle.desk_rules.specs.declared.effect.Refusal.{Refusal}
 use Rattle.desk_rules.specs.Steps.{Refuses}
-use Rattle.adapter_core.specs.Trace.{State, Step, Lawful, state, effect}
+use Rattle.adapter_core.specs.Trace.{State, Step, LawfulTrace, state, effect}
 
 -- An event answers with a legal move: in a session that is not closed the engine's line is a
 -- `bestmove`, the open search is for a move and was begun or renewed for the present epoch, and the
 -- move is legal in the game.
-pub record Answers (s : State) (e : Event) (m : AnyMove) : Type 0 where
+pub record AnswersWithMove (s : State) (e : Event) (m : AnyMove) : Type 0 where
   pub line : List ℕ
   pub hint : Option AnyMove
   pub stopped : Bool
@@ -27,28 +27,28 @@ pub record Answers (s : State) (e : Event) (m : AnyMove) : Type 0 where
   pub best : engine_message line ≡ Best (Some m) hint
   pub is_open : s.ends.closed ≡ false
   pub current : s.dialogue.engine ≡ Search kinds.Move s.dialogue.epoch stopped
-  pub is_legal : legal (now_of s.desk.game) m ≡ true
+  pub is_legal : legal (current_position s.desk.game) m ≡ true
 
 -- `move m` is written exactly in the step whose event answers with m.
 abbrev pub MovesAreShownInTime : Settings → Type 0
 MovesAreShownInTime o =
-    (step : Step) (t : List Step) → Lawful o (step ∷ t) → (m : AnyMove)
-    → Contains step.replies (Move m) ↔ Answers (state o t) step.event m
+    (step : Step) (t : List Step) → LawfulTrace o (step ∷ t) → (m : AnyMove)
+    → Contains step.replies (Move m) ↔ AnswersWithMove (state o t) step.event m
 
 -- the moves that these lines show
-abbrev pub moves_told : List Reply → List AnyMove
-moves_told [] = []
-moves_told (Move m ∷ rest) = m ∷ moves_told rest
-moves_told (line ∷ rest) = moves_told rest
+abbrev pub moves_shown : List Reply → List AnyMove
+moves_shown [] = []
+moves_shown (Move m ∷ rest) = m ∷ moves_shown rest
+moves_shown (line ∷ rest) = moves_shown rest
 
 -- It is written once.
 abbrev pub MovesAreShownOnce : Settings → Type 0
 MovesAreShownOnce o =
-    (step : Step) (t : List Step) → Lawful o (step ∷ t) → length (moves_told step.replies) ≤ 1
+    (step : Step) (t : List Step) → LawfulTrace o (step ∷ t) → length (moves_shown step.replies) ≤ 1
 
 -- A refused line changes nothing, and the engine gets nothing.
 abbrev pub RefusedLinesChangeNothing : Settings → Type 0
 RefusedLinesChangeNothing o =
-    (step : Step) (t : List Step) → Lawful o (step ∷ t) → (r : Refusal) (line : List ℕ)
+    (step : Step) (t : List Step) → LawfulTrace o (step ∷ t) → (r : Refusal) (line : List ℕ)
     → effect (state o t) step.event ≡ Refuses r line
     → (state o (step ∷ t) ≡ state o t) × (step.orders ≡ [])

@@ -1,4 +1,4 @@
-// Which sides have begun and ended.
+// The sides that have begun, and those that have ended.
 ghost use Rattle.std.specs.Prelude.{◌≡◌};
 ghost use Rattle.line_io.specs.Event.{event_of, is_line};
 ghost use Rattle.desk_rules.specs.Steps.{quits as quits_by};
@@ -6,7 +6,7 @@ ghost use Rattle.adapter_core.specs.Ends.{may, ends_after};
 
 use line_io::{Event, PEER_LINE};
 
-/// Which sides have begun and ended.
+/// The sides that have begun, and those that have ended.
 #[derive(Clone, Copy, PartialEq, Eq)]
 pub struct Ends {
     pub opened: bool,
@@ -26,7 +26,7 @@ fn is_line(line: &[u8]) -> bool
 }
 
 impl Ends {
-    /// Whether the event may come.
+    /// True if the event may come.
     pub fn may(&self, event: &Event) -> bool
         ensures { result ≡ may self.now (event_of event.now) }
     {

@@ -1,4 +1,4 @@
-// What holds of every lawful trace: functions that do nothing, whose contracts are laws.
+// The laws of every lawful trace: functions that do nothing, whose contracts are laws.
 ghost use Rattle.adapter_core.specs.Alone.{DeskIsAlone, IsApartFromEngine, RepliesAreAlone};
 ghost use Rattle.adapter_core.specs.Shown.{MovesAreShownInTime, MovesAreShownOnce, RefusedLinesChangeNothing};
 

@@ -6,8 +6,8 @@ ghost use Rattle.line_io.specs.Out.{empty};
 ghost use Rattle.policy_rules.specs.Policy.{IsProper};
 ghost use Rattle.desk_rules.specs.Desk.{at};
 ghost use Rattle.desk_rules.specs.Steps.{effect_of, starts_from, begins_epoch as epoch_begun, classify, quits as quits_by};
-ghost use Rattle.adapter_core.specs.Ends.{may, is_over};
-ghost use Rattle.adapter_core.specs.Parts.{opening, situation, CanFollow, IsReadyFor};
+ghost use Rattle.adapter_core.specs.Ends.{may, are_both_ended};
+ghost use Rattle.adapter_core.specs.Parts.{opening_core_parts, situation_of_parts, CoreCanFollow, IsReadyFor};
 ghost use Rattle.line_io.specs.declared.limits.TheConstants.{SCRIPT_LINE};
 ghost use Rattle.adapter_core.specs.declared.session.TheConstants.{ALL_REPLIES, ROOM};
 ghost use Rattle.desk_rules.specs.declared.sizes.TheConstants.{STEP_ORDERS};
@@ -16,7 +16,7 @@ use crate::Ends;
 use crate::steps::{
     StepStage, choose, is_hit, is_move, is_open, is_unsent, put_orders, release, seen_call,
 };
-use desk_rules::{Context, Desk, Effect, Ruling, STEP_REPLIES, is_gone};
+use desk_rules::{Context, Desk, Effect, EventEffect, STEP_REPLIES, is_gone};
 use game_record::Game;
 use line_io::{Event, NoMemory, Out, SCRIPT_LINE};
 use option_map::HeldOrders;
@@ -47,12 +47,12 @@ pub(crate) struct CoreParts {
 impl CoreParts {
     ghost use Rattle.adapter_core.specs.Parts.{advance, advance_from};
 
-    // What is seen beside the desk.
+    // The context of the desk.
     fn context(&self) -> Context
-        ensures { at result self.now.desk ≡ situation self.now }
+        ensures { at result self.now.desk ≡ situation_of_parts self.now }
     {
         let mut next = self.scores;
-        next.shown(self.desk.seen.score);
+        next.shown(self.desk.search_info.score);
         Context {
             settings: self.settings,
             closed: self.ends.closed,
@@ -66,8 +66,8 @@ impl CoreParts {
     // Takes an event: what comes of it is decided, and what it asks for joins what is held.
     #[tactic(auto, unfolding(crate::specs::Parts::advance))]
     fn take(&mut self, event: &Event)
-        requires ready { IsReadyFor (situation self.old) self.old
-            (classify (situation self.old) self.old.held (event_of event.now)) }
+        requires ready { IsReadyFor (situation_of_parts self.old) self.old
+            (classify (situation_of_parts self.old) self.old.held (event_of event.now)) }
         ensures after { self.new ≡ advance self.old (event_of event.now) }
         ensures iface { length self.new.to_iface.text ≤ ALL_REPLIES }
         ensures engine { length self.new.to_engine.text ≤ STEP_ORDERS }
@@ -77,45 +77,46 @@ impl CoreParts {
         let context = self.context();
         let decision = self.desk.decide(context, &self.held, event);
         decision.asks.hold(&mut self.held);
-        let ruling = decision.ruling;
+        let event_effect = decision.event_effect;
         // Read for the proof alone, which then knows the type.
-        let _effect: Effect = ruling.effect;
-        ruling.hear(&mut self.dialogue);
-        self.go_on(context, &ruling, event);
+        let _effect: Effect = event_effect.effect;
+        event_effect.hear(&mut self.dialogue);
+        self.go_on(context, &event_effect, event);
     }
 
     // Goes on from what was decided, what is held and what the dialogue is then.
-    fn go_on(&mut self, context: Context, ruling: &Ruling, event: &Event)
-        requires follow { CanFollow (at context self.old.desk) (effect_of ruling.now.effect) }
+    fn go_on(&mut self, context: Context, event_effect: &EventEffect, event: &Event)
+        requires follow { CoreCanFollow (at context self.old.desk) (effect_of
+            event_effect.now.effect) }
         requires to_iface { self.old.to_iface ≡ empty ROOM }
         requires to_engine { self.old.to_engine ≡ empty ROOM }
-        requires start { ruling.now.start ≡ starts_from (effect_of ruling.now.effect) }
-        requires epoch { ruling.now.begins_epoch
-            ≡ epoch_begun (at context self.old.desk) (effect_of ruling.now.effect) }
-        requires quits { ruling.now.quits ≡ quits_by (event_of event.now) }
+        requires start { event_effect.now.start ≡ starts_from (effect_of event_effect.now.effect) }
+        requires epoch { event_effect.now.begins_epoch
+            ≡ epoch_begun (at context self.old.desk) (effect_of event_effect.now.effect) }
+        requires quits { event_effect.now.quits ≡ quits_by (event_of event.now) }
         ensures after { self.new
-            ≡ advance_from (at context self.old.desk) (effect_of ruling.now.effect)
+            ≡ advance_from (at context self.old.desk) (effect_of event_effect.now.effect)
             (event_of event.now) self.old self.old.held self.old.dialogue }
         ensures iface { length self.new.to_iface.text ≤ ALL_REPLIES }
         ensures engine { length self.new.to_engine.text ≤ STEP_ORDERS }
     {
-        let effect = &ruling.effect;
+        let effect = &event_effect.effect;
         let closed_before = self.ends.closed;
-        self.ends = self.ends.after(event, ruling.quits);
+        self.ends = self.ends.after(event, event_effect.quits);
         let stage = StepStage {
             opens: is_open(event),
             closed_before,
             closed: self.ends.closed,
             gone: is_gone(context.engine) || effect.is_death(),
         };
-        effect.count(&mut self.scores, self.desk.seen.score);
+        effect.count(&mut self.scores, self.desk.search_info.score);
         self.desk
-            .commit(context, ruling, stage.closed, &mut self.to_iface);
+            .commit(context, event_effect, stage.closed, &mut self.to_iface);
         let call = seen_call(&self.desk, self.dialogue.state(), stage);
         let owes = is_move(self.dialogue.owed(call));
         let unsent = is_unsent(&self.held, effect);
         let orders = choose(&mut self.dialogue, stage, call, unsent, effect);
-        let clears = ruling.begins_epoch && !is_hit(orders);
+        let clears = event_effect.begins_epoch && !is_hit(orders);
         self.desk.resign_when_gone(
             context.settings,
             stage.closed,
@@ -124,7 +125,14 @@ impl CoreParts {
         );
         self.desk
             .finish(stage.closed, owes, clears, &mut self.to_iface);
-        put_orders(stage, &self.held, &self.desk, orders, &mut self.to_engine);
+        put_orders(
+            context.settings,
+            stage,
+            &self.held,
+            &self.desk,
+            orders,
+            &mut self.to_engine,
+        );
         release(&mut self.held, orders);
     }
 }
@@ -137,16 +145,16 @@ pub struct Core {
 
 impl Model for Core {
     ghost use Rattle.adapter_core.specs.Parts.{CoreParts as AnyParts};
-    ghost use Rattle.adapter_core.specs.Stands.{Keeps};
+    ghost use Rattle.adapter_core.specs.Represents.{CoreInvariant};
 
     ghost Value = { AnyParts };
 
     ghost view = { λ c. c.parts };
 
-    ghost invariant = { λ c. Keeps c.parts };
+    ghost invariant = { λ c. CoreInvariant c.parts };
 }
 
-/// What a step wrote to both peers: whole lines, each with its line feed.
+/// The output of a step to both peers: whole lines, each with its line feed.
 #[derive(Clone, Copy)]
 pub struct Step<'a> {
     pub iface: &'a [u8],
@@ -154,14 +162,14 @@ pub struct Step<'a> {
 }
 
 impl Core {
-    ghost use Rattle.adapter_core.specs.Stands.{Stands, Extends, AreLines};
+    ghost use Rattle.adapter_core.specs.Represents.{Represents, Extends, IsWholeLines};
     ghost use Rattle.adapter_core.specs.Lending.{StepsOn};
 
     /// A core before its first step. It takes all memory that it ever uses.
     pub fn make(alloc: Global, settings: &Settings) -> Result<Core, NoMemory>
         requires { IsProper settings.now }
-        ensures new { IfOk result (λ core. core ≡ opening settings.now) }
-        ensures stands { IfOk result (λ core. Stands settings.now core []) }
+        ensures new { IfOk result (λ core. core ≡ opening_core_parts settings.now) }
+        ensures stands { IfOk result (λ core. Represents settings.now core []) }
     {
         let parts = make_parts(alloc, *settings)?;
         Ok(Core { parts })
@@ -177,15 +185,15 @@ impl Core {
     /// Chooses other settings, before the first step.
     pub fn set(&mut self, settings: &Settings)
         requires proper { IsProper settings.now }
-        requires new { Stands self.old.settings self.old [] }
+        requires new { Represents self.old.settings self.old [] }
         ensures settings { self.new.settings ≡ settings.now }
-        ensures stands { Stands settings.now self.new [] }
+        ensures stands { Represents settings.now self.new [] }
     {
         self.parts.settings = *settings;
         self.parts.scores = Scores::new(settings);
     }
 
-    /// Whether the event may come.
+    /// True if the event may come.
     pub fn may(&self, event: &Event) -> bool
         ensures { result ≡ may self.now.ends (event_of event.now) }
     {
@@ -198,11 +206,35 @@ impl Core {
         ensures* steps { sem 𝓛 (StepsOn self.entry (event_of event.now) result) }
         ensures iface_room { length result.iface.now < SCRIPT_LINE }
         ensures engine_room { length result.engine.now < SCRIPT_LINE }
-        ensures iface_lines { AreLines result.iface.now }
-        ensures engine_lines { AreLines result.engine.now }
+        ensures iface_lines { IsWholeLines result.iface.now }
+        ensures engine_lines { IsWholeLines result.engine.now }
+    {
+        self.advance(event);
+        self.lines()
+    }
+
+    /// One step, whose lines `lines` gives until the next one.
+    pub fn advance(&mut self, event: &Event)
+        requires { may self.old.ends (event_of event.now) ≡ true }
+        ensures extends { Extends self.old self.new
+            (event_of event.now) self.new.to_iface.text self.new.to_engine.text }
+        ensures iface_room { length self.new.to_iface.text < SCRIPT_LINE }
+        ensures engine_room { length self.new.to_engine.text < SCRIPT_LINE }
+        ensures iface_lines { IsWholeLines self.new.to_iface.text }
+        ensures engine_lines { IsWholeLines self.new.to_engine.text }
     {
         self.take(event);
-        self.lines()
+    }
+
+    /// The output of the last step to both peers; nothing before the first one.
+    pub fn lines(&self) -> Step<'_>
+        ensures iface { result.iface.now ≡ self.now.to_iface.text }
+        ensures engine { result.engine.now ≡ self.now.to_engine.text }
+    {
+        Step {
+            iface: self.parts.to_iface.bytes(),
+            engine: self.parts.to_engine.bytes(),
+        }
     }
 
     /// The game, with all moves that were entered and shown.
@@ -219,9 +251,9 @@ impl Core {
         self.parts.dialogue.state()
     }
 
-    /// Whether both sides have ended.
+    /// True if both sides have ended.
     pub fn over(&self) -> bool
-        ensures { result ≡ is_over self.now.ends }
+        ensures { result ≡ are_both_ended self.now.ends }
     {
         self.parts.ends.iface && self.parts.ends.engine
     }
@@ -235,20 +267,10 @@ impl Core {
     {
         self.parts.take(event);
     }
-
-    fn lines(&self) -> Step<'_>
-        ensures iface { result.iface.now ≡ self.now.to_iface.text }
-        ensures engine { result.engine.now ≡ self.now.to_engine.text }
-    {
-        Step {
-            iface: self.parts.to_iface.bytes(),
-            engine: self.parts.to_engine.bytes(),
-        }
-    }
 }
 
 fn make_parts(alloc: Global, settings: Settings) -> Result<CoreParts, NoMemory>
-    ensures { IfOk result (λ parts. parts ≡ opening settings) }
+    ensures { IfOk result (λ parts. parts ≡ opening_core_parts settings) }
 {
     let to_iface = Out::make(alloc, ROOM)?;
     let to_engine = Out::make(alloc, ROOM)?;
@@ -273,7 +295,7 @@ fn make_parts(alloc: Global, settings: Settings) -> Result<CoreParts, NoMemory>
     })
 }
 
-ghost use Rattle.adapter_core.specs.Stands.{IsOneDialogue, IsSilentToIface, IsSilentToEngine};
+ghost use Rattle.adapter_core.specs.Represents.{IsOneDialogue, IsSilentToIface, IsSilentToEngine};
 
 /// A law: two lawful traces with the same settings and the same events are equal.
 pub fn one_dialogue(settings: Settings)

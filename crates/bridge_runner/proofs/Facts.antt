@@ -1,4 +1,4 @@
--- What holds of each lawful trace.
+-- The facts of each lawful trace.
 use Rattle.std.proofs.Common.{◌≡◌, ◌≢◌, List, [], ◌∷◌, Bool, true, false, not, cond, ◌&&◌, ◌||◌, refl, sym, ap, ◌∙◌}
 use Rattle.std.proofs.lemmas.Bool.{or_left, false_from_ne_true}
 use mathlib.Core.Bool.{or-false, or-true}
@@ -7,26 +7,26 @@ use Rattle.option_map.specs.Features.{reply_lines}
 use Rattle.desk_rules.specs.Texts.{order_lines}
 use Rattle.policy_rules.specs.declared.settings.Settings.{Settings}
 use Rattle.adapter_core.specs.declared.ends.Ends.{Ends}
-use Rattle.cecp_lines.specs.Quit.{is_quit}
+use Rattle.peer_words.specs.Quit.{is_quit}
 use Rattle.adapter_core.specs.Ends.{may, ends_after}
-use Rattle.adapter_core.specs.Trace.{Step, Lawful, state, iface_text, engine_text}
+use Rattle.adapter_core.specs.Trace.{Step, LawfulTrace, state, iface_text, engine_text}
 use Rattle.adapter_core.proofs.Ended.{silent_to_iface, silent_to_engine}
 use Rattle.adapter_core.proofs.Closing.{opened_later}
-use Rattle.event_pipe.specs.Rule.{of, has_last_event, Follows}
+use Rattle.event_pipe.specs.Rule.{of, has_last_event, EventMayFollow}
 use Rattle.event_pipe.proofs.Roles.{more_ended}
-use Rattle.bridge_runner.specs.Texts.{is_own, events_of_steps}
+use Rattle.bridge_runner.specs.Texts.{is_own_step, events_of_steps}
 
-pub opened : (o : Settings) (s : Step) (t : List Step) → Lawful o (s ∷ t) → (state o (s ∷ t)).ends.opened ≡ true
+pub opened : (o : Settings) (s : Step) (t : List Step) → LawfulTrace o (s ∷ t) → (state o (s ∷ t)).ends.opened ≡ true
 opened o s t l = opened_later (state o t).ends s.event l.1.may_come
 
-pub open_iface : (o : Settings) (s : Step) (t : List Step) → Lawful o (s ∷ t) → iface_text s ≢ [] → (state o (s ∷ t)).ends.iface ≡ false
+pub open_iface : (o : Settings) (s : Step) (t : List Step) → LawfulTrace o (s ∷ t) → iface_text s ≢ [] → (state o (s ∷ t)).ends.iface ≡ false
 open_iface o s t l some = false_from_ne_true (state o (s ∷ t)).ends.iface (λ h. some (ap reply_lines (silent_to_iface o t s l (or_left _ (state o (s ∷ t)).ends.iface_lost h))))
 
-pub open_engine : (o : Settings) (s : Step) (t : List Step) → Lawful o (s ∷ t) → engine_text s ≢ [] → (state o (s ∷ t)).ends.engine ≡ false
+pub open_engine : (o : Settings) (s : Step) (t : List Step) → LawfulTrace o (s ∷ t) → engine_text s ≢ [] → (state o (s ∷ t)).ends.engine ≡ false
 open_engine o s t l some = false_from_ne_true (state o (s ∷ t)).ends.engine (λ h. some (ap order_lines (silent_to_engine o t s l (or_left _ (state o (s ∷ t)).ends.engine_lost h))))
 
 -- which sides have ended
-iface_by : (ends : Ends) (e : Event) (b : Bool) → ends.iface ≡ b → (ends_after ends e).iface ≡ (b || has_last_event (of 1 (cond (is_own e) [] (e ∷ []))))
+iface_by : (ends : Ends) (e : Event) (b : Bool) → ends.iface ≡ b → (ends_after ends e).iface ≡ (b || has_last_event (of 1 (cond (is_own_step e) [] (e ∷ []))))
 iface_by ends Open b h = h ∙ sym (or-false b)
 iface_by ends (Iface line) b h = ap (λ x. x || is_quit line) h ∙ ap (λ x. b || x) (sym (or-false (is_quit line)))
 iface_by ends IfaceLong b h = h ∙ sym (or-false b)
@@ -37,7 +37,7 @@ iface_by ends EngineLong b h = h ∙ sym (or-false b)
 iface_by ends EngineEnd b h = h ∙ sym (or-false b)
 iface_by ends EngineLost b h = h ∙ sym (or-false b)
 
-engine_by : (ends : Ends) (e : Event) (b : Bool) → ends.engine ≡ b → (ends_after ends e).engine ≡ (b || has_last_event (of 2 (cond (is_own e) [] (e ∷ []))))
+engine_by : (ends : Ends) (e : Event) (b : Bool) → ends.engine ≡ b → (ends_after ends e).engine ≡ (b || has_last_event (of 2 (cond (is_own_step e) [] (e ∷ []))))
 engine_by ends Open b h = h ∙ sym (or-false b)
 engine_by ends (Iface line) b h = h ∙ sym (or-false b)
 engine_by ends IfaceLong b h = h ∙ sym (or-false b)
@@ -50,11 +50,11 @@ engine_by ends EngineLost b h = h ∙ sym (or-false b)
 
 pub iface_is : (o : Settings) (t : List Step) → (state o t).ends.iface ≡ has_last_event (of 1 (events_of_steps t))
 iface_is o [] = refl
-iface_is o (s ∷ t) = iface_by (state o t).ends s.event _ (iface_is o t) ∙ sym (more_ended 1 (events_of_steps t) (cond (is_own s.event) [] (s.event ∷ [])))
+iface_is o (s ∷ t) = iface_by (state o t).ends s.event _ (iface_is o t) ∙ sym (more_ended 1 (events_of_steps t) (cond (is_own_step s.event) [] (s.event ∷ [])))
 
 pub engine_is : (o : Settings) (t : List Step) → (state o t).ends.engine ≡ has_last_event (of 2 (events_of_steps t))
 engine_is o [] = refl
-engine_is o (s ∷ t) = engine_by (state o t).ends s.event _ (engine_is o t) ∙ sym (more_ended 2 (events_of_steps t) (cond (is_own s.event) [] (s.event ∷ [])))
+engine_is o (s ∷ t) = engine_by (state o t).ends s.event _ (engine_is o t) ∙ sym (more_ended 2 (events_of_steps t) (cond (is_own_step s.event) [] (s.event ∷ [])))
 
 two : (a b : Bool) → a ≡ true → b ≡ false → (a && not b) ≡ true
 two a b p q = rw (p, q) refl
@@ -62,7 +62,7 @@ two a b p q = rw (p, q) refl
 three : (a b c : Bool) → a ≡ true → b ≡ false → c ≡ true → (a && not b && c) ≡ true
 three a b c p q r = rw (p, q, r) refl
 
-pub may_follow : (ends : Ends) (x : Event) (r : List Event) → ends.opened ≡ true → ends.iface ≡ has_last_event (of 1 r) → ends.engine ≡ has_last_event (of 2 r) → Follows r x → may ends x ≡ true
+pub may_follow : (ends : Ends) (x : Event) (r : List Event) → ends.opened ≡ true → ends.iface ≡ has_last_event (of 1 r) → ends.engine ≡ has_last_event (of 2 r) → EventMayFollow r x → may ends x ≡ true
 may_follow ends Open r o a b f = absurd (f.2 refl)
 may_follow ends (Iface line) r o a b f = three ends.opened ends.iface (is_line line) o (a ∙ f.0) f.1
 may_follow ends IfaceLong r o a b f = two ends.opened ends.iface o (a ∙ f.0)

@@ -6,33 +6,33 @@ use Rattle.line_io.specs.Lines.{line_feed}
 use Rattle.policy_rules.specs.declared.settings.Settings.{Settings}
 use Rattle.script_lines.specs.Header.{header_text}
 use Rattle.script_lines.specs.StepText.{numbered_marks}
-use Rattle.session_script.specs.Script.{numbered_text, script2}
+use Rattle.trace_scripts.specs.Script.{numbered_text, script2}
 use Rattle.adapter_core.specs.declared.ends.Ends.{Ends}
 use Rattle.adapter_core.specs.Ends.{ends_after, may}
-use Rattle.adapter_core.specs.Trace.{Step, Lawful, state, iface_text, engine_text}
+use Rattle.adapter_core.specs.Trace.{Step, LawfulTrace, state, iface_text, engine_text}
 use Rattle.adapter_core.specs.Parts.{CoreParts}
-use Rattle.adapter_core.specs.Stands.{Stands}
+use Rattle.adapter_core.specs.Represents.{Represents}
 use Rattle.event_pipe.specs.declared.message.Peer.{Peer}
 use Rattle.event_pipe.specs.declared.message.Peer.TheVariants as peers
-use Rattle.event_pipe.specs.Rule.{Follows}
+use Rattle.event_pipe.specs.Rule.{EventMayFollow}
 use Rattle.bridge_runner.specs.Texts as texts
 use Rattle.bridge_runner.proofs.Facts.{opened, open_iface, open_engine, iface_is, engine_is, may_follow}
-use Rattle.mediator.specs.Turns.{Turn, turn, events_of_turns, is_own, loss, is_loss, has_loss, stands_between, Gave, log_of_turn}
+use Rattle.mediator.specs.Turns.{Turn, new_turn, events_of_turns, is_own_event, loss, is_loss, turns_have_loss, stands_between, TurnGave, log_of_turn}
 use Rattle.mediator.specs.Turns as turns
-use Rattle.mediator.specs.Meaning.{Allows, Opens, Steps}
+use Rattle.mediator.specs.Meaning.{Allows, Opens, MediatorSteps}
 use Rattle.bridge_runner.specs.declared.session.Session.{Session}
-use Rattle.bridge_runner.specs.Plays.{turns_of, Played, plays, Took}
+use Rattle.bridge_runner.specs.Plays.{turns_of, TurnsAreLawful, session_meaning, BridgeTookStep}
 
 -- WHAT IS RECEIVED
 
-own_same : (e : Event) → is_own e ≡ texts.is_own e
+own_same : (e : Event) → is_own_event e ≡ texts.is_own_step e
 own_same Open = refl
 own_same IfaceLost = refl
 own_same EngineLost = refl
 own_same e = refl
 
-received_one : (s : Step) (es fs : List Event) → es ≡ fs → es ++ cond (is_own s.event) [] (s.event ∷ []) ≡ fs ++ cond (texts.is_own s.event) [] (s.event ∷ [])
-received_one s es fs h = ap (λ (x : List Event). x ++ cond (is_own s.event) [] (s.event ∷ [])) h ∙ ap (λ b. fs ++ cond b [] (s.event ∷ [])) (own_same s.event)
+received_one : (s : Step) (es fs : List Event) → es ≡ fs → es ++ cond (is_own_event s.event) [] (s.event ∷ []) ≡ fs ++ cond (texts.is_own_step s.event) [] (s.event ∷ [])
+received_one s es fs h = ap (λ (x : List Event). x ++ cond (is_own_event s.event) [] (s.event ∷ [])) h ∙ ap (λ b. fs ++ cond b [] (s.event ∷ [])) (own_same s.event)
 
 pub received_same : (o : Settings) (t : List Step) → events_of_turns (turns_of o t) ≡ texts.events_of_steps t
 received_same o [] = refl
@@ -62,7 +62,7 @@ has_nil peers.Engine o = refl
 has_one : (p : Peer) (o : Settings) (s : Step) (t : List Step) (b : Bool) → b ≡ lost_flag p (state o t).ends → (is_loss p s.event || b) ≡ lost_flag p (state o (s ∷ t)).ends
 has_one p o s t b h = ap (λ c. is_loss p s.event || c) h ∙ lost_by p (state o t).ends s.event
 
-pub has_is : (p : Peer) (o : Settings) (t : List Step) → has_loss p (turns_of o t) ≡ lost_flag p (state o t).ends
+pub has_is : (p : Peer) (o : Settings) (t : List Step) → turns_have_loss p (turns_of o t) ≡ lost_flag p (state o t).ends
 has_is p o [] = has_nil p o
 has_is p o (s ∷ []) = has_one p o s [] false (has_nil p o)
 has_is p o (s ∷ r ∷ t) = has_one p o s (r ∷ t) _ (has_is p o (r ∷ t))
@@ -94,7 +94,7 @@ pub never_between : (e : Event) → stands_between peers.Iface e ≡ true → �
 never_between e h = cc
 
 -- a side to which something was given has not ended
-open_side : (p : Peer) (o : Settings) (t : List Step) → Lawful o t → Gave p (turns_of o t) → ended_flag p (state o t).ends ≡ false
+open_side : (p : Peer) (o : Settings) (t : List Step) → LawfulTrace o t → TurnGave p (turns_of o t) → ended_flag p (state o t).ends ≡ false
 open_side p o [] l g = absurd g
 open_side peers.Iface o (s ∷ []) l (inl g) = open_iface o s [] l g
 open_side peers.Iface o (s ∷ []) l (inr g) = absurd g.1
@@ -105,35 +105,35 @@ open_side peers.Iface o (s ∷ r ∷ t) l (inr g) = absurd (never_between s.even
 open_side peers.Engine o (s ∷ r ∷ t) l (inl g) = open_engine o s (r ∷ t) l g
 open_side peers.Engine o (s ∷ r ∷ t) l (inr g) = ap (λ (x : Event). (ends_after (state o (r ∷ t)).ends x).engine) (between_is s.event g.0) ∙ open_side peers.Engine o (r ∷ t) l.0 g.1
 
-was_opened : (o : Settings) (t : List Step) → t ≢ [] → Lawful o t → (state o t).ends.opened ≡ true
+was_opened : (o : Settings) (t : List Step) → t ≢ [] → LawfulTrace o t → (state o t).ends.opened ≡ true
 was_opened o [] n l = absurd (n refl)
 was_opened o (s ∷ t) n l = opened o s t l
 
-module _ (s0 : Session) (turns : List Turn) (s : Session) (d : Played s0 turns s) where
+module _ (s0 : Session) (turns : List Turn) (s : Session) (d : TurnsAreLawful s0 turns s) where
   abbrev o : Settings
   o = s0.core.settings
 
   ends_are : s.core.ends ≡ (state o d.trace).ends
   ends_are = ap (λ (v : CoreParts). v.ends) d.stands.0
 
-  has_are : (p : Peer) → has_loss p turns ≡ lost_flag p (state o d.trace).ends
-  has_are p = ap (λ (ts : List Turn). has_loss p ts) d.turns_are ∙ has_is p o d.trace
+  has_are : (p : Peer) → turns_have_loss p turns ≡ lost_flag p (state o d.trace).ends
+  has_are p = ap (λ (ts : List Turn). turns_have_loss p ts) d.turns_are ∙ has_is p o d.trace
 
-  may_next : (e : Event) → Follows (events_of_turns turns) e → may s.core.ends e ≡ true
+  may_next : (e : Event) → EventMayFollow (events_of_turns turns) e → may s.core.ends e ≡ true
   may_next e f =
       ap (λ (y : Ends). may y e) ends_are
       ∙ may_follow (state o d.trace).ends e (texts.events_of_steps d.trace) (was_opened o d.trace d.begun d.lawful) (iface_is o d.trace) (engine_is o d.trace)
-      (subst (λ (es : List Event). Follows es e) (ap events_of_turns d.turns_are ∙ received_same o d.trace) f)
+      (subst (λ (es : List Event). EventMayFollow es e) (ap events_of_turns d.turns_are ∙ received_same o d.trace) f)
 
-  may_lose : (p : Peer) → Gave p turns → has_loss p turns ≡ false → may s.core.ends (loss p) ≡ true
+  may_lose : (p : Peer) → TurnGave p turns → turns_have_loss p turns ≡ false → may s.core.ends (loss p) ≡ true
   may_lose p g n =
       ap (λ (y : Ends). may y (loss p)) ends_are
-      ∙ may_loss p (state o d.trace).ends (was_opened o d.trace d.begun d.lawful) (open_side p o d.trace d.lawful (subst (λ (ts : List Turn). Gave p ts) d.turns_are g)) (sym (has_are p) ∙ n)
+      ∙ may_loss p (state o d.trace).ends (was_opened o d.trace d.begun d.lawful) (open_side p o d.trace d.lawful (subst (λ (ts : List Turn). TurnGave p ts) d.turns_are g)) (sym (has_are p) ∙ n)
 
-  lost_once : (p : Peer) → may s.core.ends (loss p) ≡ true → has_loss p turns ≡ false
+  lost_once : (p : Peer) → may s.core.ends (loss p) ≡ true → turns_have_loss p turns ≡ false
   lost_once p m = has_are p ∙ lost_no p (state o d.trace).ends (ap (λ (y : Ends). may y (loss p)) (sym ends_are) ∙ m)
 
-pub allows : (s : Session) (e : Event) → Allows plays s e
+pub allows : (s : Session) (e : Event) → Allows session_meaning s e
 allows s e =
     record {
       follows = λ s0 turns d f. may_next s0 turns s d e f;
@@ -143,14 +143,14 @@ allows s e =
 
 -- STEPS
 
-turn_eq : (e e' : Event) (u u' v v' w w' : List ℕ) → e ≡ e' → u ≡ u' → v ≡ v' → w ≡ w' → turn e u v w ≡ turn e' u' v' w'
+turn_eq : (e e' : Event) (u u' v v' w w' : List ℕ) → e ≡ e' → u ≡ u' → v ≡ v' → w ≡ w' → new_turn e u v w ≡ new_turn e' u' v' w'
 turn_eq e e' u u' v v' w w' a b c d = rw (a, b, c, d) refl
 
-more_turns : (o : Settings) (s : Step) (t : List Step) → t ≢ [] → turn s.event (iface_text s) (engine_text s) (numbered_text (length t) s) ∷ turns_of o t ≡ turns_of o (s ∷ t)
+more_turns : (o : Settings) (s : Step) (t : List Step) → t ≢ [] → new_turn s.event (iface_text s) (engine_text s) (numbered_text (length t) s) ∷ turns_of o t ≡ turns_of o (s ∷ t)
 more_turns o s [] n = absurd (n refl)
 more_turns o s (r ∷ t) n = refl
 
-pub steps : (old new : Session) (e : Event) (held held' : Text) → Took old new e held held' → Steps plays e old held new held'
+pub steps : (old new : Session) (e : Event) (held held' : Text) → BridgeTookStep old new e held held' → MediatorSteps session_meaning e old held new held'
 steps old new e held held' t =
     let piece = numbered_marks old.next t.step.event (iface_text t.step) (engine_text t.step) in
     record {
@@ -158,7 +158,7 @@ steps old new e held held' t =
       put = t.put;
       goes = λ s0 turns d.
           let x = t.extends s0.core.settings d.trace d.lawful d.stands in
-          let same : turn e new.up.text new.down.text piece ≡ turn t.step.event (iface_text t.step) (engine_text t.step) (numbered_text (length d.trace) t.step) =
+          let same : new_turn e new.core.to_iface.text new.core.to_engine.text piece ≡ new_turn t.step.event (iface_text t.step) (engine_text t.step) (numbered_text (length d.trace) t.step) =
           turn_eq _ _ _ _ _ _ _ _ (sym t.event) t.up t.down (ap (λ k. numbered_marks k t.step.event (iface_text t.step) (engine_text t.step)) d.next) in
           record {
             trace = t.step ∷ d.trace;
@@ -166,13 +166,13 @@ steps old new e held held' t =
             stands = x.1;
             begun = λ h. cc;
             turns_are = ap (λ (k : Turn). k ∷ turns) same
-                ∙ ap (λ (ts : List Turn). turn t.step.event (iface_text t.step) (engine_text t.step) (numbered_text (length d.trace) t.step) ∷ ts) d.turns_are
+                ∙ ap (λ (ts : List Turn). new_turn t.step.event (iface_text t.step) (engine_text t.step) (numbered_text (length d.trace) t.step) ∷ ts) d.turns_are
                 ∙ more_turns s0.core.settings t.step d.trace d.begun;
             next = t.next (length d.trace) d.next;
           };
     }
 
-pub opens : (old new : Session) (held held1 held' : Text) → Stands old.core.settings old.core [] → old.next ≡ 0 → held1 ≡ with held (header_text old.core.settings ++ line_feed ∷ []) → Took old new Open held1 held' → Opens plays old held new held'
+pub opens : (old new : Session) (held held1 held' : Text) → Represents old.core.settings old.core [] → old.next ≡ 0 → held1 ≡ with held (header_text old.core.settings ++ line_feed ∷ []) → BridgeTookStep old new Open held1 held' → Opens session_meaning old held new held'
 opens old new held held1 held' stands zero e t =
     let o = old.core.settings in
     let x = t.extends o [] tt stands in
@@ -194,7 +194,7 @@ opens old new held held1 held' stands zero e t =
     }
 
 -- the log is the script
-pub script_is : (o : Settings) (t : List Step) → t ≢ [] → turns.texts log_of_turn (turns_of o t) ≡ script2 o t
+pub script_is : (o : Settings) (t : List Step) → t ≢ [] → turns.turn_texts log_of_turn (turns_of o t) ≡ script2 o t
 script_is o [] n = absurd (n refl)
 script_is o (s ∷ []) n = refl
 script_is o (s ∷ r ∷ t) n = ap (λ (l : List ℕ). l ++ numbered_text (length (r ∷ t)) s) (script_is o (r ∷ t) (λ h. cc)) ∙ append_assoc (header_text o) (line_feed ∷ _) (numbered_text (length (r ∷ t)) s)

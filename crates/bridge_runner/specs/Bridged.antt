@@ -1,39 +1,39 @@
--- What a run of the bridge leaves.
+-- The result of a run of the bridge.
 use Rattle.std.specs.Prelude.{◌≡◌, ◌<◌, ℕ, List, map, true, IfSome}
 use Rattle.policy_rules.specs.declared.settings.Settings.{Settings}
-use Rattle.adapter_core.specs.Trace.{Step, Lawful, event_in}
-use Rattle.host_run.specs.declared.failures.Failures.{Failures}
-use Rattle.host_run.specs.Early.{no_failure}
-use Rattle.host_run.specs.Outside.{Outside, AreTold, IsClosed}
+use Rattle.adapter_core.specs.Trace.{Step, LawfulTrace, event_of_step}
+use Rattle.program_lifecycle.specs.declared.failures.Failures.{Failures}
+use Rattle.program_lifecycle.specs.Early.{no_failure}
+use Rattle.program_lifecycle.specs.Outside.{Outside, AreReported, HostIsClosed}
 use Rattle.mediator.specs.Mediated.{Mediated}
 use Rattle.bridge_runner.specs.declared.session.Session.{Session}
-use Rattle.bridge_runner.specs.Plays.{IsNew, plays}
-use Rattle.bridge_runner.specs.Recorded.{Recorded, IsWhole}
+use Rattle.bridge_runner.specs.Plays.{IsNew, session_meaning}
+use Rattle.bridge_runner.specs.Recorded.{BridgeRecorded, BridgeRunIsWhole}
 
--- What was read and written is that of one run of a new session, whose turns are
+-- The reads and writes are those of one run of a new session, whose turns are
 -- those of one lawful trace.
 pub record Bridged (settings : Settings) (first : List ℕ) (before after : Outside)
     (failures : Failures) : Type 0 where
   pub session : Session
   pub new : IsNew settings session
-  pub mediated : Mediated plays session first before after failures
+  pub mediated : Mediated session_meaning session first before after failures
   -- it is the one lawful trace of its events
-  pub only : (other : List Step) → Lawful settings other
-      → map event_in other ≡ map event_in mediated.ran.looped.did.trace
+  pub only : (other : List Step) → LawfulTrace settings other
+      → map event_of_step other ≡ map event_of_step mediated.ran.looped.did.trace
       → other ≡ mediated.ran.looped.did.trace
-  -- what the books say of the trace that the run made
-  pub recorded : Recorded settings mediated.ran.looped.did.trace before.books after.books failures
+  -- what the ledger says of the trace that the run made
+  pub recorded : BridgeRecorded settings mediated.ran.looped.did.trace before.ledger after.ledger failures
 
 -- what the bridge leaves, whether an engine was started or not
-pub record Leaves (settings : Settings) (first : List ℕ) (before after : Outside)
+pub record BridgeLeaves (settings : Settings) (first : List ℕ) (before after : Outside)
     (failures : Failures) : Type 0 where
-  pub told : AreTold before after failures
-  pub closed : IsClosed after.books failures
+  pub reported : AreReported before after failures
+  pub closed : HostIsClosed after.ledger failures
   -- if no engine was started, nothing was read or written
-  pub nothing : after.books.runs_out ≡ 0
+  pub nothing : after.ledger.runs_out ≡ 0
       → (after.input ≡ before.input) × (after.output ≡ before.output)
-  pub unstarted : failures.engine_start ≡ true → after.books.runs_out ≡ 0
-  pub bridged : 0 < after.books.runs_out → Bridged settings first before after failures
-  -- if nothing failed, over a host that tells its bytes
-  pub whole : failures ≡ no_failure → before.books.tells ≡ true
-      → IfSome before.books.says (λ bytes. IsWhole settings first bytes before after)
+  pub unstarted : failures.engine_start ≡ true → after.ledger.runs_out ≡ 0
+  pub bridged : 0 < after.ledger.runs_out → Bridged settings first before after failures
+  -- if nothing failed, over a host that reports its bytes
+  pub whole : failures ≡ no_failure → before.ledger.sinks_report ≡ true
+      → IfSome before.ledger.says (λ bytes. BridgeRunIsWhole settings first bytes before after)

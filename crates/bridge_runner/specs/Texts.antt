@@ -7,22 +7,22 @@ use Rattle.event_pipe.specs.declared.message.Peer.{Peer}
 use Rattle.mediator.specs.Turns.{is_loss}
 
 -- the loop's own events
-abbrev pub is_own : Event → Bool
-is_own Open = true
-is_own IfaceLost = true
-is_own EngineLost = true
-is_own e = false
+abbrev pub is_own_step : Event → Bool
+is_own_step Open = true
+is_own_step IfaceLost = true
+is_own_step EngineLost = true
+is_own_step e = false
 
 -- the events that were received, the oldest first
 abbrev pub events_of_steps : List Step → List Event
 events_of_steps [] = []
-events_of_steps (s ∷ t) = events_of_steps t ++ (if is_own s.event then [] else s.event ∷ [])
+events_of_steps (s ∷ t) = events_of_steps t ++ (if is_own_step s.event then [] else s.event ∷ [])
 
 -- a step is that of this peer's loss
-abbrev pub has_loss : Peer → List Step → Bool
-has_loss p trace = list_any (λ s. is_loss p s.event) trace
+abbrev pub steps_have_loss : Peer → List Step → Bool
+steps_have_loss p trace = list_any (λ s. is_loss p s.event) trace
 
 -- what the steps wrote, in order
-abbrev pub texts : (Step → List ℕ) → List Step → List ℕ
-texts text [] = []
-texts text (s ∷ t) = texts text t ++ text s
+abbrev pub step_texts : (Step → List ℕ) → List Step → List ℕ
+step_texts text [] = []
+step_texts text (s ∷ t) = step_texts text t ++ text s

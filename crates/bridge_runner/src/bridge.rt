@@ -1,18 +1,18 @@
 // One run of the bridge.
 ghost use Rattle.std.specs.Prelude.{◌<◌, length, map, string_bytes};
 ghost use Rattle.policy_rules.specs.Policy.{IsProper};
-ghost use Rattle.child_engine.specs.Hosts.{IsUnused};
-ghost use Rattle.host_run.specs.Asked.{AsksFor};
-ghost use Rattle.host_run.specs.Outside.{outside_of};
+ghost use Rattle.child_engine.specs.Hosts.{HostIsUnused};
+ghost use Rattle.program_lifecycle.specs.Asked.{AsksFor};
+ghost use Rattle.program_lifecycle.specs.Outside.{outside_of};
 ghost use Rattle.mediator.specs.First.{AreOpening};
-ghost use Rattle.bridge_runner.specs.Bridged.{Leaves};
+ghost use Rattle.bridge_runner.specs.Bridged.{BridgeLeaves};
 
 use crate::Session;
 use child_engine::Host;
-use host_run::{Failures, Interface, only_memory};
 use line_io::{Sink, Source};
 use mediator::{RunRequest, run_mediator};
 use policy_rules::Settings;
+use program_lifecycle::{Failures, Interface, only_memory};
 use std::alloc::Global;
 use std::sync::Wait;
 use std::thread::Threads;
@@ -29,14 +29,14 @@ pub fn bridge_run<I: Source + Send, O: Sink + Send, H: Host, R: Threads + Wait +
 ) -> Failures
     requires proper { IsProper settings.now }
     requires first { AreOpening request.now.first.now }
-    requires words { 0 < length request.now.engine.now }
-    requires unused { IsUnused (H.books host.old) }
-    ensures leaves { Leaves settings.now request.now.first.now
-        (outside_of I.state O.state H.faults H.books interface.old host.old)
-        (outside_of I.state O.state H.faults H.books interface.new host.new)
+    requires arguments { 0 < length request.now.engine.now }
+    requires unused { HostIsUnused (H.ledger host.old) }
+    ensures leaves { BridgeLeaves settings.now request.now.first.now
+        (outside_of I.state O.state H.faults H.ledger interface.old host.old)
+        (outside_of I.state O.state H.faults H.ledger interface.new host.new)
         result }
     ensures asked { AsksFor (map string_bytes request.now.engine.now) request.now.log_name.now
-        (H.asked host.old) (H.asked host.new) (H.books host.new) result }
+        (H.asked host.old) (H.asked host.new) (H.ledger host.new) result }
 {
     match Session::make(alloc, settings) {
         Ok(session) => run_mediator(rt, alloc, session, request, interface, host),

@@ -1,5 +1,5 @@
 //! One run of the bridge over a host: a session whose turns are the steps of a lawful trace, and
-//! whose log is the script; and the program `bridge`: words, the run that they ask for, and how it
+//! whose log is the script; and the program `bridge`: arguments, the run that they ask for, and how it
 //! is reported.
 #![tactic(auto)]
 

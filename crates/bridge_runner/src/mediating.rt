@@ -4,12 +4,12 @@ ghost use Rattle.line_io.specs.Event.{event_of};
 ghost use Rattle.policy_rules.specs.Policy.{IsProper};
 ghost use Rattle.script_lines.specs.declared.step_text.TheConstants.{STEP_ROOM};
 ghost use Rattle.adapter_core.specs.Ends.{may};
-ghost use Rattle.bridge_runner.specs.Plays.{IsNew, Took};
+ghost use Rattle.bridge_runner.specs.Plays.{IsNew, BridgeTookStep};
 
 use crate::Session;
 use adapter_core::Core;
 use event_pipe::Peer;
-use line_io::{Event, NoMemory, Out, SCRIPT_LINE};
+use line_io::{Event, NoMemory, Out};
 use mediator::Mediator;
 use policy_rules::Settings;
 use script_lines::{next_number, put_numbered_step, write_header};
@@ -21,37 +21,27 @@ impl Session {
         requires { IsProper settings.now }
         ensures { IfOk result (IsNew settings.now) }
     {
-        let up = Out::make(alloc, SCRIPT_LINE)?;
-        let down = Out::make(alloc, SCRIPT_LINE)?;
         let core = Core::make(alloc, settings)?;
-        Ok(Session {
-            core,
-            next: 0,
-            up,
-            down,
-        })
+        Ok(Session { core, next: 0 })
     }
 
     // Steps the core, and puts the step's text.
     fn advance(&mut self, event: &Event, text: &mut Out)
         requires may { may self.old.core.ends (event_of event.now) ≡ true }
         requires room { length text.old.text + STEP_ROOM ≤ text.old.room }
-        ensures { Took self.old self.new (event_of event.now) text.old text.new }
+        ensures { BridgeTookStep self.old self.new (event_of event.now) text.old text.new }
     {
-        self.up.clear();
-        self.down.clear();
-        let lines = self.core.step(event);
+        self.core.advance(event);
+        let lines = self.core.lines();
         put_numbered_step(self.next, event, lines.iface, lines.engine, text);
-        self.up.put(lines.iface);
-        self.down.put(lines.engine);
         self.next = next_number(self.next);
     }
 }
 
 impl Mediator for Session {
-    ghost use Rattle.bridge_runner.specs.Plays.{plays};
+    ghost use Rattle.bridge_runner.specs.Plays.{session_meaning};
 
-    ghost means = { plays };
+    ghost means = { session_meaning };
 
     fn begin(&mut self, text: &mut Out) {
         write_header(&self.core.settings(), text);
@@ -69,8 +59,8 @@ impl Mediator for Session {
 
     fn given(&self, peer: Peer) -> &[u8] {
         match peer {
-            Peer::Iface => self.up.bytes(),
-            Peer::Engine => self.down.bytes(),
+            Peer::Iface => self.core.lines().iface,
+            Peer::Engine => self.core.lines().engine,
         }
     }
 }

@@ -1,23 +1,23 @@
 // A run of the bridge, and what holds of it by the laws of lawful traces.
 ghost use Rattle.std.specs.Prelude.{◌≡◌, ◌<◌, length, map, string_bytes};
 ghost use Rattle.policy_rules.specs.Policy.{IsProper};
-ghost use Rattle.child_engine.specs.Hosts.{IsUnused};
-ghost use Rattle.host_run.specs.Asked.{AsksFor};
-ghost use Rattle.host_run.specs.Outside.{outside_of};
+ghost use Rattle.child_engine.specs.Hosts.{HostIsUnused};
+ghost use Rattle.program_lifecycle.specs.Asked.{AsksFor};
+ghost use Rattle.program_lifecycle.specs.Outside.{outside_of};
 ghost use Rattle.mediator.specs.First.{AreOpening};
-ghost use Rattle.bridge_runner.specs.Program.{Runs};
+ghost use Rattle.bridge_runner.specs.Program.{BridgeRuns};
 
 use crate::bridge_run;
 use child_engine::Host;
-use dialogue_laws::laws_hold;
-use host_run::{Failures, Interface};
 use line_io::{Sink, Source};
 use mediator::RunRequest;
 use policy_rules::Settings;
-use session_script::scripts_have_one_trace;
+use program_lifecycle::{Failures, Interface};
 use std::alloc::Global;
 use std::sync::Wait;
 use std::thread::Threads;
+use trace_laws::laws_hold;
+use trace_scripts::scripts_have_one_trace;
 
 /// The run of a bridge with these settings, whose interface says the first lines before all that
 /// the input gives.
@@ -32,13 +32,13 @@ pub fn run_bridge<I: Source + Send, O: Sink + Send, H: Host, R: Threads + Wait +
     requires proper { IsProper settings.now }
     requires first { AreOpening request.now.first.now }
     requires engine { 0 < length request.now.engine.now }
-    requires unused { IsUnused (H.books host.old) }
-    ensures runs { Runs settings.now request.now.first.now
-        (outside_of I.state O.state H.faults H.books interface.old host.old)
-        (outside_of I.state O.state H.faults H.books interface.new host.new)
+    requires unused { HostIsUnused (H.ledger host.old) }
+    ensures runs { BridgeRuns settings.now request.now.first.now
+        (outside_of I.state O.state H.faults H.ledger interface.old host.old)
+        (outside_of I.state O.state H.faults H.ledger interface.new host.new)
         result }
     ensures asked { AsksFor (map string_bytes request.now.engine.now) request.now.log_name.now
-        (H.asked host.old) (H.asked host.new) (H.books host.new) result }
+        (H.asked host.old) (H.asked host.new) (H.ledger host.new) result }
 {
     laws_hold(*settings);
     scripts_have_one_trace(*settings);

@@ -1,8 +1,8 @@
 // Both readers run beside the loop: the interface and the engine wait for one another, so a run
 // that reads one of them to its end before the other never ends.
 ghost use Rattle.std.specs.Prelude.{IfOk};
-ghost use Rattle.child_engine.specs.Memory.{books_of};
-ghost use Rattle.child_engine.specs.Hosts.{IsUnused};
+ghost use Rattle.child_engine.specs.Memory.{memory_ledger};
+ghost use Rattle.child_engine.specs.Hosts.{HostIsUnused};
 
 use crate::expected::{expect_bytes, words_of};
 use crate::fresh_session::make_session;
@@ -10,17 +10,17 @@ use crate::waiting_host::{ENGINE, ENGINE_WAITS, PIECE, WaitingHost};
 use bridge_runner::bridge_main;
 use child_engine::{Fails, MemHost};
 use event_pipe::{Pipe, ReadEnd};
-use host_run::{HandedStreams, Interface};
 use line_io::{MemSink, MemSource, NoMemory, Out};
 use mediator::{Mediator, MediatorParts, RunEnd, TURN_ROOM, Turns, run_pipes};
 use paced_host::{PacedLog, PacedSource};
+use program_lifecycle::{HandedStreams, Interface};
 use std::alloc::Global;
 use std::process::Abort;
 use std::sync::Wait;
 use std::sync::atomic::{AtomicU64, Ordering};
 use std::thread::Threads;
 
-/// How many orders there are in all: `uci`, `isready` and `quit`.
+/// The number of orders in all: `uci`, `isready` and `quit`.
 const ORDERS: u64 = 3;
 
 // An interface that quits once the engine's input took `isready`.
@@ -43,10 +43,10 @@ fn make_streams<'a>(
     orders: &'a AtomicU64,
 ) -> HandedStreams<PacedSource<'a>, PacedLog<'a>, MemSink> {
     let says = MemSource::make(alloc, ENGINE, PIECE, &[]).expect(rt, "memory");
-    let tells = MemSink::make(alloc, 100, &[]).expect(rt, "memory");
+    let log_sink = MemSink::make(alloc, 100, &[]).expect(rt, "memory");
     HandedStreams {
         source: PacedSource::new(says, orders, ENGINE_WAITS),
-        engine: PacedLog::new(tells, orders),
+        engine: PacedLog::new(log_sink, orders),
         log: None,
     }
 }
@@ -62,13 +62,13 @@ fn run_both<M: Mediator + Send + Drop, R: Threads + Wait + Sync + Abort>(
     requires { M.means.fresh mediator }
 {
     let text = Out::make(alloc, TURN_ROOM).expect(rt, "memory");
-    let (iface, engine, taker) = Pipe::make(alloc).expect(rt, "memory");
+    let (iface, engine, receiving_end) = Pipe::make(alloc).expect(rt, "memory");
     let parts = MediatorParts {
         iface,
         engine,
         turns: Turns {
             mediator,
-            taker,
+            receiving_end,
             text,
         },
     };
@@ -99,7 +99,7 @@ fn readers_run_beside(rt: HostRuntime) {
 
 // A host whose engine waits for its orders.
 fn make_host(alloc: Global, orders: &AtomicU64) -> Result<WaitingHost<'_>, NoMemory>
-    ensures { IfOk result (λ h. IsUnused (books_of h.host)) }
+    ensures { IfOk result (λ h. HostIsUnused (memory_ledger h.host)) }
 {
     let host = MemHost::make(alloc, ENGINE, PIECE, 1_000, &Fails::default())?;
     Ok(WaitingHost::new(host, orders))
@@ -119,12 +119,12 @@ fn run_program<R: Threads + Wait + Sync + Abort>(
     alloc: Global,
     orders: &AtomicU64,
 ) -> ProgramRun {
-    let words = words_of(rt, alloc, "toy");
+    let arguments = words_of(rt, alloc, "toy");
     let mut interface = make_interface(rt, alloc, orders);
     let mut host = make_host(alloc, orders).expect(rt, "memory");
     let mut diag = MemSink::make(alloc, 1_000, &[]).expect(rt, "memory");
-    let words = words.as_slice();
-    let status = bridge_main(rt, alloc, words, &mut interface, &mut host, &mut diag);
+    let arguments = arguments.as_slice();
+    let status = bridge_main(rt, alloc, arguments, &mut interface, &mut host, &mut diag);
     ProgramRun {
         code: status.code,
         diag,

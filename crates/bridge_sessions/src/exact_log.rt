@@ -9,7 +9,7 @@ use std::process::Abort;
 use std::sync::Wait;
 use std::thread::Threads;
 
-/// What a run is given and which writes to the engine fail; then its status, what the interface is
+/// The input of a run and the writes to the engine that fail; then its status, what the interface is
 /// answered, and its log.
 #[derive(Clone, Copy)]
 struct ExactSession {
@@ -35,7 +35,7 @@ fn expect_session<R: Threads + Wait + Sync + Abort>(rt: &R, alloc: Global, sessi
 
 /// An engine's bytes come in one piece, and then its end.
 const GIVEN: Given = Given {
-    words: "--LogFile|b.log|--|toy|-x y",
+    arguments: "--LogFile|b.log|--|toy|-x y",
     awaits_answers: false,
     iface: &[],
     engine: b"uciok\n",

@@ -1,14 +1,14 @@
-// What the log and both sides get if the engine is lost.
+// The output to the log and to both sides if the engine is lost.
 ghost use Rattle.std.specs.Prelude.{◌≡◌, ◌≤◌, []};
-ghost use Rattle.event_pipe.specs.Ends.{IsSender, IsFreshTaker, events_sent};
+ghost use Rattle.event_pipe.specs.Ends.{IsSender, IsFreshReceiver, events_sent};
 ghost use Rattle.mediator.specs.declared.mediator.TheConstants.{TURN_ROOM};
 
 use crate::expected::expect_bytes;
 use crate::fresh_session::make_session;
 use event_pipe::{Pipe, PipeSend, read_pipe};
-use host_run::LoopEnd;
 use line_io::{MemSink, MemSource, Out};
 use mediator::{Mediator, TURN_ROOM, Turns, mediate};
+use program_lifecycle::LoopEnd;
 use std::alloc::Global;
 use std::process::Abort;
 use std::sync::Wait;
@@ -57,7 +57,7 @@ fn read_lines<R: Wait + Abort>(rt: &R, alloc: Global, lines: &[u8], to: &mut Pip
 // Has a mediator take what is in the channel.
 fn mediate_all<M: Mediator + Drop, R: Wait>(rt: &R, turns: Turns<M>, sinks: &mut Sinks) -> LoopEnd
     requires mediator { M.means.fresh turns.mediator }
-    requires taker { IsFreshTaker turns.taker }
+    requires receiving_end { IsFreshReceiver turns.receiving_end }
     requires room { TURN_ROOM ≤ turns.text.room }
 {
     let mut turns = turns;
@@ -81,12 +81,15 @@ fn run_loop<M: Mediator + Drop, R: Wait + Abort>(
 ) -> LoopEnd
     requires { M.means.fresh mediator }
 {
-    let (mut iface, mut child, taker) = Pipe::make(alloc).expect(rt, "memory for the channel");
+    let (mut iface, mut child, receiving_end) = Pipe::make(alloc).expect(
+        rt,
+        "memory for the channel",
+    );
     read_lines(rt, alloc, lines.0, &mut child);
     read_lines(rt, alloc, lines.1, &mut iface);
     let turns = Turns {
         mediator,
-        taker,
+        receiving_end,
         text: Out::make(alloc, TURN_ROOM).expect(rt, "memory for the log's text"),
     };
     mediate_all(rt, turns, sinks)

@@ -1,4 +1,4 @@
-// Runs of a session of a ping and `quit`, and words that ask for one or are refused.
+// Runs of a session of a ping and `quit`, and arguments that ask for one or are refused.
 use crate::expected::{expect, expect_bytes};
 use crate::program::{BridgeRun, Counts, Given, run_bridge};
 use bridge_runner::refuse_for_memory;
@@ -14,7 +14,7 @@ pub const ENGINE: &[u8] = b"uciok\nreadyok\n";
 
 /// An interface that asks for an answer and quits, in pieces of five bytes as its engine.
 pub const PING: Given = Given {
-    words: "toy",
+    arguments: "toy",
     awaits_answers: false,
     iface: &[
         DueText {
@@ -42,7 +42,7 @@ const PONG_AND_END: &[u8] = b"pong 3\ntellusererror Engine ended\n";
 
 const END_AND_PONG: &[u8] = b"tellusererror Engine ended\npong 3\n";
 
-/// Whether the ping was answered. The end of the engine is reported if it came before `quit`.
+/// True if the ping was answered. The end of the engine is reported if it came before `quit`.
 pub fn is_answered(run: &BridgeRun) -> bool {
     let output = run.output.sink.taken();
     output == PONG || output == PONG_AND_END || output == END_AND_PONG
@@ -65,24 +65,29 @@ const TAKEN: &[&str] = &[
     "toy|--|-c|--x",
 ];
 
-// Runs the program with these words, and compares its status and its diagnostic. With the status 0
+// Runs the program with these arguments, and compares its status and its diagnostic. With the status 0
 // the ping is answered, and with another nothing is written.
-fn expect_words<R: Threads + Wait + Sync + Abort>(
+fn expect_arguments<R: Threads + Wait + Sync + Abort>(
     rt: &R,
     alloc: Global,
-    words: &'static str,
+    arguments: &'static str,
     code: u8,
     diag: &[u8],
 ) {
     let counts = Counts::new();
-    let given = Given { words, ..PING };
+    let given = Given { arguments, ..PING };
     let run = run_bridge(rt, alloc, &given, &Fails::default(), &counts);
     let is_wanted = if code == 0 {
         is_answered(&run)
     } else {
         run.output.sink.taken().is_empty()
     };
-    expect(rt, run.code == code && is_wanted, words, usize::from(code));
+    expect(
+        rt,
+        run.code == code && is_wanted,
+        arguments,
+        usize::from(code),
+    );
     expect_bytes(rt, run.diag.taken(), diag);
 }
 
@@ -93,19 +98,19 @@ fn expect_each<R: Threads + Wait + Sync + Abort>(
     code: u8,
     diag: &[u8],
 ) {
-    for words in texts {
-        expect_words(rt, alloc, *words, code, diag);
+    for arguments in texts {
+        expect_arguments(rt, alloc, *arguments, code, diag);
     }
 }
 
 #[test]
-fn words_are_refused_or_taken(rt: HostRuntime) {
+fn arguments_are_refused_or_taken(rt: HostRuntime) {
     expect_each(&rt, rt.alloc(), REFUSED, 2, b"bridge: usage\n");
     expect_each(&rt, rt.alloc(), TAKEN, 0, b"");
 }
 
 #[test]
-fn no_memory_is_told(rt: HostRuntime) {
+fn no_memory_is_reported(rt: HostRuntime) {
     let mut diag = MemSink::make(rt.alloc(), 100, &[]).expect(&rt, "memory for the diagnostic");
     assert_eq!(rt; refuse_for_memory(&mut diag).code, 3);
     expect_bytes(&rt, diag.taken(), b"bridge: no memory\n");

@@ -2,16 +2,16 @@
 use crate::expected::words_of;
 use bridge_runner::bridge_main;
 use child_engine::{Fails, MemHost};
-use host_run::Interface;
 use line_io::MemSink;
 use paced_host::{DueText, PacedHost, PacedLog, PacedTexts};
+use program_lifecycle::Interface;
 use std::alloc::Global;
 use std::process::Abort;
 use std::sync::Wait;
 use std::sync::atomic::AtomicU64;
 use std::thread::Threads;
 
-/// How many lines the log and the interface took.
+/// The numbers of lines that the log and the interface took.
 #[derive(Drop)]
 pub struct Counts {
     pub log: AtomicU64,
@@ -27,13 +27,13 @@ impl Counts {
     }
 }
 
-/// What a run is given: the program's words, bars between; what an interface says, once the log or,
+/// The input of a run: the program's arguments, bars between; what an interface says, once the log or,
 /// if it awaits its answers, the interface's own sink took so many lines; what the engine says, at
 /// most so many bytes at a read, each read once the log took so many lines; and the writes of the
 /// diagnostic that fail.
 #[derive(Clone, Copy)]
 pub struct Given {
-    pub words: &'static str,
+    pub arguments: &'static str,
     pub awaits_answers: bool,
     pub iface: &'static [DueText],
     pub engine: &'static [u8],
@@ -42,7 +42,7 @@ pub struct Given {
     pub diag_fails: &'static [u64],
 }
 
-/// What a run answered, and what its sinks and its host took.
+/// The answer of a run, and the bytes that its sinks and its host took.
 #[derive(Drop)]
 pub struct BridgeRun<'a> {
     pub code: u8,
@@ -60,7 +60,7 @@ pub fn run_bridge<'a, R: Threads + Wait + Sync + Abort>(
     counts: &'a Counts,
 ) -> BridgeRun<'a> {
     assert!(rt; 0 < given.piece);
-    let words = words_of(rt, alloc, given.words);
+    let arguments = words_of(rt, alloc, given.arguments);
     let awaited = if given.awaits_answers {
         &counts.output
     } else {
@@ -74,8 +74,8 @@ pub fn run_bridge<'a, R: Threads + Wait + Sync + Abort>(
         output: PacedLog::new(output, &counts.output),
     };
     let mut diag = MemSink::make(alloc, 1_000, given.diag_fails).expect(rt, "memory");
-    let words = words.as_slice();
-    let status = bridge_main(rt, alloc, words, &mut interface, &mut host, &mut diag);
+    let arguments = arguments.as_slice();
+    let status = bridge_main(rt, alloc, arguments, &mut interface, &mut host, &mut diag);
     BridgeRun {
         code: status.code,
         output: interface.output,

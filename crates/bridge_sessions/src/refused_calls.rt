@@ -14,7 +14,7 @@ const FIRST_STEP: &[u8] = b"\
     U uci\n\
     # 1\n";
 
-/// What is compared of a run some of whose calls fail.
+/// The compared parts of a run some of whose calls fail.
 #[derive(Clone, Copy)]
 struct FailingRun {
     code: u8,
@@ -23,18 +23,18 @@ struct FailingRun {
     is_silent: bool,
     /// The engine got the first of its orders.
     begins_session: bool,
-    /// How many lines of the log begin a step or the log.
+    /// The count of log lines that begin a step or the log.
     marks: u64,
     /// The log is what comes first in it, or begins with that.
     fits_first_step: bool,
 }
 
-// Whether these are the first of the orders that the engine gets in some order of events.
+// True if these are the first of the orders that the engine gets in some order of events.
 fn begins_a_session(wrote: &[u8]) -> bool {
     b"uci\nisready\nquit\n".starts_with(wrote) || b"uci\nquit\n".starts_with(wrote)
 }
 
-// How many lines begin a log's step or a log: no other text of these sessions has the sign.
+// The number of lines that begin a log's step or a log: no other text of these sessions has the sign.
 fn marks_in(log: &[u8]) -> u64 {
     let mut marks = 0_u64;
     for byte in log {
@@ -49,7 +49,7 @@ fn fits_first_step(log: &[u8]) -> bool {
     log.starts_with(FIRST_STEP) || FIRST_STEP.starts_with(log)
 }
 
-// What is compared of this run.
+// The compared parts of this run.
 fn seen_of(run: &BridgeRun) -> FailingRun {
     let log = run.host.logged();
     FailingRun {

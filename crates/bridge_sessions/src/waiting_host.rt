@@ -7,7 +7,7 @@ use paced_host::{PacedLog, PacedSource};
 use std::alloc::Global;
 use std::sync::atomic::AtomicU64;
 
-/// What an engine says, at most six bytes at a read, and how many orders it waits for at each read:
+/// The text of an engine, at most six bytes at a read, and how many orders it waits for at each read:
 /// `uciok` is for `uci`, `readyok`, in two pieces, for `isready`, and the end for `quit`.
 pub const ENGINE: &[u8] = b"uciok\nreadyok\n";
 
@@ -35,7 +35,7 @@ impl<'a> WaitingHost<'a> {
         }
     }
 
-    /// Whether an engine that was closed waited for an order in vain.
+    /// True if an engine that was closed waited for an order in vain.
     pub fn has_missed(&self) -> bool {
         self.missed
     }
@@ -44,7 +44,7 @@ impl<'a> WaitingHost<'a> {
 impl<'a> Host for WaitingHost<'a> {
     ghost use Rattle.std.specs.Prelude.{◌≡◌, ◌<◌, length};
     ghost use Rattle.child_engine.specs.Hosts.{ClosesBy, with_closed_run};
-    ghost use Rattle.child_engine.specs.Memory.{asked_of, books_of, shown_by_source, shown_by_sink};
+    ghost use Rattle.child_engine.specs.Memory.{asked_of, memory_ledger, shown_by_memory_source, shown_by_sink};
 
     type EngineSource = PacedSource<'a>;
 
@@ -56,20 +56,20 @@ impl<'a> Host for WaitingHost<'a> {
 
     ghost faults = { λ h. h.host.faults };
 
-    ghost books = { λ h. books_of h.host };
+    ghost ledger = { λ h. memory_ledger h.host };
 
     ghost asked = { λ h. asked_of h.host };
 
     fn start(
         &mut self,
         alloc: Global,
-        words: &[String],
+        arguments: &[String],
     ) -> Result<Started<PacedSource<'a>, PacedLog<'a>, ()>, HostFault> {
         let Started {
             source,
             sink,
             process: (),
-        } = self.host.start(alloc, words)?;
+        } = self.host.start(alloc, arguments)?;
         Ok(Started {
             source: PacedSource::new(source, self.orders, ENGINE_WAITS),
             sink: PacedLog::new(sink, self.orders),
@@ -82,12 +82,13 @@ impl<'a> Host for WaitingHost<'a> {
     }
 
     fn close(&mut self, run: Started<PacedSource<'a>, PacedLog<'a>, ()>) -> Result<(), Failed>
-        requires { length (books_of self.old.host).runs < (books_of self.old.host).runs_out }
-        ensures books { books_of self.new.host ≡ with_closed_run (books_of self.old.host)
-            (shown_by_source run.entry.source.source) (shown_by_sink run.entry.sink.sink) }
+        requires { length (memory_ledger self.old.host).runs < (memory_ledger
+            self.old.host).runs_out }
+        ensures ledger { memory_ledger self.new.host ≡ with_closed_run (memory_ledger self.old.host)
+            (shown_by_memory_source run.entry.source.source) (shown_by_sink run.entry.sink.sink) }
         ensures asked { asked_of self.new.host ≡ asked_of self.old.host }
         ensures cause { ClosesBy self.old.host.faults self.new.host.faults
-            (shown_by_source run.entry.source.source).faults
+            (shown_by_memory_source run.entry.source.source).faults
             (shown_by_sink run.entry.sink.sink).faults result }
     {
         let Started {

@@ -1,4 +1,4 @@
--- What is cut from a line is a line: it has no line feed, and is no longer.
+-- A part cut from a line is a line: it has no line feed, and is no longer.
 use Rattle.std.proofs.Common.{◌≡◌, ℕ, ℤ, zero, suc, ◌+◌, ◌≤◌, Bool, true, false, cond, ◌&&◌, ◌||◌, nat_eq, List, [], ◌∷◌, length, take, drop, Option, Some, None, refl, sym, ap, subst, ◌∙◌, arith}
 use Rattle.std.specs.Prelude.{codes}
 use Rattle.std.specs.Str.{bytes_eq}
@@ -6,10 +6,10 @@ use Rattle.std.proofs.lemmas.List.{length-drop}
 use Rattle.std.proofs.lemmas.List.Folds.{length-prefix_len}
 use Rattle.line_io.specs.Event.{has_feed}
 use Rattle.line_io.specs.Lines.{line_feed}
-use Rattle.peer_words.specs.Tokens.{first_token, is_blank, is_white, rest, token_end, tokens, trim_left, trim_right, trimmed}
+use Rattle.peer_words.specs.Tokens.{first_token, is_blank, is_white, rest_after_token, token_end, tokens, trim_left, trim_right, trimmed}
 use Rattle.peer_words.proofs.Lengths.{rest_length, trim_left_length}
-use Rattle.driver_talk.specs.Numbers.{next_number}
-use Rattle.driver_talk.specs.Says.{Says, Feature, is_over, or_other, pong_by, pong_in, report_by, report_fourth, report_in, report_second, report_third, says_in}
+use Rattle.driver_state_machine.specs.Numbers.{next_number}
+use Rattle.driver_state_machine.specs.Says.{EngineMessageSeen, Feature, engine_gives_up, or_other, pong_by, pong_number_in, report_by, report_fourth, report_in, report_second, report_third, says_in}
 
 -- it has no line feed, and is no longer than a line may be
 pub record IsWhole (text : List ℕ) : Type 0 where
@@ -68,7 +68,7 @@ dropped k xs h = record { no_feed = drop_fed k xs h.no_feed; short = omega (arit
 pub trimmed_first : (xs : List ℕ) → IsWhole xs → IsWhole (trim_left xs)
 trimmed_first xs h = record { no_feed = left_fed xs h.no_feed; short = omega (arith, trim_left_length xs, h.short) }
 
-rest_whole : (line : List ℕ) → IsWhole line → IsWhole (rest line)
+rest_whole : (line : List ℕ) → IsWhole line → IsWhole (rest_after_token line)
 rest_whole line h =
     let t = trim_left line in
     record {
@@ -81,7 +81,7 @@ later x xs h = record { no_feed = (neither (nat_eq x line_feed) (has_feed xs) h.
 
 -- A LINE OF FEATURES
 
-abbrev IsSaid : Says → Type 0
+abbrev IsSaid : EngineMessageSeen → Type 0
 IsSaid (Feature text) = IsWhole text
 IsSaid said = Unit {0}
 
@@ -106,17 +106,17 @@ pong_said None = tt
 pong_said (Some n) = tt
 
 -- by the tests of the first word
-by_tests : (line : List ℕ) (move over pong feature : Bool) → bytes_eq (first_token line) (codes "move") ≡ move → is_over (first_token line) ≡ over → bytes_eq (first_token line) (codes "pong") ≡ pong → bytes_eq (first_token line) (codes "feature") ≡ feature
+by_tests : (line : List ℕ) (move over pong feature : Bool) → bytes_eq (first_token line) (codes "move") ≡ move → engine_gives_up (first_token line) ≡ over → bytes_eq (first_token line) (codes "pong") ≡ pong → bytes_eq (first_token line) (codes "feature") ≡ feature
     → IsWhole line → IsSaid (says_in line)
 unfolding says_in
 by_tests line true over pong feature a b c d h = rw a tt
 by_tests line false true pong feature a b c d h = rw (a, b) tt
-by_tests line false false true feature a b c d h = rw (a, b, c) (pong_said (pong_in (tokens (rest line))))
+by_tests line false false true feature a b c d h = rw (a, b, c) (pong_said (pong_number_in (tokens (rest_after_token line))))
 by_tests line false false false true a b c d h = rw (a, b, c, d) (rest_whole line h)
 by_tests line false false false false a b c d h = rw (a, b, c, d) (first_said (next_number (tokens line)))
 
 line_said : (line : List ℕ) → IsWhole line → IsSaid (says_in line)
-line_said line h = by_tests line (bytes_eq (first_token line) (codes "move")) (is_over (first_token line)) (bytes_eq (first_token line) (codes "pong")) (bytes_eq (first_token line) (codes "feature")) refl refl refl refl h
+line_said line h = by_tests line (bytes_eq (first_token line) (codes "move")) (engine_gives_up (first_token line)) (bytes_eq (first_token line) (codes "pong")) (bytes_eq (first_token line) (codes "feature")) refl refl refl refl h
 
 pub feature_whole : (line text : List ℕ) → IsWhole line → Feature text ≡ says_in line → IsWhole text
 feature_whole line text h e = subst IsSaid (sym e) (line_said line h)

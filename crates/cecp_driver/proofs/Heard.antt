@@ -1,10 +1,10 @@
--- What is cut off the front, and then the rest.
+-- The part that is cut off the front, and then the rest.
 use Rattle.std.proofs.Common.{◌≡◌, ℕ, List, [], ◌∷◌, ◌++◌, length, ◌+◌, ◌*◌, ◌≤◌, Option, Some, None, IfSome, refl, sym, ap, ◌∙◌, append_assoc, append-nil, arith}
 use Rattle.line_io.specs.Out.{Text, with}
-use Rattle.driver_talk.specs.Parts.{Feature, CutFeature, onto, FitsIn, IsNamed}
-use Rattle.driver_talk.specs.Lines.{DownLine, line_text, lines_text}
+use Rattle.driver_state_machine.specs.Parts.{Feature, CutFeature, onto, FitsIn, IsNamed}
+use Rattle.driver_state_machine.specs.Lines.{DownLine, driver_line_text, lines_text}
 use Rattle.cecp_driver.specs.declared.features.HasFeatures.{HasFeatures}
-use Rattle.cecp_driver.specs.Features.{has_after, name_after, answer_line, greeting, has_all, name_all, answers, greetings, weight, weight_by}
+use Rattle.cecp_driver.specs.Features.{has_after, name_after, answer_line, greeting, has_all, name_all, feature_answers, greetings, feature_weight, weight_by}
 
 pub has_onto : (p : Option Feature) (h : HasFeatures) (fs : List Feature) → has_all h (onto p fs) ≡ has_all (has_all h (onto p [])) fs
 has_onto None h fs = refl
@@ -18,9 +18,9 @@ pub greetings_onto : (p : Option Feature) (h : HasFeatures) (name : List ℕ) (f
 greetings_onto None h name fs = refl
 greetings_onto (Some f) h name fs = ap (λ (x : List ℕ). x ++ greetings (has_after h f) (name_after name f) fs) (sym (append-nil (greeting h name f)))
 
-pub answers_onto : (p : Option Feature) (fs : List Feature) → lines_text (answers (onto p fs)) ≡ lines_text (answers (onto p [])) ++ lines_text (answers fs)
+pub answers_onto : (p : Option Feature) (fs : List Feature) → lines_text (feature_answers (onto p fs)) ≡ lines_text (feature_answers (onto p [])) ++ lines_text (feature_answers fs)
 answers_onto None fs = refl
-answers_onto (Some f) fs = ap (λ (x : List ℕ). x ++ lines_text (answers fs)) (sym (append-nil (line_text (answer_line f))))
+answers_onto (Some f) fs = ap (λ (x : List ℕ). x ++ lines_text (feature_answers fs)) (sym (append-nil (driver_line_text (answer_line f))))
 
 pub weighs : (text : List ℕ) (p : Option Feature) (rest : List ℕ) → length rest ≤ length text → FitsIn text (record { part = p; rest = rest }) → weight_by p rest ≤ length text
 weighs text None rest h f = h
@@ -44,12 +44,12 @@ up_step p h h' n n' u u' fs all whole ea eh en eu ew =
     ∙ ap (λ (x : List ℕ). u.text ++ x) (sym (greetings_onto p h n fs))
     ∙ ap (λ (x : List Feature). u.text ++ greetings h n x) (sym ea) ∙ ew
 
-pub down_step : (p : Option Feature) (d d' : Text) (fs all : List Feature) (whole : List ℕ) → all ≡ onto p fs → d' ≡ with d (lines_text (answers (onto p []))) → d.text ++ lines_text (answers all) ≡ whole → d'.text ++ lines_text (answers fs) ≡ whole
+pub down_step : (p : Option Feature) (d d' : Text) (fs all : List Feature) (whole : List ℕ) → all ≡ onto p fs → d' ≡ with d (lines_text (feature_answers (onto p []))) → d.text ++ lines_text (feature_answers all) ≡ whole → d'.text ++ lines_text (feature_answers fs) ≡ whole
 down_step p d d' fs all whole ea ed ew =
-    ap (λ (t : Text). t.text ++ lines_text (answers fs)) ed
-    ∙ append_assoc d.text (lines_text (answers (onto p []))) (lines_text (answers fs))
+    ap (λ (t : Text). t.text ++ lines_text (feature_answers fs)) ed
+    ∙ append_assoc d.text (lines_text (feature_answers (onto p []))) (lines_text (feature_answers fs))
     ∙ ap (λ (x : List ℕ). d.text ++ x) (sym (answers_onto p fs))
-    ∙ ap (λ (x : List Feature). d.text ++ lines_text (answers x)) (sym ea) ∙ ew
+    ∙ ap (λ (x : List Feature). d.text ++ lines_text (feature_answers x)) (sym ea) ∙ ew
 
 pub value_within : (text : List ℕ) (p : Option Feature) (rest : List ℕ) (room : ℕ) → FitsIn text (record { part = p; rest = rest }) → length text ≤ room → IfSome p (λ f. length f.value ≤ room)
 value_within text None rest room f h = tt

@@ -4,28 +4,28 @@ use Rattle.std.proofs.lemmas.Bool.Decides.{nat_tests}
 use Rattle.chess_board.specs.declared.board.Move.{Move}
 use Rattle.chess_board.specs.Position.{Position}
 use Rattle.chess_board.specs.Place.{legal}
-use Rattle.chess_board.specs.Spelling.{move_of}
+use Rattle.chess_board.specs.Spelling.{move_spelled_by}
 use Rattle.chess_board.specs.Text.{IsOfficer}
 use Rattle.chess_board.proofs.Legal.{legal-law}
 use Rattle.chess_board.proofs.Texts.{legal-written}
 use Rattle.chess_board.proofs.LegalMoves.{legal_is}
-use Rattle.game_record.specs.Game.{Game, now_of}
-use Rattle.driver_talk.specs.declared.words.ToIface.{ToIface}
-use Rattle.driver_talk.specs.declared.words.ToIface.TheVariants as ups
-use Rattle.driver_talk.specs.declared.talk.Reach.{Reach}
-use Rattle.driver_talk.specs.declared.talk.Reach.TheVariants as reaches
-use Rattle.driver_talk.specs.declared.talk.DriverCall.{DriverCall}
-use Rattle.driver_talk.specs.declared.talk.DriverCall.TheVariants as calls
-use Rattle.driver_talk.specs.declared.order_words.OrderWord.{OrderWord}
-use Rattle.driver_talk.specs.declared.order_words.OrderWord.TheVariants as orders
-use Rattle.driver_talk.specs.Says.{Says, Move as SaysMove, Over, Pong, Report, Feature}
-use Rattle.driver_talk.specs.Says as says
-use Rattle.driver_talk.specs.Moves.{if_legal, coordinates, Writes, Names, NamesNone, IsShown, IsThought, IsFirstMove}
+use Rattle.game_record.specs.Game.{Game, current_position}
+use Rattle.driver_state_machine.specs.declared.words.ToIface.{ToIface}
+use Rattle.driver_state_machine.specs.declared.words.ToIface.TheVariants as ups
+use Rattle.driver_state_machine.specs.declared.driver_state.Reach.{Reach}
+use Rattle.driver_state_machine.specs.declared.driver_state.Reach.TheVariants as reaches
+use Rattle.driver_state_machine.specs.declared.driver_state.DriverCall.{DriverCall}
+use Rattle.driver_state_machine.specs.declared.driver_state.DriverCall.TheVariants as calls
+use Rattle.driver_state_machine.specs.declared.order_words.OrderWord.{OrderWord}
+use Rattle.driver_state_machine.specs.declared.order_words.OrderWord.TheVariants as orders
+use Rattle.driver_state_machine.specs.Says.{EngineMessageSeen, Move as SaysMove, Over, Pong, Report, Feature}
+use Rattle.driver_state_machine.specs.Says as says
+use Rattle.driver_state_machine.specs.Moves.{if_legal, coordinates, WritesEngineMove, Names, NamesNone, EngineMoveIs, IsThought, IsFirstMove}
 use Rattle.cecp_driver.specs.declared.driver.DriverParts.{DriverParts}
-use Rattle.cecp_driver.specs.declared.told.TheConstants.{MOST_PLIES}
-use Rattle.cecp_driver.specs.Deeds.{CanSay}
-use Rattle.cecp_driver.specs.Driver.{is_usable, reach_of, IsAsked, IsHeard, thought_call}
-use Rattle.cecp_driver.proofs.Good.{SaysLegal, CallFits}
+use Rattle.cecp_driver.specs.declared.sent_game.TheConstants.{MOST_PLIES}
+use Rattle.cecp_driver.specs.Actions.{CanSay}
+use Rattle.cecp_driver.specs.Driver.{is_usable, reach_of, GoIsAsked, EngineLineIsHeard, thought_call}
+use Rattle.cecp_driver.proofs.Good.{SaysLegal, CallFits, FirstFits}
 
 pub officer : (p : Position) (m : Move) → legal p m ≡ true → IsOfficer m.promotion
 officer p m e = legal-written p m ((legal-law p m.from.index m.to.index m.promotion).0 e)
@@ -34,8 +34,8 @@ pub can_say : (g : Game) (up : ToIface) → SaysLegal g up → CanSay up
 can_say g ups.Nothing h = tt
 can_say g ups.Ready h = tt
 can_say g (ups.Best None) h = tt
-can_say g (ups.Best (Some m)) h = officer (now_of g) m h
-can_say g (ups.Info thought) h = officer (now_of g) thought.best h
+can_say g (ups.Best (Some m)) h = officer (current_position g) m h
+can_say g (ups.Info thought) h = officer (current_position g) thought.best h
 
 -- THE MOVES
 
@@ -50,15 +50,15 @@ if_legal_is : (p : Position) (m : Option Move) → AllLegal p (if_legal p m)
 if_legal_is p None = tt
 if_legal_is p (Some m) = if_step p m (legal p m) refl
 
-written_legal : (p : Position) (text : List ℕ) (m : Move) → Writes p text m → legal p m ≡ true
+written_legal : (p : Position) (text : List ℕ) (m : Move) → WritesEngineMove p text m → legal p m ≡ true
 written_legal p text m (inl alone) = legal_is p m alone.0.0
 written_legal p text m (inr long) = legal_is p m long.1.0.0
 
 named_legal : (p : Position) (text : List ℕ) (m : Move) → Names p text m → legal p m ≡ true
-named_legal p text m (inl e) = subst (AllLegal p) e (if_legal_is p (move_of text))
+named_legal p text m (inl e) = subst (AllLegal p) e (if_legal_is p (move_spelled_by text))
 named_legal p text m (inr both) = written_legal p text m both.1
 
-shown_legal : (p : Position) (text : List ℕ) (shown : Option Move) → IsShown p text shown → AllLegal p shown
+shown_legal : (p : Position) (text : List ℕ) (shown : Option Move) → EngineMoveIs p text shown → AllLegal p shown
 shown_legal p text None h = tt
 shown_legal p text (Some m) h = named_legal p text m h
 
@@ -67,9 +67,9 @@ thought_legal p [] best h = subst (AllLegal p) (sym h) tt
 thought_legal p (t ∷ ts) best (inl found) = subst (AllLegal p) (sym found.1.1) (named_legal p t found.0 found.1.0)
 thought_legal p (t ∷ ts) best (inr later) = thought_legal p ts best later.1
 
-first_legal : (p : Position) (first : Option Move) → IsFirstMove p first → AllLegal p first
-first_legal p None h = tt
-first_legal p (Some m) h = legal_is p m h.0
+first_legal : (g : Game) (first : Option Move) → IsFirstMove (current_position g) first → FirstFits g first
+first_legal g None h = h
+first_legal g (Some m) h = legal_is (current_position g) m h.0
 
 -- THE REACH
 
@@ -95,18 +95,18 @@ reach_fits v reach e = subst (λ (r : Reach). (r ≡ reaches.Nothing) ⊎ (lengt
 
 -- CALLS
 
-pub asked_fits : (v : DriverParts) (line : List ℕ) (o : OrderWord) (c : DriverCall) → IsAsked v line o c → CallFits v.game c
-asked_fits v line orders.Go c e = subst (CallFits v.game) (sym e.1.1) (first_legal (now_of v.game) e.0.first e.1.0.first, reach_fits v e.0.reach e.1.0.reach)
+pub asked_fits : (v : DriverParts) (line : List ℕ) (o : OrderWord) (c : DriverCall) → GoIsAsked v line o c → CallFits v.game c
+asked_fits v line orders.Go c e = subst (CallFits v.game) (sym e.1.1) (first_legal v.game e.0.first e.1.0.first, reach_fits v e.0.reach e.1.0.reach)
 asked_fits v line o c e = subst (CallFits v.game) (sym e) tt
 
-thought_fits : (g : Game) (depth : ℕ) (score : ℤ) (time nodes : ℕ) (best : Option Move) → AllLegal (now_of g) best → CallFits g (thought_call depth score time nodes best)
+thought_fits : (g : Game) (depth : ℕ) (score : ℤ) (time nodes : ℕ) (best : Option Move) → AllLegal (current_position g) best → CallFits g (thought_call depth score time nodes best)
 thought_fits g depth score time nodes None h = tt
 thought_fits g depth score time nodes (Some m) h = h
 
-pub heard_fits : (v : DriverParts) (said : Says) (c : DriverCall) → IsHeard v said c → CallFits v.game c
-heard_fits v (SaysMove text) c e = subst (CallFits v.game) (sym e.1.1) (shown_legal (now_of v.game) text e.0 e.1.0)
+pub heard_fits : (v : DriverParts) (said : EngineMessageSeen) (c : DriverCall) → EngineLineIsHeard v said c → CallFits v.game c
+heard_fits v (SaysMove text) c e = subst (CallFits v.game) (sym e.1.1) (shown_legal (current_position v.game) text e.0 e.1.0)
 heard_fits v Over c e = subst (CallFits v.game) (sym e) tt
 heard_fits v (Pong n) c e = subst (CallFits v.game) (sym e) tt
-heard_fits v (Report depth score time nodes moves) c e = subst (CallFits v.game) (sym e.1.1) (thought_fits v.game depth score time nodes e.0 (thought_legal (now_of v.game) moves e.0 e.1.0))
+heard_fits v (Report depth score time nodes moves) c e = subst (CallFits v.game) (sym e.1.1) (thought_fits v.game depth score time nodes e.0 (thought_legal (current_position v.game) moves e.0 e.1.0))
 heard_fits v (Feature text) c e = subst (CallFits v.game) (sym e) tt
 heard_fits v says.Other c e = subst (CallFits v.game) (sym e) tt

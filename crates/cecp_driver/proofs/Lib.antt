@@ -21,3 +21,4 @@ mod Playing
 mod Quitting
 pub mod Sound
 pub mod OneRun
+mod Prompting

@@ -5,7 +5,7 @@ use Rattle.std.specs.List.{AllByRecursion, before_first, after_first, list_all, 
 use Rattle.peer_words.specs.Tokens.{is_token, is_white, token_end, trim_left}
 use Rattle.cecp_driver.specs.Said.{IsName}
 use Rattle.cecp_driver.proofs.Fed.{IsWhole, dropped, later, taken, trimmed_first}
-use Rattle.driver_talk.specs.Parts.{CutFeature, Feature, cut_by, cut_of, ends_name, cut_with_feature, is_quote, onto, parts, parts_from, parts_within, cut_without_feature, value_cut}
+use Rattle.driver_state_machine.specs.Parts.{CutFeature, Feature, cut_by, cut_of, ends_name, cut_with_feature, is_quote, onto, feature_parts, parts_from, parts_within, cut_without_feature, feature_value_cut}
 
 abbrev IsBlack : List ℕ → Type 0
 IsBlack xs = list_all (λ b. not (is_white b)) xs ≡ true
@@ -46,14 +46,14 @@ quoted_cut : (q : Bool) (name : List ℕ) (b : ℕ) (bs : List ℕ) → IsName n
 quoted_cut true name b bs h k = named name _ _ h (taken _ bs (later b bs k)) (dropped _ bs (later b bs k))
 quoted_cut false name b bs h k = named name _ _ h (taken _ (b ∷ bs) k) (dropped _ (b ∷ bs) k)
 
-value_whole : (name bs : List ℕ) → IsName name → IsWhole bs → IsCut (value_cut name bs)
+value_whole : (name bs : List ℕ) → IsName name → IsWhole bs → IsCut (feature_value_cut name bs)
 value_whole name [] h k = named name [] [] h blank blank
 value_whole name (b ∷ bs) h k = quoted_cut (eqb b 34) name b bs h k
 
 skipped_cut : (text : List ℕ) → IsWhole text → IsCut (cut_without_feature text)
 skipped_cut text h = record { part = tt; left = dropped (token_end text) text h }
 
-whole_by : (equals : Bool) (name bs behind : List ℕ) → IsName name → IsWhole bs → IsWhole behind → IsCut (cond equals (value_cut name bs) (cut_without_feature behind))
+whole_by : (equals : Bool) (name bs behind : List ℕ) → IsName name → IsWhole bs → IsWhole behind → IsCut (cond equals (feature_value_cut name bs) (cut_without_feature behind))
 whole_by true name bs behind h k l = value_whole name bs h k
 whole_by false name bs behind h k l = skipped_cut behind l
 
@@ -85,6 +85,6 @@ within_whole : (n : ℕ) (text : List ℕ) → IsWhole text → AreWhole (parts_
 within_whole zero text w = tt
 within_whole (suc n) text w = from_whole (trim_left text) (λ rest. parts_within n rest) (trimmed_first text w) (within_whole n)
 
-pub parts_whole : (text : List ℕ) → IsWhole text → AllByRecursion IsWholeFeature (parts text)
-unfolding parts
+pub parts_whole : (text : List ℕ) → IsWhole text → AllByRecursion IsWholeFeature (feature_parts text)
+unfolding feature_parts
 parts_whole text w = within_whole (length text) text w

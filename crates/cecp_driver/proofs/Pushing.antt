@@ -9,7 +9,7 @@ use Rattle.chess_board.specs.Place.{legal}
 use Rattle.chess_board.proofs.Legal.{legal-law}
 use Rattle.game_record.specs.declared.game.PlayFault.{PlayFault}
 use Rattle.game_record.specs.declared.game.PlayFault.TheVariants.{Illegal, TooLong}
-use Rattle.game_record.specs.Game.{Game, ply_of, now_of, with_ply, IsPlayable}
+use Rattle.game_record.specs.Game.{Game, ply_of, current_position, with_ply, IsPlayablePly}
 use Rattle.cecp_driver.specs.Ordered.{push_one, game_after_texts}
 
 -- what comes of a try, by the tests of a move
@@ -30,10 +30,10 @@ tried_by true true P F (Err TooLong) g' next l f i t ok = absurd (let e : true �
 full : (g : Game) (most : ℕ) → length g.moves ≤ most → (ltb (length g.moves) most ≡ false) ↔ (length g.moves ≡ most)
 full g most few = (λ e. grind (arith, nat_tests), λ e. grind (arith, nat_tests))
 
-tried : (g g' : Game) (m : Move) (r : Result (Unit {0}) PlayFault) → length g.moves ≤ 12000 → ((r ≡ Err Illegal) ↔ (IsPlayable (now_of g) (ply_of m) → ⊥))
-    → ((r ≡ Err TooLong) ↔ (IsPlayable (now_of g) (ply_of m) × (length g.moves ≡ 12000))) → OnOk r (g' ≡ with_ply g (ply_of m)) → IsTried r (Some g') (push_one g (Some m))
+tried : (g g' : Game) (m : Move) (r : Result (Unit {0}) PlayFault) → length g.moves ≤ 12000 → ((r ≡ Err Illegal) ↔ (IsPlayablePly (current_position g) (ply_of m) → ⊥))
+    → ((r ≡ Err TooLong) ↔ (IsPlayablePly (current_position g) (ply_of m) × (length g.moves ≡ 12000))) → OnOk r (g' ≡ with_ply g (ply_of m)) → IsTried r (Some g') (push_one g (Some m))
 tried g g' m r few illegal long ok =
-    tried_by (legal (now_of g) m) (ltb (length g.moves) 12000) _ _ r g' (with_ply g (ply_of m)) (legal-law (now_of g) m.from.index m.to.index m.promotion) (full g 12000 few) illegal long ok
+    tried_by (legal (current_position g) m) (ltb (length g.moves) 12000) _ _ r g' (with_ply g (ply_of m)) (legal-law (current_position g) m.from.index m.to.index m.promotion) (full g 12000 few) illegal long ok
 
 on_true : (b : Bool) (P : Type 0) → (b ≡ true → P) → OnTrue b P
 on_true true P f = f refl
@@ -43,12 +43,12 @@ on_false : (b : Bool) (P : Type 0) → (b ≡ false → P) → OnFalse b P
 on_false true P f = tt
 on_false false P f = f refl
 
-pub try_done : (g g' : Game) (m : Move) (o : Option Move) (b : Bool) (r : Result (Unit {0}) PlayFault) → o ≡ Some m → b ≡ is_ok r → length g.moves ≤ 12000 → ((r ≡ Err Illegal) ↔ (IsPlayable (now_of g) (ply_of m) → ⊥))
-    → ((r ≡ Err TooLong) ↔ (IsPlayable (now_of g) (ply_of m) × (length g.moves ≡ 12000))) → OnOk r (g' ≡ with_ply g (ply_of m)) → OnTrue b (push_one g o ≡ Some g')
+pub try_done : (g g' : Game) (m : Move) (o : Option Move) (b : Bool) (r : Result (Unit {0}) PlayFault) → o ≡ Some m → b ≡ is_ok r → length g.moves ≤ 12000 → ((r ≡ Err Illegal) ↔ (IsPlayablePly (current_position g) (ply_of m) → ⊥))
+    → ((r ≡ Err TooLong) ↔ (IsPlayablePly (current_position g) (ply_of m) × (length g.moves ≡ 12000))) → OnOk r (g' ≡ with_ply g (ply_of m)) → OnTrue b (push_one g o ≡ Some g')
 try_done g g' m o b r e f few illegal long ok = on_true b _ (λ t. ap (push_one g) e ∙ (tried g g' m r few illegal long ok).done (sym f ∙ t))
 
-pub try_refused : (g g' : Game) (m : Move) (o : Option Move) (b : Bool) (r : Result (Unit {0}) PlayFault) → o ≡ Some m → b ≡ is_ok r → length g.moves ≤ 12000 → ((r ≡ Err Illegal) ↔ (IsPlayable (now_of g) (ply_of m) → ⊥))
-    → ((r ≡ Err TooLong) ↔ (IsPlayable (now_of g) (ply_of m) × (length g.moves ≡ 12000))) → OnOk r (g' ≡ with_ply g (ply_of m)) → OnFalse b (push_one g o ≡ None)
+pub try_refused : (g g' : Game) (m : Move) (o : Option Move) (b : Bool) (r : Result (Unit {0}) PlayFault) → o ≡ Some m → b ≡ is_ok r → length g.moves ≤ 12000 → ((r ≡ Err Illegal) ↔ (IsPlayablePly (current_position g) (ply_of m) → ⊥))
+    → ((r ≡ Err TooLong) ↔ (IsPlayablePly (current_position g) (ply_of m) × (length g.moves ≡ 12000))) → OnOk r (g' ≡ with_ply g (ply_of m)) → OnFalse b (push_one g o ≡ None)
 try_refused g g' m o b r e f few illegal long ok = on_false b _ (λ t. ap (push_one g) e ∙ (tried g g' m r few illegal long ok).refused (sym f ∙ t))
 
 none_pushed : (ts : List (List ℕ)) → game_after_texts ts None ≡ None

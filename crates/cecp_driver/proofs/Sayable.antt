@@ -10,23 +10,23 @@ use Rattle.chess_board.specs.declared.board.Side.TheVariants.{White, Black}
 use Rattle.chess_board.specs.Position.{Position}
 use Rattle.chess_board.specs.Place.{legal}
 use Rattle.chess_board.specs.Play.{IsPosition, start_position}
-use Rattle.chess_board.specs.Spelling.{move_of}
+use Rattle.chess_board.specs.Spelling.{move_spelled_by}
 use Rattle.chess_board.proofs.LegalMoves.{is_legal}
 use Rattle.chess_board.proofs.Start.{start-is}
-use Rattle.game_record.specs.Game.{Ply, Game, AreLegal, game_from, now_of, ply_of, with_ply}
+use Rattle.game_record.specs.Game.{Ply, Game, AreLegal, game_from, current_position, ply_of, with_ply}
 use Rattle.game_record.proofs.Replays.{legal-append}
 use Rattle.game_record.specs.Line.{is_standard}
-use Rattle.uci_engine_side.specs.Lines.{Line as SpokenLine, line_of}
-use Rattle.driver_talk.specs.declared.words.GoClocks.{GoClocks}
-use Rattle.driver_talk.specs.declared.words.ToEngine.{ToEngine}
-use Rattle.driver_talk.specs.declared.words.ToEngine.TheVariants as downs
-use Rattle.driver_talk.specs.Lines.{DownLine, SetBoard, Played, Go, Analyze, Hurry, Exit, Ping, Sd}
-use Rattle.driver_talk.specs.Clocks.{capped, clock_lines, control_lines, depth_lines, increment, mine, seconds_up, theirs}
-use Rattle.cecp_driver.specs.Said.{CanBeSaid, IsMove}
-use Rattle.cecp_driver.specs.SetUp.{ToldGame, continued, further, ply_lines, setup_lines, start_lines}
+use Rattle.uci_as_engine.specs.Lines.{Line as SpokenLine, position_line_in}
+use Rattle.driver_state_machine.specs.declared.words.GoClocks.{GoClocks}
+use Rattle.driver_state_machine.specs.declared.words.ToEngine.{ToEngine}
+use Rattle.driver_state_machine.specs.declared.words.ToEngine.TheVariants as downs
+use Rattle.driver_state_machine.specs.Lines.{DownLine, SetBoard, Played, Go, Analyze, OrderMoveNow, Exit, Ping, Sd}
+use Rattle.driver_state_machine.specs.Clocks.{capped, clock_lines, control_lines, depth_lines, increment, mine, seconds_up, theirs}
+use Rattle.cecp_driver.specs.Said.{EngineLineCanBeRead, IsMove}
+use Rattle.cecp_driver.specs.SetUp.{SentGame, continued, further, ply_lines, setup_lines, start_lines}
 use Rattle.cecp_driver.specs.Same.{same_ply, same_position}
-use Rattle.cecp_driver.specs.Deeds.{analyse_lines, down_lines, has_depth, hurry_lines, leave_lines, play_lines, think_lines}
-use Rattle.cecp_driver.specs.Ordered.{may_push, ordered_by, ordered_in, push_one, game_after_texts}
+use Rattle.cecp_driver.specs.Actions.{analyse_lines, down_lines, has_depth, move_now_lines, leave_lines, play_lines, think_lines}
+use Rattle.cecp_driver.specs.Ordered.{may_push, ordered_by, game_ordered_in, push_one, game_after_texts}
 use Rattle.cecp_driver.proofs.Lasting.{left_true, officer}
 use Rattle.cecp_driver.proofs.Starts.{line_good}
 use Rattle.cecp_driver.proofs.Pinged.{PingFits}
@@ -48,11 +48,11 @@ moves_more (x ∷ xs) m h k = (h.0, moves_more xs m h.1 k)
 
 push_by : (b : Bool) (g : Game) (m : Move) → IsGame g → may_push g m ≡ b → Maybe (cond b (Some (with_ply g (ply_of m))) None)
 push_by true g m h e =
-    let is : legal (now_of g) m ≡ true = left_true (legal (now_of g) m) _ e in
+    let is : legal (current_position g) m ≡ true = left_true (legal (current_position g) m) _ e in
     record {
       start = h.start;
-      moves = moves_more g.moves (ply_of m) h.moves (m, (refl, officer (now_of g) m is));
-      legal = legal-append g.start g.moves (ply_of m) h.legal (is_legal (now_of g) m is);
+      moves = moves_more g.moves (ply_of m) h.moves (m, (refl, officer (current_position g) m is));
+      legal = legal-append g.start g.moves (ply_of m) h.legal (is_legal (current_position g) m is);
     }
 push_by false g m h e = tt
 
@@ -63,9 +63,9 @@ push_game g (Some m) h = push_by (may_push g m) g m h refl
 pushed_game : (ts : List (List ℕ)) (o : Option Game) → Maybe o → Maybe (game_after_texts ts o)
 pushed_game [] o h = h
 pushed_game (t ∷ ts) None h = tt
-pushed_game (t ∷ ts) (Some g) h = pushed_game ts (push_one g (move_of t)) (push_game g (move_of t) h)
+pushed_game (t ∷ ts) (Some g) h = pushed_game ts (push_one g (move_spelled_by t)) (push_game g (move_spelled_by t) h)
 
-ordered_game : (text : List ℕ) (o : Option SpokenLine) → line_of text ≡ o → Maybe (ordered_by o)
+ordered_game : (text : List ℕ) (o : Option SpokenLine) → position_line_in text ≡ o → Maybe (ordered_by o)
 ordered_game text None e = tt
 ordered_game text (Some line) e = pushed_game line.moves (Some (game_from line.start)) (record { start = line_good text line e; moves = tt; legal = tt })
 
@@ -76,13 +76,13 @@ or_start : (o : Option Game) → Maybe o → IsGame (unwrap_or o (game_from star
 or_start None h = start_game
 or_start (Some g) h = h
 
-pub ordered_is : (text : List ℕ) → IsGame (unwrap_or (ordered_in text) (game_from start_position))
-ordered_is text = or_start (ordered_in text) (ordered_game text (line_of text) refl)
+pub ordered_is : (text : List ℕ) → IsGame (unwrap_or (game_ordered_in text) (game_from start_position))
+ordered_is text = or_start (game_ordered_in text) (ordered_game text (position_line_in text) refl)
 
 -- A SET-UP
 
 abbrev AllSaid : List DownLine → Type 0
-AllSaid lines = AllByRecursion CanBeSaid lines
+AllSaid lines = AllByRecursion EngineLineCanBeRead lines
 
 all_said : (a b : List DownLine) → AllSaid a → AllSaid b → AllSaid (a ++ b)
 all_said [] b h k = k
@@ -104,9 +104,9 @@ continued_by : (b : Bool) (o : Option (List Ply)) → RestIs o → RestIs (cond 
 continued_by true o h = h
 continued_by false o h = tt
 
-continued_moves : (told : ToldGame) (g : Game) (deep : Bool) → IsGame g → RestIs (continued told g deep)
-continued_moves told g deep h =
-    continued_by ((told.known && not (told.limited && not deep)) && same_position told.game.start g.start) (further told.game.moves g.moves) (further_moves told.game.moves g.moves h.moves)
+continued_moves : (sent_game : SentGame) (g : Game) (deep : Bool) → IsGame g → RestIs (continued sent_game g deep)
+continued_moves sent_game g deep h =
+    continued_by ((sent_game.known && not (sent_game.limited && not deep)) && same_position sent_game.game.start g.start) (further sent_game.game.moves g.moves) (further_moves sent_game.game.moves g.moves h.moves)
 
 played_said : (has_usermove : Bool) (ms : List Ply) → AllByRecursion IsMove ms → AllSaid (ply_lines has_usermove ms)
 played_said has_usermove [] h = tt
@@ -137,34 +137,34 @@ depth_said : (b : Bool) (depth : ℕ) → AllSaid (cond b [] (Sd (min depth 9999
 depth_said true depth = tt
 depth_said false depth = (omega (arith, least depth 999999999), tt)
 
-hurry_said : (hurried : Bool) → AllSaid (hurry_lines hurried)
-hurry_said true = (tt, tt)
-hurry_said false = tt
+move_now_said : (at_once : Bool) → AllSaid (move_now_lines at_once)
+move_now_said true = (tt, tt)
+move_now_said false = tt
 
-think_said : (g : Game) (c : GoClocks) (hurried : Bool) → AllSaid (think_lines g c hurried)
-think_said g c hurried =
-    let side = (now_of g).side in
-    all_said (clock_lines side c) (Go ∷ hurry_lines hurried)
+think_said : (g : Game) (c : GoClocks) (at_once : Bool) → AllSaid (think_lines g c at_once)
+think_said g c at_once =
+    let side = (current_position g).side in
+    all_said (clock_lines side c) (Go ∷ move_now_lines at_once)
     (all_said (control_lines side c c.movetime) (depth_lines c.depth) (control_said side c c.movetime) (depth_said (eqb c.depth 0) c.depth))
-    (tt, hurry_said hurried)
+    (tt, move_now_said at_once)
 
 -- A DEED
 
-analysed_said : (g : Game) (has_usermove : Bool) (told : ToldGame) (c : GoClocks) (ping : Option ℕ) → PingFits (downs.Analyse c ping) → AllSaid (Analyze ∷ leave_lines ping)
-analysed_said g has_usermove told c None p = (tt, tt)
-analysed_said g has_usermove told c (Some n) p = (tt, (tt, (p, tt)))
+analysed_said : (g : Game) (has_usermove : Bool) (sent_game : SentGame) (c : GoClocks) (ping : Option ℕ) → PingFits (downs.Analyse c ping) → AllSaid (Analyze ∷ leave_lines ping)
+analysed_said g has_usermove sent_game c None p = (tt, tt)
+analysed_said g has_usermove sent_game c (Some n) p = (tt, (tt, (p, tt)))
 
-pub deed_said : (told : ToldGame) (g : Game) (has_usermove : Bool) (down : ToEngine) → IsGame g → PingFits down → AllSaid (down_lines told g has_usermove down)
-deed_said told g has_usermove downs.Nothing h p = tt
-deed_said told g has_usermove downs.Greeting h p = (tt, (tt, tt))
-deed_said told g has_usermove downs.Quit h p = (tt, tt)
-deed_said told g has_usermove (downs.Play c hurried) h p =
-    let o = continued told g (has_depth c) in
-    all_said (setup_lines o has_usermove g) (think_lines g c hurried) (setup_said o has_usermove g (continued_moves told g (has_depth c) h) h) (think_said g c hurried)
-deed_said told g has_usermove (downs.Resume c) h p = think_said g c false
-deed_said told g has_usermove (downs.Analyse c ping) h p =
-    let o = continued told g (has_depth c) in
-    all_said (setup_lines o has_usermove g) (Analyze ∷ leave_lines ping) (setup_said o has_usermove g (continued_moves told g (has_depth c) h) h) (analysed_said g has_usermove told c ping p)
-deed_said told g has_usermove downs.Hurry h p = (tt, tt)
-deed_said told g has_usermove (downs.Leave n) h p = (tt, (p, tt))
-deed_said told g has_usermove (downs.Retreat n) h p = (tt, (p, tt))
+pub action_said : (sent_game : SentGame) (g : Game) (has_usermove : Bool) (down : ToEngine) → IsGame g → PingFits down → AllSaid (down_lines sent_game g has_usermove down)
+action_said sent_game g has_usermove downs.Nothing h p = tt
+action_said sent_game g has_usermove downs.Greeting h p = (tt, (tt, tt))
+action_said sent_game g has_usermove downs.Quit h p = (tt, tt)
+action_said sent_game g has_usermove (downs.Play c at_once) h p =
+    let o = continued sent_game g (has_depth c) in
+    all_said (setup_lines o has_usermove g) (think_lines g c at_once) (setup_said o has_usermove g (continued_moves sent_game g (has_depth c) h) h) (think_said g c at_once)
+action_said sent_game g has_usermove (downs.Resume c) h p = think_said g c false
+action_said sent_game g has_usermove (downs.Analyse c ping) h p =
+    let o = continued sent_game g (has_depth c) in
+    all_said (setup_lines o has_usermove g) (Analyze ∷ leave_lines ping) (setup_said o has_usermove g (continued_moves sent_game g (has_depth c) h) h) (analysed_said g has_usermove sent_game c ping p)
+action_said sent_game g has_usermove downs.OrderMoveNow h p = (tt, tt)
+action_said sent_game g has_usermove (downs.Leave n) h p = (tt, (p, tt))
+action_said sent_game g has_usermove (downs.Retreat n) h p = (tt, (p, tt))

@@ -6,63 +6,63 @@ use Rattle.std.proofs.lemmas.Bool.Decides.{Decides-eqb, nat_tests}
 use Rattle.chess_board.specs.declared.board.Side.{Side}
 use Rattle.chess_board.specs.declared.board.Rights.{Rights}
 use Rattle.chess_board.specs.declared.board.BuildFault.{BuildFault}
-use Rattle.chess_board.specs.Board.{Men}
+use Rattle.chess_board.specs.Board.{Pieces}
 use Rattle.chess_board.specs.Position.{Position}
 use Rattle.chess_board.specs.Play.{IsPosition, position_if_built, fits_board, start_position}
 use Rattle.chess_board.proofs.Built.{built-is}
 use Rattle.chess_board.proofs.Start.{start-is}
 use Rattle.fen_text.specs.declared.fault.FenFault.{FenFault}
 use Rattle.fen_text.specs.Fen.{or_fault, position_of_fields, position_from_fields}
-use Rattle.fen_text.specs.Fields.{is_passed, passant_of, rights_of, side_of}
-use Rattle.fen_text.specs.Squares.{board_of, exactly, men_if_fitting, men_if_both, men_of, men_in_field, rank_of, ranks_in, squares_in}
-use Rattle.uci_engine_side.specs.Lines.{Line, before_moves, behind_moves, if_right, position_after_texts, line_from, line_in, line_of, line_to, standard_if_alone, start_in}
+use Rattle.fen_text.specs.Fields.{is_passed_square, en_passant_of, rights_of, side_of}
+use Rattle.fen_text.specs.Squares.{board_in_field, exactly, pieces_if_fitting, pieces_if_both, pieces_on_ranks, pieces_in_field, rank_in_text, ranks_in, squares_in}
+use Rattle.uci_as_engine.specs.Lines.{Line, before_moves, behind_moves, if_right, position_after_texts, line_from, line_in, position_line_in, line_to, standard_if_alone, start_position_in}
 use Rattle.peer_words.specs.Tokens.{tokens}
 
 -- A BOARD HAS 64 SQUARES
 
-record Joins (a b : Option Men) (men : Men) : Type 0 where
-  left : Men
-  right : Men
+record Joins (a b : Option Pieces) (pieces : Pieces) : Type 0 where
+  left : Pieces
+  right : Pieces
   left_is : a ≡ Some left
   right_is : b ≡ Some right
-  whole : men ≡ left ++ right
+  whole : pieces ≡ left ++ right
 
-joins : (a b : Option Men) (men : Men) → men_if_both a b ≡ Some men → Joins a b men
-joins None b men e = absurd (cc)
-joins (Some x) None men e = absurd (cc)
-joins (Some x) (Some y) men e = let same : men ≡ x ++ y = cc in record { left = x; right = y; left_is = refl; right_is = refl; whole = same }
+joins : (a b : Option Pieces) (pieces : Pieces) → pieces_if_both a b ≡ Some pieces → Joins a b pieces
+joins None b pieces e = absurd (cc)
+joins (Some x) None pieces e = absurd (cc)
+joins (Some x) (Some y) pieces e = let same : pieces ≡ x ++ y = cc in record { left = x; right = y; left_is = refl; right_is = refl; whole = same }
 
-exactly_by : (b : Bool) (n : ℕ) (squares men : Men) → eqb (length squares) n ≡ b → cond b (Some squares) None ≡ Some men → length men ≡ n
-exactly_by true n squares men t e = let same : men ≡ squares = cc in ap (λ (x : Men). length x) same ∙ (Decides-eqb (length squares) n).0 t
-exactly_by false n squares men t e = absurd (cc)
+exactly_by : (b : Bool) (n : ℕ) (squares pieces : Pieces) → eqb (length squares) n ≡ b → cond b (Some squares) None ≡ Some pieces → length pieces ≡ n
+exactly_by true n squares pieces t e = let same : pieces ≡ squares = cc in ap (λ (x : Pieces). length x) same ∙ (Decides-eqb (length squares) n).0 t
+exactly_by false n squares pieces t e = absurd (cc)
 
-exactly_is : (n : ℕ) (o : Option Men) (men : Men) → exactly n o ≡ Some men → length men ≡ n
-exactly_is n None men e = absurd (cc)
-exactly_is n (Some squares) men e = exactly_by (eqb (length squares) n) n squares men refl e
+exactly_is : (n : ℕ) (o : Option Pieces) (pieces : Pieces) → exactly n o ≡ Some pieces → length pieces ≡ n
+exactly_is n None pieces e = absurd (cc)
+exactly_is n (Some squares) pieces e = exactly_by (eqb (length squares) n) n squares pieces refl e
 
-men_length : (ranks : List (List ℕ)) (men : Men) → men_of ranks ≡ Some men → length men ≡ 8 * length ranks
-men_length [] men e = let same : men ≡ [] = cc in ap (λ (x : Men). length x) same
-men_length (upper ∷ lower) men e =
-    let j = joins (men_of lower) (rank_of upper) men e in
-    let low = men_length lower j.left j.left_is in
+pieces_length : (ranks : List (List ℕ)) (pieces : Pieces) → pieces_on_ranks ranks ≡ Some pieces → length pieces ≡ 8 * length ranks
+pieces_length [] pieces e = let same : pieces ≡ [] = cc in ap (λ (x : Pieces). length x) same
+pieces_length (upper ∷ lower) pieces e =
+    let j = joins (pieces_on_ranks lower) (rank_in_text upper) pieces e in
+    let low = pieces_length lower j.left j.left_is in
     let high = exactly_is 8 (squares_in upper) j.right j.right_is in
-    let whole = ap (λ (x : Men). length x) j.whole in
+    let whole = ap (λ (x : Pieces). length x) j.whole in
     omega (arith, low, high, whole, length-append j.left j.right)
 
-placed_by : (b : Bool) (ranks : List (List ℕ)) (men : Men) → eqb (length ranks) 8 ≡ b → cond b (men_of ranks) None ≡ Some men → length men ≡ 64
-placed_by true ranks men t e = let eight = (Decides-eqb (length ranks) 8).0 t in let all = men_length ranks men e in omega (arith, eight, all)
-placed_by false ranks men t e = absurd (cc)
+placed_by : (b : Bool) (ranks : List (List ℕ)) (pieces : Pieces) → eqb (length ranks) 8 ≡ b → cond b (pieces_on_ranks ranks) None ≡ Some pieces → length pieces ≡ 64
+placed_by true ranks pieces t e = let eight = (Decides-eqb (length ranks) 8).0 t in let all = pieces_length ranks pieces e in omega (arith, eight, all)
+placed_by false ranks pieces t e = absurd (cc)
 
-fitting_is : (o : Option Men) (men : Men) → men_if_fitting o ≡ Some men → o ≡ Some men
-fitting_is None men e = e
-fitting_is (Some m) men e = fits_by (fits_board m) m men e
+fitting_is : (o : Option Pieces) (pieces : Pieces) → pieces_if_fitting o ≡ Some pieces → o ≡ Some pieces
+fitting_is None pieces e = e
+fitting_is (Some m) pieces e = fits_by (fits_board m) m pieces e
   where
-    fits_by : (b : Bool) (m men : Men) → cond b (Some m) None ≡ Some men → Some m ≡ Some men
-    fits_by true m men e = e
-    fits_by false m men e = absurd (cc)
+    fits_by : (b : Bool) (m pieces : Pieces) → cond b (Some m) None ≡ Some pieces → Some m ≡ Some pieces
+    fits_by true m pieces e = e
+    fits_by false m pieces e = absurd (cc)
 
-board_length : (field : List ℕ) (men : Men) → board_of field ≡ Some men → length men ≡ 64
-board_length field men e = placed_by (eqb (length (ranks_in field)) 8) (ranks_in field) men refl (fitting_is (men_in_field field) men e)
+board_length : (field : List ℕ) (pieces : Pieces) → board_in_field field ≡ Some pieces → length pieces ≡ 64
+board_length field pieces e = placed_by (eqb (length (ranks_in field)) 8) (ranks_in field) pieces refl (fitting_is (pieces_in_field field) pieces e)
 
 -- A PASSED SQUARE IS ON THE BOARD
 
@@ -74,16 +74,16 @@ dash_low true None e = tt
 dash_low true (Some s) e = absurd (cc)
 dash_low false o e = absurd (cc)
 
-square_low : (b : Bool) (file rank : ℕ) (o : Option ℕ) → is_passed file rank ≡ b → cond b (Some (Some ((rank - 49) * 8 + (file - 97)))) None ≡ Some o → IsLow o
+square_low : (b : Bool) (file rank : ℕ) (o : Option ℕ) → is_passed_square file rank ≡ b → cond b (Some (Some ((rank - 49) * 8 + (file - 97)))) None ≡ Some o → IsLow o
 square_low true file rank None t e = tt
 square_low true file rank (Some s) t e = let same : s ≡ (rank - 49) * 8 + (file - 97) = cc in grind (arith, nat_tests)
 square_low false file rank o t e = absurd (cc)
 
-passant_low : (text : List ℕ) (o : Option ℕ) → passant_of text ≡ Some o → IsLow o
-passant_low [] o e = absurd (cc)
-passant_low (byte ∷ []) o e = dash_low (eqb byte 45) o e
-passant_low (file ∷ rank ∷ []) o e = square_low (is_passed file rank) file rank o refl e
-passant_low (a ∷ b ∷ c ∷ ds) o e = absurd (cc)
+en_passant_low : (text : List ℕ) (o : Option ℕ) → en_passant_of text ≡ Some o → IsLow o
+en_passant_low [] o e = absurd (cc)
+en_passant_low (byte ∷ []) o e = dash_low (eqb byte 45) o e
+en_passant_low (file ∷ rank ∷ []) o e = square_low (is_passed_square file rank) file rank o refl e
+en_passant_low (a ∷ b ∷ c ∷ ds) o e = absurd (cc)
 
 -- THE FIELDS
 
@@ -95,22 +95,22 @@ and_then_is : {A : Type 0} (f : List ℕ → Option A) (o : Option (List ℕ)) (
 and_then_is f None x e = absurd (cc)
 and_then_is f (Some text) x e = (text, e)
 
-spelled_good : (men : Option Men) (side : Option Side) (rights : Option Rights) (passant : Option (Option ℕ)) (half full : Option ℕ) (p : Position)
-    → ((m : Men) → men ≡ Some m → length m ≡ 64) → ((o : Option ℕ) → passant ≡ Some o → IsLow o) → position_from_fields men side rights passant half full ≡ Ok p → IsPosition p
+spelled_good : (pieces : Option Pieces) (side : Option Side) (rights : Option Rights) (passant : Option (Option ℕ)) (half full : Option ℕ) (p : Position)
+    → ((m : Pieces) → pieces ≡ Some m → length m ≡ 64) → ((o : Option ℕ) → passant ≡ Some o → IsLow o) → position_from_fields pieces side rights passant half full ≡ Ok p → IsPosition p
 spelled_good None side rights passant half full p h k e = absurd (cc)
-spelled_good (Some men) None rights passant half full p h k e = absurd (cc)
-spelled_good (Some men) (Some side) None passant half full p h k e = absurd (cc)
-spelled_good (Some men) (Some side) (Some rights) None half full p h k e = absurd (cc)
-spelled_good (Some men) (Some side) (Some rights) (Some passant) None full p h k e = absurd (cc)
-spelled_good (Some men) (Some side) (Some rights) (Some passant) (Some half) None p h k e = absurd (cc)
-spelled_good (Some men) (Some side) (Some rights) (Some passant) (Some half) (Some full) p h k e =
-    built-is (record { men = men; side = side; rights = rights; passant = passant; half = half; full = full }) p (h men refl) (k passant refl) (or_ok _ p e)
+spelled_good (Some pieces) None rights passant half full p h k e = absurd (cc)
+spelled_good (Some pieces) (Some side) None passant half full p h k e = absurd (cc)
+spelled_good (Some pieces) (Some side) (Some rights) None half full p h k e = absurd (cc)
+spelled_good (Some pieces) (Some side) (Some rights) (Some passant) None full p h k e = absurd (cc)
+spelled_good (Some pieces) (Some side) (Some rights) (Some passant) (Some half) None p h k e = absurd (cc)
+spelled_good (Some pieces) (Some side) (Some rights) (Some passant) (Some half) (Some full) p h k e =
+    built-is (record { pieces = pieces; side = side; rights = rights; passant = passant; half = half; full = full }) p (h pieces refl) (k passant refl) (or_ok _ p e)
 
 fields_good : (fields : List (List ℕ)) (p : Position) → position_of_fields fields ≡ Ok p → IsPosition p
 fields_good fields p e =
-    spelled_good (option_and_then board_of (slice_get fields 0)) (option_and_then side_of (slice_get fields 1)) (option_and_then rights_of (slice_get fields 2)) (option_and_then passant_of (slice_get fields 3)) _ _ p
-    (λ m f. let t = and_then_is board_of (slice_get fields 0) m f in board_length t.0 m t.1)
-    (λ o f. let t = and_then_is passant_of (slice_get fields 3) o f in passant_low t.0 o t.1) e
+    spelled_good (option_and_then board_in_field (slice_get fields 0)) (option_and_then side_of (slice_get fields 1)) (option_and_then rights_of (slice_get fields 2)) (option_and_then en_passant_of (slice_get fields 3)) _ _ p
+    (λ m f. let t = and_then_is board_in_field (slice_get fields 0) m f in board_length t.0 m t.1)
+    (λ o f. let t = and_then_is en_passant_of (slice_get fields 3) o f in en_passant_low t.0 o t.1) e
 
 -- A `POSITION` LINE
 
@@ -130,7 +130,7 @@ start_by : (a b : Bool) (ts : List (List ℕ)) (p : Position) → cond a (standa
 start_by true b ts p e = alone_good ts p e
 start_by false b ts p e = fen_by b ts p e
 
-start_good : (ts : List (List ℕ)) (p : Position) → start_in ts ≡ Some p → IsPosition p
+start_good : (ts : List (List ℕ)) (p : Position) → start_position_in ts ≡ Some p → IsPosition p
 start_good [] p e = absurd (cc)
 start_good (t ∷ ts) p e = start_by _ _ ts p e
 
@@ -146,8 +146,8 @@ from_good : (o : Option Position) (moves : List (List ℕ)) (line : Line) → ((
 from_good None moves line h e = absurd (cc)
 from_good (Some p) moves line h e = to_good p moves (position_after_texts moves (Some p)) line (h p refl) e
 
-pub line_good : (text : List ℕ) (line : Line) → line_of text ≡ Some line → IsPosition line.start
-unfolding line_of
+pub line_good : (text : List ℕ) (line : Line) → position_line_in text ≡ Some line → IsPosition line.start
+unfolding position_line_in
 line_good text line e =
     let ts = drop 1 (tokens text) in
-    from_good (start_in (before_moves ts)) (behind_moves ts) line (start_good (before_moves ts)) e
+    from_good (start_position_in (before_moves ts)) (behind_moves ts) line (start_good (before_moves ts)) e

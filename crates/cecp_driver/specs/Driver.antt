@@ -1,4 +1,4 @@
--- What an order or a line of the engine does to a driver.
+-- The effect of an order or a line of the engine on a driver.
 use Rattle.std.specs.Prelude.{ℕ, ℤ, ◌≡◌, ◌+◌, ◌≤◌, nat_le, Bool, true, false, ◌&&◌, if◌then◌else◌}
 use Rattle.std.specs.Prelude.{List, [], ◌++◌, length, is_some, Option, Some, None, IfSome}
 use Rattle.std.specs.Option.{unwrap_or}
@@ -6,38 +6,38 @@ use Rattle.line_io.specs.Out.{Text, empty, with}
 use Rattle.peer_words.specs.Tokens.{tokens, first_token}
 use Rattle.chess_board.specs.declared.board.Move.{Move}
 use Rattle.chess_board.specs.Play.{start_position}
-use Rattle.game_record.specs.Game.{Game, game_from, now_of, ply_of}
-use Rattle.uci_engine_side.specs.Kinds.{kind_asked}
-use Rattle.driver_talk.specs.declared.words.Thought.{Thought}
-use Rattle.driver_talk.specs.declared.talk.DriverStage.{DriverStage}
-use Rattle.driver_talk.specs.declared.talk.DriverStage.TheVariants as stages
-use Rattle.driver_talk.specs.declared.talk.DriverTalk.{DriverTalk}
-use Rattle.driver_talk.specs.declared.talk.DriverTurn.{DriverTurn}
-use Rattle.driver_talk.specs.declared.talk.Reach.{Reach}
-use Rattle.driver_talk.specs.declared.talk.Reach.TheVariants as reaches
-use Rattle.driver_talk.specs.declared.talk.WantedSearch.{WantedSearch}
-use Rattle.driver_talk.specs.declared.talk.DriverCall.{DriverCall}
-use Rattle.driver_talk.specs.declared.talk.DriverCall.TheVariants as calls
-use Rattle.driver_talk.specs.Talk.{first_talk, turn_of, is_free}
-use Rattle.driver_talk.specs.declared.order_words.OrderWord.{OrderWord}
-use Rattle.driver_talk.specs.declared.order_words.OrderWord.TheVariants as orders
-use Rattle.driver_talk.specs.Words.{ordered_in as order_in}
-use Rattle.driver_talk.specs.Clocks.{clocks_in}
-use Rattle.driver_talk.specs.Says.{Says, Move as SaysMove, Over, Pong, Report, Feature, says_in}
-use Rattle.driver_talk.specs.Says as says
-use Rattle.driver_talk.specs.Parts.{parts}
-use Rattle.driver_talk.specs.Moves.{IsFirstMove, IsShown, IsThought}
-use Rattle.driver_talk.specs.Lines.{lines_text}
+use Rattle.game_record.specs.Game.{Game, game_from, current_position, ply_of}
+use Rattle.uci_as_engine.specs.Kinds.{kind_asked}
+use Rattle.driver_state_machine.specs.declared.words.Thought.{Thought}
+use Rattle.driver_state_machine.specs.declared.driver_state.DriverStage.{DriverStage}
+use Rattle.driver_state_machine.specs.declared.driver_state.DriverStage.TheVariants as stages
+use Rattle.driver_state_machine.specs.declared.driver_state.DriverState.{DriverState}
+use Rattle.driver_state_machine.specs.declared.driver_state.DriverTurn.{DriverTurn}
+use Rattle.driver_state_machine.specs.declared.driver_state.Reach.{Reach}
+use Rattle.driver_state_machine.specs.declared.driver_state.Reach.TheVariants as reaches
+use Rattle.driver_state_machine.specs.declared.driver_state.WantedSearch.{WantedSearch}
+use Rattle.driver_state_machine.specs.declared.driver_state.DriverCall.{DriverCall}
+use Rattle.driver_state_machine.specs.declared.driver_state.DriverCall.TheVariants as calls
+use Rattle.driver_state_machine.specs.DriverState.{first_talk, driver_turn_of, is_free}
+use Rattle.driver_state_machine.specs.declared.order_words.OrderWord.{OrderWord}
+use Rattle.driver_state_machine.specs.declared.order_words.OrderWord.TheVariants as orders
+use Rattle.driver_state_machine.specs.Words.{order_word_in as order_in}
+use Rattle.driver_state_machine.specs.Clocks.{clocks_in}
+use Rattle.driver_state_machine.specs.Says.{EngineMessageSeen, Move as SaysMove, Over, Pong, Report, Feature, says_in}
+use Rattle.driver_state_machine.specs.Says as says
+use Rattle.driver_state_machine.specs.Parts.{feature_parts}
+use Rattle.driver_state_machine.specs.Moves.{IsFirstMove, EngineMoveIs, IsThought}
+use Rattle.driver_state_machine.specs.Lines.{lines_text}
 use Rattle.cecp_driver.specs.declared.features.HasFeatures.{HasFeatures}
 use Rattle.cecp_driver.specs.declared.driver.DriverParts.{DriverParts}
 use Rattle.cecp_driver.specs.declared.driver.TheConstants.{LINE_LIMIT, UP_ROOM, DOWN_ROOM}
-use Rattle.cecp_driver.specs.declared.told.TheConstants.{MOST_PLIES}
-use Rattle.cecp_driver.specs.declared.deeds.TheConstants.{STEP}
-use Rattle.cecp_driver.specs.SetUp.{ToldGame, none_told}
-use Rattle.cecp_driver.specs.Features.{has_all, name_all, answers, greetings}
-use Rattle.cecp_driver.specs.Ordered.{ordered_in}
-use Rattle.cecp_driver.specs.Deeds.{up_text, CanSay, down_lines, FitsDown}
-use Rattle.cecp_driver.specs.Deeds.{down_told, board_told, CanPush}
+use Rattle.cecp_driver.specs.declared.sent_game.TheConstants.{MOST_PLIES}
+use Rattle.cecp_driver.specs.declared.actions.TheConstants.{STEP}
+use Rattle.cecp_driver.specs.SetUp.{SentGame, no_game_sent}
+use Rattle.cecp_driver.specs.Features.{has_all, name_all, feature_answers, greetings}
+use Rattle.cecp_driver.specs.Ordered.{game_ordered_in}
+use Rattle.cecp_driver.specs.Actions.{up_text, CanSay, down_lines, FitsDown}
+use Rattle.cecp_driver.specs.Actions.{sent_after_line, sent_after_board, CanPush}
 
 -- nothing was given yet
 abbrev pub driver_without_lines : DriverParts → DriverParts
@@ -47,7 +47,7 @@ driver_without_lines v = record {
   name = v.name;
   is_ordered = v.is_ordered;
   game = v.game;
-  told = v.told;
+  sent_game = v.sent_game;
   up = empty v.up.room;
   down = empty v.down.room;
 }
@@ -60,24 +60,24 @@ driver_after_turn v r = record {
   name = v.name;
   is_ordered = v.is_ordered;
   game = v.game;
-  told = board_told r.deed.board (down_told v.game r.deed.down v.told);
-  up = with v.up (up_text r.deed.up);
-  down = with v.down (lines_text (down_lines v.told v.game v.has.usermove r.deed.down));
+  sent_game = sent_after_board r.action.board (sent_after_line v.game r.action.down v.sent_game);
+  up = with v.up (up_text r.action.up);
+  down = with v.down (lines_text (down_lines v.sent_game v.game v.has.usermove r.action.down));
 }
 
 abbrev pub driver_after_call : DriverParts → DriverCall → DriverParts
-driver_after_call v call = driver_after_turn v (turn_of v.talk call)
+driver_after_call v call = driver_after_turn v (driver_turn_of v.talk call)
 
 -- the lines of a turn can be written
-pub record CanTake (v : DriverParts) (r : DriverTurn) : Type 0 where
-  pub say : CanSay r.deed.up
-  pub fits : FitsDown v.game r.deed.down
-  pub push : CanPush r.deed.board (down_told v.game r.deed.down v.told)
+pub record TurnCanBeWritten (v : DriverParts) (r : DriverTurn) : Type 0 where
+  pub say : CanSay r.action.up
+  pub fits : FitsDown v.game r.action.down
+  pub push : CanPush r.action.board (sent_after_line v.game r.action.down v.sent_game)
   pub up : length v.up.text + 160 ≤ v.up.room
   pub down : length v.down.text + STEP ≤ v.down.room
 
 abbrev pub CanAct : DriverParts → DriverCall → Type 0
-CanAct v call = CanTake v (turn_of v.talk call)
+CanAct v call = TurnCanBeWritten v (driver_turn_of v.talk call)
 
 -- ORDERS
 
@@ -95,7 +95,7 @@ reach_of v =
 pub record Wants (v : DriverParts) (line : List ℕ) (w : WantedSearch) : Type 0 where
   pub kind : w.kind ≡ kind_asked line
   pub clocks : w.clocks ≡ clocks_in line
-  pub first : IsFirstMove (now_of v.game) w.first
+  pub first : IsFirstMove (current_position v.game) w.first
   pub reach : w.reach ≡ reach_of v
 
 -- a `position`, if no search is open
@@ -106,9 +106,9 @@ driver_after_position v line =
       talk = v.talk;
       has = v.has;
       name = v.name;
-      is_ordered = is_some (ordered_in line);
-      game = unwrap_or (ordered_in line) (game_from start_position);
-      told = v.told;
+      is_ordered = is_some (game_ordered_in line);
+      game = unwrap_or (game_ordered_in line) (game_from start_position);
+      sent_game = v.sent_game;
       up = v.up;
       down = v.down;
     }
@@ -119,15 +119,15 @@ placed_if orders.Position v line = driver_after_position v line
 placed_if ordered v line = v
 
 -- what an order asks for, besides a position
-abbrev pub IsAsked : DriverParts → List ℕ → OrderWord → DriverCall → Type 0
-IsAsked v line orders.Quit call = call ≡ calls.Quit
-IsAsked v line orders.Uci call = call ≡ calls.Uci
-IsAsked v line orders.IsReady call = call ≡ calls.IsReady
-IsAsked v line orders.Go call = (w : WantedSearch) × (Wants v line w × (call ≡ calls.Go w))
-IsAsked v line orders.Stop call = call ≡ calls.Stop
-IsAsked v line orders.PonderHit call = call ≡ calls.PonderHit
-IsAsked v line orders.Position call = call ≡ calls.Other
-IsAsked v line orders.Other call = call ≡ calls.Other
+abbrev pub GoIsAsked : DriverParts → List ℕ → OrderWord → DriverCall → Type 0
+GoIsAsked v line orders.Quit call = call ≡ calls.Quit
+GoIsAsked v line orders.Uci call = call ≡ calls.Uci
+GoIsAsked v line orders.IsReady call = call ≡ calls.IsReady
+GoIsAsked v line orders.Go call = (w : WantedSearch) × (Wants v line w × (call ≡ calls.Go w))
+GoIsAsked v line orders.Stop call = call ≡ calls.Stop
+GoIsAsked v line orders.PonderHit call = call ≡ calls.PonderHit
+GoIsAsked v line orders.Position call = call ≡ calls.Other
+GoIsAsked v line orders.Other call = call ≡ calls.Other
 
 -- WHAT THE ENGINE SAYS
 
@@ -137,28 +137,28 @@ thought_call depth score time nodes (Some best) =
     calls.Thought (record { depth = depth; score = score; time = time; nodes = nodes; best = best })
 
 -- what the engine says, besides its features: its moves are those of the ordered position
-abbrev pub IsHeard : DriverParts → Says → DriverCall → Type 0
-IsHeard v (SaysMove text) call =
-    (shown : Option Move) × (IsShown (now_of v.game) text shown × (call ≡ calls.Moved shown))
-IsHeard v Over call = call ≡ calls.Resigned
-IsHeard v (Pong n) call = call ≡ calls.Pong n
-IsHeard v (Report depth score time nodes moves) call =
+abbrev pub EngineLineIsHeard : DriverParts → EngineMessageSeen → DriverCall → Type 0
+EngineLineIsHeard v (SaysMove text) call =
+    (shown : Option Move) × (EngineMoveIs (current_position v.game) text shown × (call ≡ calls.Moved shown))
+EngineLineIsHeard v Over call = call ≡ calls.Resigned
+EngineLineIsHeard v (Pong n) call = call ≡ calls.Pong n
+EngineLineIsHeard v (Report depth score time nodes moves) call =
     (best : Option Move)
-    × (IsThought (now_of v.game) moves best × (call ≡ thought_call depth score time nodes best))
-IsHeard v (Feature text) call = call ≡ calls.Other
-IsHeard v says.Other call = call ≡ calls.Other
+    × (IsThought (current_position v.game) moves best × (call ≡ thought_call depth score time nodes best))
+EngineLineIsHeard v (Feature text) call = call ≡ calls.Other
+EngineLineIsHeard v says.Other call = call ≡ calls.Other
 
 abbrev pub features_at : DriverStage → DriverParts → List ℕ → DriverParts
 features_at stages.Over v text = v
 features_at stage v text = record {
   talk = v.talk;
-  has = has_all v.has (parts text);
-  name = record { text = name_all v.name.text (parts text); room = v.name.room };
+  has = has_all v.has (feature_parts text);
+  name = record { text = name_all v.name.text (feature_parts text); room = v.name.room };
   is_ordered = v.is_ordered;
   game = v.game;
-  told = v.told;
-  up = with v.up (greetings v.has v.name.text (parts text));
-  down = with v.down (lines_text (answers (parts text)));
+  sent_game = v.sent_game;
+  up = with v.up (greetings v.has v.name.text (feature_parts text));
+  down = with v.down (lines_text (feature_answers (feature_parts text)));
 }
 
 -- the features of a line, before `quit`
@@ -176,21 +176,21 @@ no_features = record {
   done = false;
 }
 
-abbrev pub opening : DriverParts
-opening = record {
+abbrev pub opening_driver : DriverParts
+opening_driver = record {
   talk = first_talk;
   has = no_features;
   name = empty LINE_LIMIT;
   is_ordered = false;
   game = game_from start_position;
-  told = none_told;
+  sent_game = no_game_sent;
   up = empty UP_ROOM;
   down = empty DOWN_ROOM;
 }
 
 pub record OrdersBy (ordered : OrderWord) (line : List ℕ) (v v' : DriverParts) : Type 0 where
   pub call : DriverCall
-  pub asked : IsAsked (placed_if ordered (driver_without_lines v) line) line ordered call
+  pub asked : GoIsAsked (placed_if ordered (driver_without_lines v) line) line ordered call
   pub after : v' ≡ driver_after_call (placed_if ordered (driver_without_lines v) line) call
 
 -- what comes of an order
@@ -198,18 +198,18 @@ abbrev pub Orders : List ℕ → DriverParts → DriverParts → Type 0
 Orders line v v' = OrdersBy (order_in (first_token line)) line v v'
 
 -- all but features
-abbrev pub IsPlain : Says → Type 0
+abbrev pub IsPlain : EngineMessageSeen → Type 0
 IsPlain (Feature text) = ⊥
 IsPlain said = Unit {0}
 
-abbrev pub HeardBy : Says → DriverParts → DriverParts → Type 0
+abbrev pub HeardBy : EngineMessageSeen → DriverParts → DriverParts → Type 0
 HeardBy (Feature text) v v' = v' ≡ driver_after_features v text
-HeardBy said v v' = (call : DriverCall) × (IsHeard v said call × (v' ≡ driver_after_call v call))
+HeardBy said v v' = (call : DriverCall) × (EngineLineIsHeard v said call × (v' ≡ driver_after_call v call))
 
 -- what comes of a line of the engine
-abbrev pub Hears : List ℕ → DriverParts → DriverParts → Type 0
-Hears line v v' = HeardBy (says_in line) (driver_without_lines v) v'
+abbrev pub DriverHears : List ℕ → DriverParts → DriverParts → Type 0
+DriverHears line v v' = HeardBy (says_in line) (driver_without_lines v) v'
 
 -- what comes of the end of the engine
-abbrev pub Ends : DriverParts → DriverParts → Type 0
-Ends v v' = v' ≡ driver_after_call (driver_without_lines v) calls.Ended
+abbrev pub EngineEndGives : DriverParts → DriverParts → Type 0
+EngineEndGives v v' = v' ≡ driver_after_call (driver_without_lines v) calls.Ended

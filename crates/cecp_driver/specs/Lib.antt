@@ -2,9 +2,9 @@ pub mod Same
 pub mod SetUp
 pub mod Features
 pub mod Ordered
-pub mod Deeds
+pub mod Actions
 pub mod Driver
-pub mod Keeps
+pub mod DriverInvariant
 pub mod Lending
 pub mod Said
 pub mod Script

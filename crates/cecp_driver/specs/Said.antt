@@ -1,4 +1,4 @@
--- What can be said in a line to the engine.
+-- The texts that can be said in a line to the engine.
 use Rattle.std.specs.Prelude.{◌≡◌, ℕ, ◌<◌, ◌≤◌, ◌*◌, ◌^◌, List, length, true, false}
 use Rattle.chess_board.specs.declared.board.Move.{Move}
 use Rattle.chess_board.specs.Play.{IsPosition}
@@ -6,8 +6,8 @@ use Rattle.chess_board.specs.Text.{IsOfficer}
 use Rattle.game_record.specs.Game.{Ply, ply_of}
 use Rattle.line_io.specs.Event.{has_feed}
 use Rattle.peer_words.specs.Tokens.{is_token}
-use Rattle.driver_talk.specs.Lines.{DownLine, SetBoard, Played, St, Level}
-use Rattle.driver_talk.specs.Lines.{Time, Otim, Sd, Ping, Accepted, Rejected}
+use Rattle.driver_state_machine.specs.Lines.{DownLine, SetBoard, Played, St, Level}
+use Rattle.driver_state_machine.specs.Lines.{Time, Otim, Sd, Ping, Accepted, Rejected}
 use Rattle.cecp_driver.specs.declared.driver.TheConstants.{LINE_LIMIT}
 
 -- a move of squares and officers
@@ -21,16 +21,16 @@ pub record IsName (name : List ℕ) : Type 0 where
   pub short : length name ≤ LINE_LIMIT
 
 -- a position, a move, numbers of so many digits, a name
-abbrev pub CanBeSaid : DownLine → Type 0
-CanBeSaid (SetBoard p) = IsPosition p
-CanBeSaid (Played has_usermove m) = IsMove m
-CanBeSaid (St seconds) = seconds < 10 ^ 6
-CanBeSaid (Level moves seconds increment) =
+abbrev pub EngineLineCanBeRead : DownLine → Type 0
+EngineLineCanBeRead (SetBoard p) = IsPosition p
+EngineLineCanBeRead (Played has_usermove m) = IsMove m
+EngineLineCanBeRead (St seconds) = seconds < 10 ^ 6
+EngineLineCanBeRead (Level moves seconds increment) =
     (moves < 10 ^ 4) × (seconds < 60 * 10 ^ 4) × (increment < 10 ^ 6)
-CanBeSaid (Time centis) = centis < 10 ^ 9
-CanBeSaid (Otim centis) = centis < 10 ^ 9
-CanBeSaid (Sd plies) = plies < 10 ^ 9
-CanBeSaid (Ping n) = n < 10 ^ 9
-CanBeSaid (Accepted name) = IsName name
-CanBeSaid (Rejected name) = IsName name
-CanBeSaid line = Unit {0}
+EngineLineCanBeRead (Time centis) = centis < 10 ^ 9
+EngineLineCanBeRead (Otim centis) = centis < 10 ^ 9
+EngineLineCanBeRead (Sd plies) = plies < 10 ^ 9
+EngineLineCanBeRead (Ping n) = n < 10 ^ 9
+EngineLineCanBeRead (Accepted name) = IsName name
+EngineLineCanBeRead (Rejected name) = IsName name
+EngineLineCanBeRead line = Unit {0}

@@ -3,12 +3,12 @@ use Rattle.std.specs.Prelude.{◌≡◌, ℕ, ◌≤◌, List, [], ◌∷◌, �
 use Rattle.std.specs.Prelude.{map, codes, Bool, true, false, not}
 use Rattle.std.specs.List.{flat_map}
 use Rattle.line_io.specs.Event.{Event, Iface, IfaceEnd, Engine, EngineEnd, has_feed}
-use Rattle.line_io.specs.Lines.{parts}
+use Rattle.line_io.specs.Lines.{parts_by_feed}
 use Rattle.script_lines.specs.Marks.{Mark, Happens, ToIface, ToEngine}
-use Rattle.script_lines.specs.StepText.{step_marks}
+use Rattle.script_lines.specs.StepText.{marks_of_written}
 use Rattle.cecp_driver.specs.declared.driver.DriverParts.{DriverParts}
 use Rattle.cecp_driver.specs.declared.driver.TheConstants.{LINE_LIMIT}
-use Rattle.cecp_driver.specs.Driver.{Orders, Hears, Ends}
+use Rattle.cecp_driver.specs.Driver.{Orders, DriverHears, EngineEndGives}
 
 -- The events that may come: lines of both sides and their ends, but nothing of
 -- the engine behind its end.
@@ -20,37 +20,37 @@ may_come v EngineEnd = not v.talk.gone
 may_come v event = false
 
 -- what comes of an event: a line of the interface is an order, and its end is `quit`
-abbrev pub Comes : Event → DriverParts → DriverParts → Type 0
-Comes (Iface line) v v' = Orders line v v'
-Comes IfaceEnd v v' = Orders (codes "quit") v v'
-Comes (Engine line) v v' = Hears line v v'
-Comes EngineEnd v v' = Ends v v'
-Comes event v v' = ⊥
+abbrev pub DriverEventGives : Event → DriverParts → DriverParts → Type 0
+DriverEventGives (Iface line) v v' = Orders line v v'
+DriverEventGives IfaceEnd v v' = Orders (codes "quit") v v'
+DriverEventGives (Engine line) v v' = DriverHears line v v'
+DriverEventGives EngineEnd v v' = EngineEndGives v v'
+DriverEventGives event v v' = ⊥
 
 -- a line of a peer is no longer than a line may be, and has no line feed
-abbrev pub IsLine : Event → Type 0
-IsLine (Iface line) = (length line ≤ LINE_LIMIT) × (has_feed line ≡ false)
-IsLine (Engine line) = (length line ≤ LINE_LIMIT) × (has_feed line ≡ false)
-IsLine event = Unit {0}
+abbrev pub IsPeerLine : Event → Type 0
+IsPeerLine (Iface line) = (length line ≤ LINE_LIMIT) × (has_feed line ≡ false)
+IsPeerLine (Engine line) = (length line ≤ LINE_LIMIT) × (has_feed line ≡ false)
+IsPeerLine event = Unit {0}
 
 -- The event may come, its line is one, and this comes of it.
-pub record Takes (event : Event) (v v' : DriverParts) : Type 0 where
+pub record DriverTakes (event : Event) (v v' : DriverParts) : Type 0 where
   pub may : may_come v event ≡ true
-  pub is_line : IsLine event
-  pub comes : Comes event v v'
+  pub is_line : IsPeerLine event
+  pub comes : DriverEventGives event v v'
 
 -- the mark of an event, and those of the lines that were given for it
 abbrev pub given_marks : Event → DriverParts → List ℕ
-given_marks event v' = step_marks event v'.up.text v'.down.text
+given_marks event v' = marks_of_written event v'.up.text v'.down.text
 
 -- LISTS OF EVENTS
 
 -- The driver takes these events, one by one, and is so after each.
-abbrev pub Goes : DriverParts → List Event → List DriverParts → Type 0
-Goes v [] [] = Unit {0}
-Goes v [] (v' ∷ later) = ⊥
-Goes v (event ∷ events) [] = ⊥
-Goes v (event ∷ events) (v' ∷ later) = Takes event v v' × Goes v' events later
+abbrev pub DriverTakesAll : DriverParts → List Event → List DriverParts → Type 0
+DriverTakesAll v [] [] = Unit {0}
+DriverTakesAll v [] (v' ∷ later) = ⊥
+DriverTakesAll v (event ∷ events) [] = ⊥
+DriverTakesAll v (event ∷ events) (v' ∷ later) = DriverTakes event v v' × DriverTakesAll v' events later
 
 -- what it is after the last of them
 abbrev pub last_of : DriverParts → List DriverParts → DriverParts
@@ -66,7 +66,7 @@ script_text (event ∷ events) (v' ∷ later) = given_marks event v' ++ script_t
 -- the same as marks: the event, and each line that was given for it
 abbrev pub marks_given : Event → DriverParts → List Mark
 marks_given event v' =
-    Happens event ∷ (map ToIface (parts v'.up.text) ++ map ToEngine (parts v'.down.text))
+    Happens event ∷ (map ToIface (parts_by_feed v'.up.text) ++ map ToEngine (parts_by_feed v'.down.text))
 
 abbrev pub script_marks : List Event → List DriverParts → List Mark
 script_marks [] after = []
@@ -74,8 +74,8 @@ script_marks (event ∷ events) [] = []
 script_marks (event ∷ events) (v' ∷ later) = marks_given event v' ++ script_marks events later
 
 -- all the lines that were given for the interface
-abbrev pub lines_up : List DriverParts → List ℕ
-lines_up after = flat_map (λ v'. v'.up.text) after
+abbrev pub driver_lines_up : List DriverParts → List ℕ
+driver_lines_up after = flat_map (λ v'. v'.up.text) after
 
 -- all the lines that were given for the engine
 abbrev pub lines_down : List DriverParts → List ℕ

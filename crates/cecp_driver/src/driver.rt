@@ -2,25 +2,25 @@
 ghost use Rattle.std.specs.Prelude.{◌≡◌, ◌+◌, ◌*◌, ◌≤◌, length, IfOk, MatchOption};
 ghost use Rattle.std.specs.Borrow.{sem};
 ghost use Rattle.line_io.specs.Out.{empty, with};
-ghost use Rattle.driver_talk.specs.Talk.{turn_of, is_free};
-ghost use Rattle.driver_talk.specs.Says.{engine_message_of, Report, Feature};
+ghost use Rattle.driver_state_machine.specs.DriverState.{driver_turn_of, is_free};
+ghost use Rattle.driver_state_machine.specs.Says.{engine_message_seen, Report, Feature};
 ghost use Rattle.peer_words.specs.Tokens.{tokens};
-ghost use Rattle.cecp_driver.specs.Driver.{driver_without_lines, driver_after_turn, driver_after_call, opening, CanTake, CanAct, reach_of, Wants, driver_after_position, IsAsked, IsHeard, driver_after_features, HeardBy, IsPlain};
+ghost use Rattle.cecp_driver.specs.Driver.{driver_without_lines, driver_after_turn, driver_after_call, opening_driver, TurnCanBeWritten, CanAct, reach_of, Wants, driver_after_position, GoIsAsked, EngineLineIsHeard, driver_after_features, HeardBy, IsPlain};
 ghost use Rattle.cecp_driver.specs.declared.driver.TheConstants.{LINE_LIMIT, UP_ROOM, DOWN_ROOM};
 
-use crate::deeds::{note_board, write_down, write_up};
+use crate::actions::{note_board, write_down, write_up};
 use crate::features::{HasFeatures, hear_features};
 use crate::ordered::take_position;
-use crate::told::{MOST_PLIES, ToldGame};
-use driver_talk::{
-    DriverCall, DriverStage, DriverTalk, DriverTurn, EngineSaid, OrderWord, Reach, Thought,
+use crate::sent_game::{MOST_PLIES, SentGame};
+use driver_state_machine::{
+    DriverCall, DriverStage, DriverState, DriverTurn, EngineSaid, OrderWord, Reach, Thought,
     WantedSearch, first_move, read_clocks, read_ordered, read_said, shown_move, thought_move,
 };
 use game_record::Game;
 use line_io::{NoMemory, Out, PEER_LINE, SCRIPT_LINE};
 use std::alloc::Global;
 use std::marker::Model;
-use uci_engine_side::go_kind;
+use uci_as_engine::go_kind;
 
 /// The most bytes of a line.
 pub const LINE_LIMIT: usize = PEER_LINE;
@@ -34,14 +34,14 @@ pub const DOWN_ROOM: usize = 3 * SCRIPT_LINE;
 // The parts of a driver.
 #[derive(Drop)]
 pub(crate) struct DriverParts {
-    talk: DriverTalk,
+    talk: DriverState,
     has: HasFeatures,
-    /// What the engine calls itself.
+    /// The engine's name for itself.
     name: Out,
     is_ordered: bool,
     /// The ordered game, a new one if none is ordered.
     game: Game,
-    told: ToldGame,
+    sent_game: SentGame,
     up: Out,
     down: Out,
 }
@@ -56,23 +56,23 @@ impl DriverParts {
 
     // Gives the lines of a turn.
     fn take(&mut self, turn: DriverTurn)
-        requires { CanTake self.old turn }
+        requires { TurnCanBeWritten self.old turn }
         ensures { self.new ≡ driver_after_turn self.old turn }
     {
-        let deed = turn.deed;
-        write_up(deed.up, &mut self.up);
+        let action = turn.action;
+        write_up(action.up, &mut self.up);
         write_down(
-            deed.down,
-            &mut self.told,
+            action.down,
+            &mut self.sent_game,
             &self.game,
             self.has.usermove,
             &mut self.down,
         );
-        note_board(deed.board, &mut self.told);
+        note_board(action.board, &mut self.sent_game);
         self.talk = turn.talk;
     }
 
-    // What comes of a call.
+    // The effect of a call.
     fn act(&mut self, call: DriverCall)
         requires { CanAct self.old call }
         ensures { self.new ≡ driver_after_call self.old call }
@@ -81,7 +81,7 @@ impl DriverParts {
         self.take(turn);
     }
 
-    // What may be asked of the engine for a `go`.
+    // The reach of the engine for a `go`.
     fn reach(&self) -> Reach
         ensures { result ≡ reach_of self.now }
     {
@@ -95,7 +95,7 @@ impl DriverParts {
         }
     }
 
-    // What a `go` asks for.
+    // The search of a `go`.
     fn wanted(&self, line: &[u8]) -> WantedSearch
         ensures { Wants self.now line.now result }
     {
@@ -116,9 +116,9 @@ impl DriverParts {
         }
     }
 
-    // What an order asks for, besides a position.
+    // The call of an order, besides a position.
     fn asked(&self, ordered: OrderWord, line: &[u8]) -> DriverCall
-        ensures { IsAsked self.now line.now ordered result }
+        ensures { GoIsAsked self.now line.now ordered result }
     {
         match ordered {
             OrderWord::Quit => DriverCall::Quit,
@@ -131,9 +131,10 @@ impl DriverParts {
         }
     }
 
-    // What the engine says of a move.
+    // The engine's report on a move.
     fn thought(&self, depth: u64, score: i64, time: u64, nodes: u64, moves: &[u8]) -> DriverCall
-        ensures { IsHeard self.now (Report depth score time nodes (tokens moves.now)) result }
+        ensures { EngineLineIsHeard self.now (Report depth score time nodes (tokens moves.now))
+            result }
     {
         match thought_move(self.game.now(), moves) {
             Some(best) => DriverCall::Thought(Thought {
@@ -147,9 +148,9 @@ impl DriverParts {
         }
     }
 
-    // What a line of the engine says, besides features.
+    // The meaning of a line of the engine, besides features.
     fn said(&self, said: &EngineSaid) -> DriverCall
-        ensures { IsHeard self.now (engine_message_of said.now) result }
+        ensures { EngineLineIsHeard self.now (engine_message_seen said.now) result }
     {
         match said {
             EngineSaid::Move(text) => DriverCall::Moved(shown_move(self.game.now(), text)),
@@ -181,8 +182,8 @@ impl DriverParts {
 }
 
 impl DriverParts {
-    ghost use Rattle.cecp_driver.specs.Driver.{Orders, Hears, Ends, placed_if};
-    ghost use Rattle.cecp_driver.specs.Keeps.{Keeps};
+    ghost use Rattle.cecp_driver.specs.Driver.{Orders, DriverHears, EngineEndGives, placed_if};
+    ghost use Rattle.cecp_driver.specs.DriverInvariant.{DriverInvariant};
 
     fn place_if(&mut self, ordered: OrderWord, line: &[u8])
         ensures { self.new ≡ placed_if ordered self.old line.now }
@@ -193,9 +194,9 @@ impl DriverParts {
     }
 
     fn order(&mut self, line: &[u8])
-        requires { Keeps self.old }
+        requires { DriverInvariant self.old }
         ensures orders { Orders line.now self.old self.new }
-        ensures keeps { Keeps self.new }
+        ensures keeps { DriverInvariant self.new }
     {
         self.clear();
         let ordered = read_ordered(line);
@@ -206,22 +207,22 @@ impl DriverParts {
 
     // Takes what the engine says, besides features.
     fn hear_plain(&mut self, said: &EngineSaid)
-        requires keeps { Keeps self.old }
+        requires keeps { DriverInvariant self.old }
         requires up { length self.old.up.text ≡ 0 }
         requires down { length self.old.down.text ≡ 0 }
-        requires plain { IsPlain (engine_message_of said.now) }
-        ensures heard { HeardBy (engine_message_of said.now) self.old self.new }
-        ensures keeps { Keeps self.new }
+        requires plain { IsPlain (engine_message_seen said.now) }
+        ensures heard { HeardBy (engine_message_seen said.now) self.old self.new }
+        ensures keeps { DriverInvariant self.new }
     {
         let call = self.said(said);
         self.act(call);
     }
 
     fn hear(&mut self, line: &[u8])
-        requires keeps { Keeps self.old }
+        requires keeps { DriverInvariant self.old }
         requires short { length line.now ≤ LINE_LIMIT }
-        ensures hears { Hears line.now self.old self.new }
-        ensures keeps { Keeps self.new }
+        ensures hears { DriverHears line.now self.old self.new }
+        ensures keeps { DriverInvariant self.new }
     {
         self.clear();
         let said = read_said(line);
@@ -232,9 +233,9 @@ impl DriverParts {
     }
 
     fn end(&mut self)
-        requires { Keeps self.old }
-        ensures ends { Ends self.old self.new }
-        ensures keeps { Keeps self.new }
+        requires { DriverInvariant self.old }
+        ensures ends { EngineEndGives self.old self.new }
+        ensures keeps { DriverInvariant self.new }
     {
         self.clear();
         self.act(DriverCall::Ended);
@@ -243,8 +244,8 @@ impl DriverParts {
 
 /// The features that a line of the engine has, if it is such a line.
 fn feature_text<'a>(said: &EngineSaid<'a>) -> Option<&'a [u8]>
-    ensures { MatchOption result (IsPlain (engine_message_of said.now))
-        (λ text. engine_message_of said.now ≡ Feature text.now) }
+    ensures { MatchOption result (IsPlain (engine_message_seen said.now))
+        (λ text. engine_message_seen said.now ≡ Feature text.now) }
 {
     match said {
         EngineSaid::Feature(text) => Some(text),
@@ -267,16 +268,16 @@ pub struct Driver {
 
 impl Model for Driver {
     ghost use Rattle.cecp_driver.specs.declared.driver.DriverParts.{DriverParts};
-    ghost use Rattle.cecp_driver.specs.Keeps.{Keeps};
+    ghost use Rattle.cecp_driver.specs.DriverInvariant.{DriverInvariant};
 
     ghost Value = { DriverParts };
 
     ghost view = { λ d. d.parts };
 
-    ghost invariant = { λ d. Keeps d.parts };
+    ghost invariant = { λ d. DriverInvariant d.parts };
 }
 
-/// What a call gave: whole lines for the interface, and for the engine.
+/// The output of a call: whole lines for the interface, and for the engine.
 #[derive(Clone, Copy)]
 pub struct DriverStep<'a> {
     pub up: &'a [u8],
@@ -284,15 +285,15 @@ pub struct DriverStep<'a> {
 }
 
 fn make_parts(alloc: Global) -> Result<DriverParts, NoMemory>
-    ensures { IfOk result (λ parts. parts ≡ opening) }
+    ensures { IfOk result (λ parts. parts ≡ opening_driver) }
 {
     let name = Out::make(alloc, LINE_LIMIT)?;
     let up = Out::make(alloc, UP_ROOM)?;
     let down = Out::make(alloc, DOWN_ROOM)?;
     let game = Game::make(alloc)?;
-    let told = ToldGame::make(alloc)?;
+    let sent_game = SentGame::make(alloc)?;
     Ok(DriverParts {
-        talk: DriverTalk::new(),
+        talk: DriverState::new(),
         has: HasFeatures {
             ping: false,
             setboard: false,
@@ -303,19 +304,19 @@ fn make_parts(alloc: Global) -> Result<DriverParts, NoMemory>
         name,
         is_ordered: false,
         game,
-        told,
+        sent_game,
         up,
         down,
     })
 }
 
 impl Driver {
-    ghost use Rattle.cecp_driver.specs.Driver.{Orders, Hears, Ends};
-    ghost use Rattle.cecp_driver.specs.Lending.{Gives, Fits, OrdersOn, HearsOn, EndsOn};
+    ghost use Rattle.cecp_driver.specs.Driver.{Orders, DriverHears, EngineEndGives};
+    ghost use Rattle.cecp_driver.specs.Lending.{GivesLines, FitsRoom, OrdersOn, HearsOn, EndsOn};
 
     /// A driver before the first call. It takes all memory that it ever uses.
     pub fn make(alloc: Global) -> Result<Driver, NoMemory>
-        ensures { IfOk result (λ driver. driver ≡ opening) }
+        ensures { IfOk result (λ driver. driver ≡ opening_driver) }
     {
         let parts = make_parts(alloc)?;
         Ok(Driver { parts })
@@ -324,7 +325,7 @@ impl Driver {
     /// Takes an order of the interface: a line of at most 65,536 bytes, without its line feed.
     pub fn order<'a>(&'a mut self, line: &[u8]) -> DriverStep<'a>
         ensures* orders { sem 𝓛 (OrdersOn self.entry line.now result) }
-        ensures fits { Fits result }
+        ensures fits { FitsRoom result }
     {
         self.take_order(line);
         self.lines()
@@ -334,7 +335,7 @@ impl Driver {
     pub fn heard<'a>(&'a mut self, line: &[u8]) -> DriverStep<'a>
         requires { length line.now ≤ LINE_LIMIT }
         ensures* hears { sem 𝓛 (HearsOn self.entry line.now result) }
-        ensures fits { Fits result }
+        ensures fits { FitsRoom result }
     {
         self.take_line(line);
         self.lines()
@@ -343,7 +344,7 @@ impl Driver {
     /// Takes the end of the engine.
     pub fn ended(&mut self) -> DriverStep<'_>
         ensures* ends { sem 𝓛 (EndsOn self.entry result) }
-        ensures fits { Fits result }
+        ensures fits { FitsRoom result }
     {
         self.take_end();
         self.lines()
@@ -357,13 +358,13 @@ impl Driver {
 
     pub(crate) fn take_line(&mut self, line: &[u8])
         requires { length line.now ≤ LINE_LIMIT }
-        ensures { Hears line.now self.old self.new }
+        ensures { DriverHears line.now self.old self.new }
     {
         self.parts.hear(line);
     }
 
     pub(crate) fn take_end(&mut self)
-        ensures { Ends self.old self.new }
+        ensures { EngineEndGives self.old self.new }
     {
         self.parts.end();
     }
@@ -374,10 +375,10 @@ impl Driver {
         self.parts.talk.gone
     }
 
-    /// What the last call gave.
+    /// The output of the last call.
     pub fn lines(&self) -> DriverStep<'_>
-        ensures gives { Gives self.now result }
-        ensures fits { Fits result }
+        ensures gives { GivesLines self.now result }
+        ensures fits { FitsRoom result }
     {
         DriverStep {
             up: self.parts.up.bytes(),

@@ -1,11 +1,13 @@
 // The features of the engine.
 ghost use Rattle.std.specs.Prelude.{◌≡◌, ◌+◌, ◌*◌, ◌≤◌, ◌∷◌, [], length, IfSome, false};
 ghost use Rattle.line_io.specs.Out.{with};
-ghost use Rattle.driver_talk.specs.Parts.{feature_of, parts, cut_seen, onto, IsNamed};
-ghost use Rattle.driver_talk.specs.Lines.{lines_text};
-ghost use Rattle.cecp_driver.specs.Features.{has_word, is_on, rejects, answer_line, has_after, name_after, greeting, has_all, name_all, answers, greetings, weight};
+ghost use Rattle.driver_state_machine.specs.Parts.{feature_of, feature_parts, cut_seen, onto, IsNamed};
+ghost use Rattle.driver_state_machine.specs.Lines.{lines_text};
+ghost use Rattle.cecp_driver.specs.Features.{feature_has_word, is_feature_on, rejects, answer_line, has_after, name_after, greeting, has_all, name_all, feature_answers, greetings, feature_weight};
 
-use driver_talk::{CutFeature, NamedFeature, next_cut, write_answer, write_id, write_word};
+use driver_state_machine::{
+    CutFeature, NamedFeature, next_cut, write_answer, write_id, write_word,
+};
 use line_io::Out;
 
 /// The features that the engine has said it has, and that it has said all.
@@ -19,18 +21,18 @@ pub(crate) struct HasFeatures {
 }
 
 fn is_on(part: &NamedFeature, name: &[u8]) -> bool
-    ensures { result ≡ is_on name.now (feature_of part.now) }
+    ensures { result ≡ is_feature_on name.now (feature_of part.now) }
 {
     part.name == name && part.value == b"1".as_slice()
 }
 
 fn has_word(part: &NamedFeature, name: &[u8]) -> bool
-    ensures { result ≡ has_word name.now (feature_of part.now) }
+    ensures { result ≡ feature_has_word name.now (feature_of part.now) }
 {
     part.name == name
 }
 
-/// Whether a feature is rejected: `san=1`, and what a driver has no use for.
+/// True if a feature is rejected: `san=1`, and what a driver has no use for.
 fn rejects(part: &NamedFeature) -> bool
     ensures { result ≡ rejects (feature_of part.now) }
 {
@@ -90,7 +92,7 @@ fn greet(has: HasFeatures, part: &NamedFeature, name: &[u8], up: &mut Out)
     }
 }
 
-/// What a feature changes, and what is written to both sides for it.
+/// The changes by a feature, and the output to both sides for it.
 fn hear_part(
     has: HasFeatures,
     part: &NamedFeature,
@@ -116,7 +118,7 @@ fn hear_part(
     has_after(has, part)
 }
 
-/// The same for what was cut off the front of a text.
+/// The same for what was cut off the start of a text.
 fn hear_cut(
     has: HasFeatures,
     cut: &CutFeature,
@@ -132,13 +134,13 @@ fn hear_cut(
     ensures has { result ≡ has_all has (onto (cut_seen cut.now).part []) }
     ensures silent { result.done ≡ false → (has.done ≡ false) × (up.new ≡ up.old) }
     ensures down_short { length down.new.text + 6 * length (cut_seen cut.now).rest
-        ≤ length down.old.text + 6 * weight (cut_seen cut.now) }
+        ≤ length down.old.text + 6 * feature_weight (cut_seen cut.now) }
     ensures name { name.new.text ≡ name_all name.old.text (onto (cut_seen cut.now).part []) }
     ensures name_room { name.new.room ≡ name.old.room }
     ensures up { up.new
         ≡ with up.old (greetings has name.old.text (onto (cut_seen cut.now).part [])) }
     ensures down { down.new
-        ≡ with down.old (lines_text (answers (onto (cut_seen cut.now).part []))) }
+        ≡ with down.old (lines_text (feature_answers (onto (cut_seen cut.now).part []))) }
 {
     match &cut.part {
         Some(part) => hear_part(has, part, name, up, down),
@@ -146,7 +148,7 @@ fn hear_cut(
     }
 }
 
-/// What the features of a line change, and what is written to both sides for them.
+/// The changes by the features of a line, and the output to both sides for them.
 pub(crate) fn hear_features(
     text: &[u8],
     before: HasFeatures,
@@ -157,11 +159,12 @@ pub(crate) fn hear_features(
     requires name { length text.now ≤ name.old.room }
     requires up { length up.old.text + name.old.room + 30 ≤ up.old.room }
     requires down { length down.old.text + 6 * length text.now ≤ down.old.room }
-    ensures has { result ≡ has_all before (parts text.now) }
-    ensures name { name.new.text ≡ name_all name.old.text (parts text.now) }
+    ensures has { result ≡ has_all before (feature_parts text.now) }
+    ensures name { name.new.text ≡ name_all name.old.text (feature_parts text.now) }
     ensures name_room { name.new.room ≡ name.old.room }
-    ensures up { up.new ≡ with up.old (greetings before name.old.text (parts text.now)) }
-    ensures down { down.new ≡ with down.old (lines_text (answers (parts text.now))) }
+    ensures up { up.new ≡ with up.old (greetings before name.old.text (feature_parts text.now)) }
+    ensures down { down.new ≡ with down.old (lines_text (feature_answers (feature_parts
+        text.now))) }
 {
     let mut has = before;
     let mut others = text;

@@ -8,8 +8,8 @@ pub fn searches_are_on_the_ordered_game()
     ensures { SearchesTheOrdered }
 {}
 
-/// What a driver gives to the interface along every list of events: legal moves, one `bestmove` for a `go`, and `bestmove 0000`
-/// only with a cause.
+/// The output of a driver to the interface along every list of events: legal moves, one `bestmove` for a `go`, and
+/// `bestmove 0000` only with a cause.
 pub fn runs_are_sound()
     ensures { RunsAreSound }
 {}

@@ -4,19 +4,19 @@ ghost use Rattle.std.specs.Bool.{OnTrue, OnFalse};
 ghost use Rattle.std.specs.Option.{unwrap_or};
 ghost use Rattle.peer_words.specs.Tokens.{tokens};
 ghost use Rattle.chess_board.specs.Play.{start_position};
-ghost use Rattle.chess_board.specs.Spelling.{move_of};
+ghost use Rattle.chess_board.specs.Spelling.{move_spelled_by};
 ghost use Rattle.game_record.specs.Game.{game_from};
-ghost use Rattle.cecp_driver.specs.Ordered.{push_one, game_after_texts, ordered_in};
+ghost use Rattle.cecp_driver.specs.Ordered.{push_one, game_after_texts, game_ordered_in};
 
 use chess_board::{Position, read_move};
 use game_record::Game;
 use peer_words::next_token;
-use uci_engine_side::spoken;
+use uci_as_engine::spoken;
 
 /// Plays the move that a text names. False if it may not be played.
 fn push_text(text: &[u8], game: &mut Game) -> bool
-    ensures played { OnTrue result (push_one game.old (move_of text.now) ≡ Some game.new) }
-    ensures not { OnFalse result (push_one game.old (move_of text.now) ≡ None) }
+    ensures played { OnTrue result (push_one game.old (move_spelled_by text.now) ≡ Some game.new) }
+    ensures not { OnFalse result (push_one game.old (move_spelled_by text.now) ≡ None) }
 {
     game.facts();
     match read_move(text) {
@@ -43,8 +43,8 @@ fn push_all(moves: &[u8], game: &mut Game) -> bool
 
 /// Sets a game to what a `position` line orders. False if it orders none; the game is a new one then.
 pub(crate) fn take_position(line: &[u8], game: &mut Game) -> bool
-    ensures there { result ≡ is_some (ordered_in line.now) }
-    ensures game { game.new ≡ unwrap_or (ordered_in line.now) (game_from start_position) }
+    ensures there { result ≡ is_some (game_ordered_in line.now) }
+    ensures game { game.new ≡ unwrap_or (game_ordered_in line.now) (game_from start_position) }
 {
     if let Some(said) = spoken(line) {
         game.reset(said.start);

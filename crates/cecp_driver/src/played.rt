@@ -4,11 +4,11 @@ ghost use Rattle.std.specs.List.{AllByRecursion};
 ghost use Rattle.line_io.specs.Out.{with};
 ghost use Rattle.chess_board.specs.Text.{IsOfficer};
 ghost use Rattle.game_record.specs.Game.{plies_of};
-ghost use Rattle.driver_talk.specs.Lines.{lines_text};
+ghost use Rattle.driver_state_machine.specs.Lines.{lines_text};
 ghost use Rattle.cecp_driver.specs.SetUp.{ply_lines};
 
 use chess_board::Move;
-use driver_talk::write_moved;
+use driver_state_machine::write_moved;
 use line_io::Out;
 
 /// Writes each move.

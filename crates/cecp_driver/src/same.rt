@@ -6,14 +6,14 @@ ghost use Rattle.cecp_driver.specs.Same.{same_position, same_ply};
 
 use chess_board::{Move, Position};
 
-/// Whether two positions are the same for repetition.
+/// True if two positions are the same for repetition.
 fn is_same(a: &Position, b: &Position) -> bool
     ensures { result ≡ is_same a.now b.now }
 {
     a.same(b)
 }
 
-/// Whether two positions are the same, with their counts.
+/// True if two positions are the same, with their counts.
 pub(crate) fn is_same_position(a: &Position, b: &Position) -> bool
     ensures { result ≡ same_position a.now b.now }
 {

@@ -5,11 +5,11 @@ use Rattle.cecp_lines.specs.declared.iface.IfaceMsg.{IfaceMsg as CodeIfaceMsg}
 use Rattle.cecp_lines.specs.declared.iface.IfaceFault.{IfaceFault}
 use Rattle.cecp_lines.specs.declared.iface.IfaceFault.TheVariants.{UnknownCommand, BadArgument}
 use Rattle.cecp_lines.specs.Messages.{IfaceMsg, read_as}
-use Rattle.cecp_lines.specs.Reading.{message_or_fault, Spells, IsUnknown, IsBad}
+use Rattle.cecp_lines.specs.Reading.{message_or_fault, SpellsIfaceMsg, IsUnknown, IsBad}
 use Rattle.cecp_lines.proofs.Spellings.{reading_spells}
 use Rattle.cecp_lines.proofs.Complete.{spells_reading, reading_unknown, unknown_reading, reading_bad, bad_reading}
 
-pub spelled : (line : List ℕ) (r : Result CodeIfaceMsg IfaceFault) → read_as r ≡ message_or_fault line → (m : IfaceMsg) → (read_as r ≡ Ok m) ↔ Spells line m
+pub spelled : (line : List ℕ) (r : Result CodeIfaceMsg IfaceFault) → read_as r ≡ message_or_fault line → (m : IfaceMsg) → (read_as r ≡ Ok m) ↔ SpellsIfaceMsg line m
 spelled line r e m = (λ h. reading_spells line m (sym e ∙ h), λ h. e ∙ spells_reading line m h)
 
 fault_back : (r : Result CodeIfaceMsg IfaceFault) (fault : IfaceFault) → read_as r ≡ Err fault → r ≡ Err fault

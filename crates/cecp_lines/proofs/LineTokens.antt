@@ -1,19 +1,19 @@
 -- A line's tokens against its first token and the rest.
 use Rattle.std.proofs.Common.{◌≡◌, ℕ, List, [], ◌∷◌, Bool, true, false, cond, Some, None, drop, refl, sym, ap, ◌∙◌}
-use Rattle.peer_words.specs.Tokens.{first_token, rest, tokens, trim_left, token_end}
+use Rattle.peer_words.specs.Tokens.{first_token, rest_after_token, tokens, trim_left, token_end}
 use Rattle.peer_words.proofs.Trims.{trim_left_trimmed}
 use Rattle.peer_words.proofs.TokenLists.{tokens_some, tokens_none, no_first}
-use Rattle.cecp_lines.specs.Reading.{is_empty, only_token}
+use Rattle.cecp_lines.specs.Reading.{is_empty_text, only_token}
 
 -- a line with a first token
 pub record Heads (line w : List ℕ) (ts : List (List ℕ)) : Type 0 where
   pub first : first_token line ≡ w
-  pub after : tokens (rest line) ≡ ts
+  pub after : tokens (rest_after_token line) ≡ ts
 
 heads_by : (line w : List ℕ) (ts : List (List ℕ)) (f : List ℕ) → first_token line ≡ f → tokens line ≡ w ∷ ts → Heads line w ts
 heads_by line w ts [] e h = absurd (cc (tokens_none line e))
 heads_by line w ts (c ∷ cs) e h =
-    let both : (c ∷ cs) ∷ tokens (rest line) ≡ w ∷ ts = sym (tokens_some line c cs e) ∙ h in
+    let both : (c ∷ cs) ∷ tokens (rest_after_token line) ≡ w ∷ ts = sym (tokens_some line c cs e) ∙ h in
     record { first = cc; after = cc }
 
 pub heads : (line w : List ℕ) (ts : List (List ℕ)) → tokens line ≡ w ∷ ts → Heads line w ts
@@ -27,36 +27,36 @@ pub no_tokens : (line : List ℕ) → tokens line ≡ [] → first_token line �
 no_tokens line h = none_by line (first_token line) refl h
 
 -- a rest is empty if it has no token
-pub rest_empty : (line : List ℕ) → tokens (rest line) ≡ [] → rest line ≡ []
+pub rest_empty : (line : List ℕ) → tokens (rest_after_token line) ≡ [] → rest_after_token line ≡ []
 rest_empty line h =
-    sym (trim_left_trimmed (drop (token_end (trim_left line)) (trim_left line))) ∙ no_first (rest line) (no_tokens (rest line) h)
+    sym (trim_left_trimmed (drop (token_end (trim_left line)) (trim_left line))) ∙ no_first (rest_after_token line) (no_tokens (rest_after_token line) h)
 
 -- a line of one token
-pub alone : (line t : List ℕ) → tokens line ≡ t ∷ [] → (first_token line ≡ t) × (rest line ≡ [])
+pub alone : (line t : List ℕ) → tokens line ≡ t ∷ [] → (first_token line ≡ t) × (rest_after_token line ≡ [])
 alone line t h = let k = heads line t [] h in (k.first, rest_empty line k.after)
 
 -- a word and one token
-pub two : (line w t : List ℕ) → tokens line ≡ w ∷ t ∷ [] → (first_token line ≡ w) × (only_token (rest line) ≡ Some t)
+pub two : (line w t : List ℕ) → tokens line ≡ w ∷ t ∷ [] → (first_token line ≡ w) × (only_token (rest_after_token line) ≡ Some t)
 two line w t h =
     let k = heads line w (t ∷ []) h in
-    let a = alone (rest line) t k.after in
+    let a = alone (rest_after_token line) t k.after in
     (k.first, (rw a.1 (ap Some a.0)))
 
-pub empty_is : (xs : List ℕ) → is_empty xs ≡ true → xs ≡ []
+pub empty_is : (xs : List ℕ) → is_empty_text xs ≡ true → xs ≡ []
 empty_is [] h = refl
 empty_is (x ∷ xs) h = absurd (cc)
 
-only_by : (text t : List ℕ) (b : Bool) → is_empty (rest text) ≡ b → cond b (Some (first_token text)) None ≡ Some t → (first_token text ≡ t) × (rest text ≡ [])
-only_by text t true e h = (cc, empty_is (rest text) e)
+only_by : (text t : List ℕ) (b : Bool) → is_empty_text (rest_after_token text) ≡ b → cond b (Some (first_token text)) None ≡ Some t → (first_token text ≡ t) × (rest_after_token text ≡ [])
+only_by text t true e h = (cc, empty_is (rest_after_token text) e)
 only_by text t false e h = absurd (cc)
 
-pub only : (text t : List ℕ) → only_token text ≡ Some t → (first_token text ≡ t) × (rest text ≡ [])
-only text t h = only_by text t (is_empty (rest text)) refl h
+pub only : (text t : List ℕ) → only_token text ≡ Some t → (first_token text ≡ t) × (rest_after_token text ≡ [])
+only text t h = only_by text t (is_empty_text (rest_after_token text)) refl h
 
 -- the tokens of a line by its first token
-pub tokens_word : (line word : List ℕ) → is_empty word ≡ false → first_token line ≡ word → tokens line ≡ word ∷ tokens (rest line)
+pub tokens_word : (line word : List ℕ) → is_empty_text word ≡ false → first_token line ≡ word → tokens line ≡ word ∷ tokens (rest_after_token line)
 tokens_word line [] some e = absurd (cc)
 tokens_word line (c ∷ cs) some e = tokens_some line c cs e
 
-pub one_token : (text t : List ℕ) → is_empty t ≡ false → only_token text ≡ Some t → tokens text ≡ t ∷ []
+pub one_token : (text t : List ℕ) → is_empty_text t ≡ false → only_token text ≡ Some t → tokens text ≡ t ∷ []
 one_token text t some h = let k = only text t h in tokens_word text t some k.0 ∙ ap (λ r. t ∷ tokens r) k.1

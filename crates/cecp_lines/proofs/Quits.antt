@@ -9,7 +9,8 @@ use Rattle.cecp_lines.specs.declared.iface.IfaceFault.{IfaceFault}
 use Rattle.cecp_lines.specs.Messages as says
 use Rattle.cecp_lines.specs.Messages.{IfaceMsg}
 use Rattle.cecp_lines.specs.Reading.{message_or_fault}
-use Rattle.cecp_lines.specs.Quit.{is_quit, is_quit_message}
+use Rattle.peer_words.specs.Quit.{is_quit}
+use Rattle.cecp_lines.specs.Quit.{is_quit_message}
 use Rattle.cecp_lines.proofs.Spellings.{reading_spells}
 use Rattle.cecp_lines.proofs.Complete.{spells_reading}
 
@@ -17,9 +18,9 @@ quit_message : (r : Result IfaceMsg IfaceFault) → is_quit_message r ≡ true �
 quit_message (Ok says.Quit) h = refl
 quit_message r h = absurd (cc)
 
-pub quit_first : (line : List ℕ) → bytes_eq (first_token line) (codes "quit") ≡ is_quit line
+pub quit_first : (line : List ℕ) → is_quit line ≡ is_quit_message (message_or_fault line)
 quit_first line =
     let decides = bytes_eq-Decides (first_token line) (codes "quit") in
-    both_ways (bytes_eq (first_token line) (codes "quit")) (is_quit line)
+    both_ways (is_quit line) (is_quit_message (message_or_fault line))
     (λ e. ap is_quit_message (spells_reading line says.Quit (decides.0 e)))
     (λ h. decides.1 (reading_spells line says.Quit (quit_message (message_or_fault line) h)))

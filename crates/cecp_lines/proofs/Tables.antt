@@ -1,4 +1,4 @@
--- What is found in the table of command words.
+-- The entries found in the table of command words.
 use Rattle.std.proofs.Common.{◌≡◌, ℕ, ◌+◌, ◌<◌, ◌≤◌, List, [], ◌∷◌, ◌++◌, map, Bool, true, false, ◌||◌, cond, Option, Some, None, drop, refl, sym, subst, arith}
 use Rattle.std.specs.Prelude.{codes}
 use Rattle.std.specs.Str.{bytes_eq}
@@ -6,15 +6,15 @@ use Rattle.std.specs.Map.{lookup}
 use Rattle.std.specs.List.{AllByRecursion, list_any}
 use Rattle.std.proofs.lemmas.Slice.Eq.{bytes_eq-Decides}
 use Rattle.chess_board.specs.declared.board.Move.{Move}
-use Rattle.chess_board.specs.Board.{rank_of}
-use Rattle.chess_board.specs.Text.{Spells as MoveSpells}
+use Rattle.chess_board.specs.Board.{rank_of_square}
+use Rattle.chess_board.specs.Text.{SpellsMove as MoveSpells}
 use Rattle.peer_words.specs.Tokens.{first_token}
 use Rattle.cecp_lines.specs.declared.words.Command.{Command}
 use Rattle.cecp_lines.specs.declared.words.Command.TheVariants.{Ignored, Bare, With}
 use Rattle.cecp_lines.specs.declared.words.Verb.{Verb}
 use Rattle.cecp_lines.specs.declared.words.Verb.TheVariants as verbs
-use Rattle.cecp_lines.specs.Words.{commands, command_of, is_ignored, ignored_words}
-use Rattle.cecp_lines.specs.Reading.{Spells, bare_message}
+use Rattle.cecp_lines.specs.Words.{commands, iface_command_of, is_ignored, ignored_words}
+use Rattle.cecp_lines.specs.Reading.{SpellsIfaceMsg, bare_message}
 
 looked_by : (P : List ℕ → Command → Type 0) (w a : List ℕ) (x c : Command) (b : Bool) (others : Option Command) → bytes_eq w a ≡ b → P a x → (others ≡ Some c → P w c) → cond b (Some x) others ≡ Some c → P w c
 looked_by P w a x c true others e p k h =
@@ -47,25 +47,25 @@ verb_text verbs.EgtPath = codes "egtpath"
 -- what a found word is
 abbrev pub Means : List ℕ → Command → Type 0
 Means w Ignored = is_ignored w ≡ true
-Means w (Bare word) = (line : List ℕ) → first_token line ≡ w → Spells line (bare_message word)
+Means w (Bare word) = (line : List ℕ) → first_token line ≡ w → SpellsIfaceMsg line (bare_message word)
 Means w (With verb) = w ≡ verb_text verb
 
-pub found_means : (w : List ℕ) (c : Command) → command_of w ≡ Some c → Means w c
+pub found_means : (w : List ℕ) (c : Command) → iface_command_of w ≡ Some c → Means w c
 found_means w c h = looked_up Means commands (refl, (refl, (refl, (refl, (refl, (refl, (refl, (refl, (refl, (λ line e. e, (λ line e. e, (λ line e. e, (λ line e. e, (λ line e. e, (λ line e. e, (λ line e. e, (λ line e. e, (λ line e. e, (λ line e. e, (λ line e. e, (λ line e. e, (λ line e. e, (λ line e. e, (λ line e. e, (λ line e. e, (λ line e. e, (λ line e. e, (refl, (refl, (refl, (refl, (refl, (refl, (refl, (refl, (refl, (refl, (refl, (refl, (refl, tt)))))))))))))))))))))))))))))))))))))))) w c h
 
 -- no command word is a move text
-no_rank : (r s : ℕ) → s < 64 → 57 ≤ r → r ≡ 49 + rank_of s → ⊥
+no_rank : (r s : ℕ) → s < 64 → 57 ≤ r → r ≡ 49 + rank_of_square s → ⊥
 no_rank r s a b e = omega arith
 
-no_word_moves : (m : Move) (w : List ℕ) (c : Command) → command_of w ≡ Some c → MoveSpells w m → ⊥
+no_word_moves : (m : Move) (w : List ℕ) (c : Command) → iface_command_of w ≡ Some c → MoveSpells w m → ⊥
 no_word_moves m w c h = looked_up (λ u k. MoveSpells u m → ⊥) commands (λ h. h, (λ h. h, (λ h. h, (λ h. h, (λ h. h, (λ h. no_rank 97 m.from.index m.from.on_board (omega arith) h.0.1, (λ h. h, (λ h. h, (λ h. h, (λ h. h, (λ h. no_rank 117 m.from.index m.from.on_board (omega arith) h.0.1, (λ h. no_rank 111 m.from.index m.from.on_board (omega arith) h.0.1, (λ h. h, (λ h. h, (λ h. h, (λ h. no_rank 114 m.from.index m.from.on_board (omega arith) h.0.1, (λ h. no_rank 105 m.from.index m.from.on_board (omega arith) h.0.1, (λ h. no_rank 110 m.from.index m.from.on_board (omega arith) h.0.1, (λ h. h, (λ h. no_rank 97 m.from.index m.from.on_board (omega arith) h.0.1, (λ h. no_rank 97 m.from.index m.from.on_board (omega arith) h.0.1, (λ h. no_rank 111 m.from.index m.from.on_board (omega arith) h.0.1, (λ h. h, (λ h. h, (λ h. no_rank 120 m.from.index m.from.on_board (omega arith) h.0.1, (λ h. h, (λ h. h, (λ h. h, (λ h. no_rank 105 m.from.index m.from.on_board (omega arith) h.0.1, (λ h. h, (λ h. h, (λ h. no_rank 101 m.from.index m.from.on_board (omega arith) h.0.1, (λ h. h, (λ h. h, (λ h. no_rank 105 m.from.index m.from.on_board (omega arith) h.0.1, (λ h. no_rank 116 m.from.index m.from.on_board (omega arith) h.0.1, (λ h. h, (λ h. h, (λ h. no_rank 111 m.from.index m.from.on_board (omega arith) h.0.1, (λ h. h, tt)))))))))))))))))))))))))))))))))))))))) w c h
 
-unfound : (m : Move) (w : List ℕ) (o : Option Command) → command_of w ≡ o → MoveSpells w m → command_of w ≡ None
+unfound : (m : Move) (w : List ℕ) (o : Option Command) → iface_command_of w ≡ o → MoveSpells w m → iface_command_of w ≡ None
 unfound m w None e h = e
 unfound m w (Some c) e h = absurd (no_word_moves m w c e h)
 
-pub move_no_command : (m : Move) (w : List ℕ) → MoveSpells w m → command_of w ≡ None
-move_no_command m w h = unfound m w (command_of w) refl h
+pub move_no_command : (m : Move) (w : List ℕ) → MoveSpells w m → iface_command_of w ≡ None
+move_no_command m w h = unfound m w (iface_command_of w) refl h
 
 -- a word of the ignored ones is found as such, whatever rows follow them
 ignored_by : (w a : List ℕ) (b more : Bool) (others : Option Command) → (more ≡ true → others ≡ Some Ignored) → (b || more) ≡ true → cond b (Some Ignored) others ≡ Some Ignored
@@ -76,5 +76,5 @@ ignored_found : (w : List ℕ) (words : List (List ℕ)) (rows : List (List ℕ 
 ignored_found w [] rows h = absurd (cc)
 ignored_found w (a ∷ words) rows h = ignored_by w a (bytes_eq w a) (list_any (bytes_eq w) words) (lookup (bytes_eq w) (map (λ u. (u, Ignored)) words ++ rows)) (ignored_found w words rows) h
 
-pub ignored_command : (w : List ℕ) → is_ignored w ≡ true → command_of w ≡ Some Ignored
+pub ignored_command : (w : List ℕ) → is_ignored w ≡ true → iface_command_of w ≡ Some Ignored
 ignored_command w h = ignored_found w ignored_words (drop 9 commands) h

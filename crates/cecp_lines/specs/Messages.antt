@@ -1,4 +1,4 @@
--- What the interface says, whatever memory its bytes lie in.
+-- The messages of the interface, whatever memory their bytes lie in.
 use Rattle.std.specs.Prelude.{ℕ, ℤ, List, Option, Result as Answer, Ok, Err}
 use Rattle.std.specs.Option.{option_map}
 use Rattle.chess_board.specs.declared.board.Move.{Move}

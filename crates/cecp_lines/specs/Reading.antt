@@ -5,8 +5,8 @@ use Rattle.std.specs.Prelude.{◌==◌, nat_le, Option, Some, None, Result, Ok, 
 use Rattle.std.specs.Option.{option_map, option_and_then, ok_or}
 use Rattle.std.specs.Str.{bytes_eq}
 use Rattle.chess_board.specs.declared.board.Move.{Move}
-use Rattle.chess_board.specs.Text.{Spells as MoveSpells}
-use Rattle.peer_words.specs.Tokens.{first_token, rest, trimmed, tokens}
+use Rattle.chess_board.specs.Text.{SpellsMove as MoveSpells}
+use Rattle.peer_words.specs.Tokens.{first_token, rest_after_token, trimmed, tokens}
 use Rattle.peer_words.specs.Numbers.{digits, number, centis, seconds}
 use Rattle.cecp_lines.specs.declared.iface.IfaceFault.{IfaceFault}
 use Rattle.cecp_lines.specs.declared.iface.IfaceFault.TheVariants.{UnknownCommand, BadArgument}
@@ -18,17 +18,17 @@ use Rattle.cecp_lines.specs.declared.words.Verb.{Verb}
 use Rattle.cecp_lines.specs.declared.words.Verb.TheVariants as verbs
 use Rattle.cecp_lines.specs.Messages as says
 use Rattle.cecp_lines.specs.Messages.{IfaceMsg}
-use Rattle.chess_board.specs.Spelling.{move_of}
-use Rattle.cecp_lines.specs.Words.{is_ignored, command_of}
+use Rattle.chess_board.specs.Spelling.{move_spelled_by}
+use Rattle.cecp_lines.specs.Words.{is_ignored, iface_command_of}
 use Rattle.peer_words.specs.Bytes.{colon, equals}
 use Rattle.peer_words.specs.declared.numbers.TheConstants.{MINUTE, SECOND}
 
-abbrev pub is_empty : List ℕ → Bool
-is_empty text = bytes_eq text []
+abbrev pub is_empty_text : List ℕ → Bool
+is_empty_text text = bytes_eq text []
 
 -- the token of a text of one token at most
 abbrev pub only_token : List ℕ → Option (List ℕ)
-only_token text = if is_empty (rest text) then Some (first_token text) else None
+only_token text = if is_empty_text (rest_after_token text) then Some (first_token text) else None
 
 -- a version of at least 2
 abbrev pub version : ℕ → Option IfaceMsg
@@ -63,8 +63,8 @@ level_of None base_ms inc_ms = None
 
 abbrev pub level : List ℕ → Option IfaceMsg
 level text =
-    level_of (digits 4 (first_token text)) (base_time (first_token (rest text)))
-    (option_and_then seconds (only_token (rest (rest text))))
+    level_of (digits 4 (first_token text)) (base_time (first_token (rest_after_token text)))
+    (option_and_then seconds (only_token (rest_after_token (rest_after_token text))))
 
 abbrev pub is_equals : ℕ → Bool
 is_equals b = b == equals
@@ -78,16 +78,16 @@ abbrev pub value_at : Option ℕ → List ℕ → Option (List ℕ)
 value_at None text = None
 value_at (Some at) text = Some (drop (at + 1) text)
 
-abbrev pub setting_of : List ℕ → Option (List ℕ) → Option IfaceMsg
-setting_of name value = if is_empty name then None else Some (says.SetOption name value)
+abbrev pub option_message_of : List ℕ → Option (List ℕ) → Option IfaceMsg
+option_message_of name value = if is_empty_text name then None else Some (says.SetOption name value)
 
 abbrev pub setting : List ℕ → Option IfaceMsg
 setting text =
-    setting_of (name_at (position is_equals text) text) (value_at (position is_equals text) text)
+    option_message_of (name_at (position is_equals text) text) (value_at (position is_equals text) text)
 
 abbrev pub egt_path : List ℕ → Option IfaceMsg
 egt_path text =
-    if is_empty (rest text) then None else Some (says.EgtPath (first_token text) (rest text))
+    if is_empty_text (rest_after_token text) then None else Some (says.EgtPath (first_token text) (rest_after_token text))
 
 -- the message of a command without arguments
 abbrev pub bare_message : BareWord → IfaceMsg
@@ -115,7 +115,7 @@ abbrev pub argument : Verb → List ℕ → Option IfaceMsg
 argument verbs.Protover text = protover text
 argument verbs.Ping text = option_map (λ n. says.Ping n) (option_and_then number (only_token text))
 argument verbs.UserMove text =
-    option_map (λ m. says.UserMove m) (option_and_then move_of (only_token text))
+    option_map (λ m. says.UserMove m) (option_and_then move_spelled_by (only_token text))
 argument verbs.SetBoard text = Some (says.SetBoard text)
 argument verbs.Level text = level text
 argument verbs.St text = option_map (λ ms. says.St ms) (option_and_then seconds (only_token text))
@@ -136,25 +136,25 @@ move_or_unknown None = Err UnknownCommand
 -- a line whose first token is no command: white space, or a move alone
 abbrev pub other_line : List ℕ → List ℕ → Result IfaceMsg IfaceFault
 other_line word more =
-    if is_empty word then Ok says.Blank
-    else (if is_empty more then move_or_unknown (move_of word) else Err UnknownCommand)
+    if is_empty_text word then Ok says.Blank
+    else (if is_empty_text more then move_or_unknown (move_spelled_by word) else Err UnknownCommand)
 
 -- what is read of a line by what its first token means
 abbrev pub command_line : Option Command → List ℕ → Result IfaceMsg IfaceFault
 command_line (Some Ignored) line = Ok (says.Ignored (trimmed line))
 command_line (Some (Bare word)) line = Ok (bare_message word)
-command_line (Some (With verb)) line = ok_or (argument verb (rest line)) BadArgument
-command_line None line = other_line (first_token line) (rest line)
+command_line (Some (With verb)) line = ok_or (argument verb (rest_after_token line)) BadArgument
+command_line None line = other_line (first_token line) (rest_after_token line)
 
 -- the message that a line spells, or why it spells none
 abbrev pub message_or_fault : List ℕ → Result IfaceMsg IfaceFault
-message_or_fault line = command_line (command_of (first_token line)) line
+message_or_fault line = command_line (iface_command_of (first_token line)) line
 
 -- THE RELATION, ROW BY ROW
 
 -- the line's first token is the word
-abbrev pub Begins : List ℕ → List ℕ → Type 0
-Begins line word = first_token line ≡ word
+abbrev pub FirstTokenIs : List ℕ → List ℕ → Type 0
+FirstTokenIs line word = first_token line ≡ word
 
 -- the line is the word and one argument of this value
 abbrev pub HasArgument : {A : Type 0} → List ℕ → List ℕ → (List ℕ → Option A) → A → Type 0
@@ -183,58 +183,58 @@ HasSetting text name value =
     × (value ≡ value_at (position is_equals text) text)
 
 -- A line spells a message.
-abbrev pub Spells : List ℕ → IfaceMsg → Type 0
-Spells line says.Blank = tokens line ≡ []
-Spells line (says.Ignored text) = (is_ignored (first_token line) ≡ true) × (text ≡ trimmed line)
-Spells line says.New = Begins line (codes "new")
-Spells line says.Quit = Begins line (codes "quit")
-Spells line says.Force = Begins line (codes "force")
-Spells line says.Go = Begins line (codes "go")
-Spells line says.PlayOther = Begins line (codes "playother")
-Spells line says.MoveNow = Begins line (codes "?")
-Spells line says.Draw = Begins line (codes "draw")
-Spells line says.Hint = Begins line (codes "hint")
-Spells line says.Undo = Begins line (codes "undo")
-Spells line says.Remove = Begins line (codes "remove")
-Spells line says.Hard = Begins line (codes "hard")
-Spells line says.Easy = Begins line (codes "easy")
-Spells line says.Post = Begins line (codes "post")
-Spells line says.NoPost = Begins line (codes "nopost")
-Spells line says.Analyze = Begins line (codes "analyze")
-Spells line says.Exit = Begins line (codes "exit")
-Spells line says.Dot = Begins line (codes ".")
-Spells line says.Result = Begins line (codes "result")
-Spells line (says.Protover n) = HasArgument line (codes "protover") number n × (2 ≤ n)
-Spells line (says.Ping n) = HasArgument line (codes "ping") number n
-Spells line (says.UserMove m) = HasMove line m
-Spells line (says.SetBoard text) = Begins line (codes "setboard") × (text ≡ rest line)
-Spells line (says.Level mps base_ms inc_ms) = HasLevel line mps base_ms inc_ms
-Spells line (says.St ms) = HasArgument line (codes "st") seconds ms
-Spells line (says.Sd n) = HasArgument line (codes "sd") number n
-Spells line (says.Time n) = HasArgument line (codes "time") centis n
-Spells line (says.Otim n) = HasArgument line (codes "otim") centis n
-Spells line (says.SetOption name value) =
-    Begins line (codes "option") × HasSetting (rest line) name value
-Spells line (says.Memory n) = HasArgument line (codes "memory") number n
-Spells line (says.Cores n) = HasArgument line (codes "cores") number n
-Spells line (says.EgtPath kind path) =
-    Begins line (codes "egtpath") × (kind ≡ first_token (rest line)) × (path ≡ rest (rest line))
+abbrev pub SpellsIfaceMsg : List ℕ → IfaceMsg → Type 0
+SpellsIfaceMsg line says.Blank = tokens line ≡ []
+SpellsIfaceMsg line (says.Ignored text) = (is_ignored (first_token line) ≡ true) × (text ≡ trimmed line)
+SpellsIfaceMsg line says.New = FirstTokenIs line (codes "new")
+SpellsIfaceMsg line says.Quit = FirstTokenIs line (codes "quit")
+SpellsIfaceMsg line says.Force = FirstTokenIs line (codes "force")
+SpellsIfaceMsg line says.Go = FirstTokenIs line (codes "go")
+SpellsIfaceMsg line says.PlayOther = FirstTokenIs line (codes "playother")
+SpellsIfaceMsg line says.MoveNow = FirstTokenIs line (codes "?")
+SpellsIfaceMsg line says.Draw = FirstTokenIs line (codes "draw")
+SpellsIfaceMsg line says.Hint = FirstTokenIs line (codes "hint")
+SpellsIfaceMsg line says.Undo = FirstTokenIs line (codes "undo")
+SpellsIfaceMsg line says.Remove = FirstTokenIs line (codes "remove")
+SpellsIfaceMsg line says.Hard = FirstTokenIs line (codes "hard")
+SpellsIfaceMsg line says.Easy = FirstTokenIs line (codes "easy")
+SpellsIfaceMsg line says.Post = FirstTokenIs line (codes "post")
+SpellsIfaceMsg line says.NoPost = FirstTokenIs line (codes "nopost")
+SpellsIfaceMsg line says.Analyze = FirstTokenIs line (codes "analyze")
+SpellsIfaceMsg line says.Exit = FirstTokenIs line (codes "exit")
+SpellsIfaceMsg line says.Dot = FirstTokenIs line (codes ".")
+SpellsIfaceMsg line says.Result = FirstTokenIs line (codes "result")
+SpellsIfaceMsg line (says.Protover n) = HasArgument line (codes "protover") number n × (2 ≤ n)
+SpellsIfaceMsg line (says.Ping n) = HasArgument line (codes "ping") number n
+SpellsIfaceMsg line (says.UserMove m) = HasMove line m
+SpellsIfaceMsg line (says.SetBoard text) = FirstTokenIs line (codes "setboard") × (text ≡ rest_after_token line)
+SpellsIfaceMsg line (says.Level mps base_ms inc_ms) = HasLevel line mps base_ms inc_ms
+SpellsIfaceMsg line (says.St ms) = HasArgument line (codes "st") seconds ms
+SpellsIfaceMsg line (says.Sd n) = HasArgument line (codes "sd") number n
+SpellsIfaceMsg line (says.Time n) = HasArgument line (codes "time") centis n
+SpellsIfaceMsg line (says.Otim n) = HasArgument line (codes "otim") centis n
+SpellsIfaceMsg line (says.SetOption name value) =
+    FirstTokenIs line (codes "option") × HasSetting (rest_after_token line) name value
+SpellsIfaceMsg line (says.Memory n) = HasArgument line (codes "memory") number n
+SpellsIfaceMsg line (says.Cores n) = HasArgument line (codes "cores") number n
+SpellsIfaceMsg line (says.EgtPath kind path) =
+    FirstTokenIs line (codes "egtpath") × (kind ≡ first_token (rest_after_token line)) × (path ≡ rest_after_token (rest_after_token line))
     × (0 < length path)
 
 -- the message is one that some line spells
 abbrev pub CanBeRead : IfaceMsg → Type 0
-CanBeRead msg = (line : List ℕ) × Spells line msg
+CanBeRead msg = (line : List ℕ) × SpellsIfaceMsg line msg
 
 -- The first token is no command word, and the line is not one move text.
 abbrev pub IsUnknown : List ℕ → Type 0
 IsUnknown line =
-    (first_token line ≢ []) × (command_of (first_token line) ≡ None)
+    (first_token line ≢ []) × (iface_command_of (first_token line) ≡ None)
     × ((m : Move) → IsMoveAlone line m → ⊥)
 
 -- every other line that spells nothing
 abbrev pub IsBad : List ℕ → Type 0
-IsBad line = ((m : IfaceMsg) → Spells line m → ⊥) × (IsUnknown line → ⊥)
+IsBad line = ((m : IfaceMsg) → SpellsIfaceMsg line m → ⊥) × (IsUnknown line → ⊥)
 
 -- A line spells at most one message.
-abbrev pub SpellsOneMessage : Type 0
-SpellsOneMessage = (line : List ℕ) (a b : IfaceMsg) → Spells line a → Spells line b → a ≡ b
+abbrev pub SpellsOneIfaceMessage : Type 0
+SpellsOneIfaceMessage = (line : List ℕ) (a b : IfaceMsg) → SpellsIfaceMsg line a → SpellsIfaceMsg line b → a ≡ b

@@ -8,12 +8,12 @@ use Rattle.std.specs.Option.{option_map}
 use mir.Syntax.{w64}
 use Rattle.std.specs.List.{list_all, join_with_byte, AllByRecursion}
 use Rattle.chess_board.specs.declared.board.Move.{Move as AnyMove}
-use Rattle.chess_board.specs.Text.{text_of, IsOfficer}
+use Rattle.chess_board.specs.Text.{text_of_move, IsOfficer}
 use Rattle.peer_words.specs.Tokens.{is_white, trimmed}
 use Rattle.cecp_lines.specs.declared.reply.Reason.{Reason}
 use Rattle.cecp_lines.specs.declared.reply.Reason.TheVariants as reasons
 use Rattle.cecp_lines.specs.declared.reply.UserError.{UserError}
-use Rattle.cecp_lines.specs.declared.reply.UserError.TheVariants as tells
+use Rattle.cecp_lines.specs.declared.reply.UserError.TheVariants as user_errors
 use Rattle.cecp_lines.specs.declared.reply.Outcome.{Outcome}
 use Rattle.cecp_lines.specs.declared.reply.Outcome.TheVariants as outcomes
 use Rattle.cecp_lines.specs.San.{is_san}
@@ -29,7 +29,7 @@ pub data Reply : Type 0 where
   Illegal : (played : AnyMove) → Reply
   IllegalLong : (played : AnyMove) → Reply
   Error : (reason : Reason) (line : List ℕ) → Reply
-  TellError : (tell : UserError) → Reply
+  TellError : (user_error : UserError) → Reply
   Pong : (n : ℕ) → Reply
   OfferDraw : Reply
   Resign : Reply
@@ -45,7 +45,7 @@ reply_of (replies.Move m) = Move m
 reply_of (replies.Illegal m) = Illegal m
 reply_of (replies.IllegalLong m) = IllegalLong m
 reply_of (replies.Error reason line) = Error reason line.now
-reply_of (replies.TellError tell) = TellError tell
+reply_of (replies.TellError user_error) = TellError user_error
 reply_of (replies.Pong n) = Pong n
 reply_of replies.OfferDraw = OfferDraw
 reply_of replies.Resign = Resign
@@ -69,9 +69,9 @@ reason_text reasons.TooManyPings = codes "too many pings"
 reason_text reasons.LineTooLong = codes "line too long"
 
 abbrev pub user_error_text : UserError → List ℕ
-user_error_text tells.Position = codes "tellusererror Illegal position"
-user_error_text tells.Move = codes "tellusererror Illegal move by engine"
-user_error_text tells.Ended = codes "tellusererror Engine ended"
+user_error_text user_errors.Position = codes "tellusererror Illegal position"
+user_error_text user_errors.Move = codes "tellusererror Illegal move by engine"
+user_error_text user_errors.Ended = codes "tellusererror Engine ended"
 
 abbrev pub outcome_text : Outcome → List ℕ
 outcome_text outcomes.WhiteMates = codes "1-0 {White mates}"
@@ -86,30 +86,30 @@ abbrev pub field : List ℕ → List ℕ
 field number = number ++ (blank ∷ [])
 
 -- the hint of a ponder search, in parentheses and before a blank
-abbrev pub hint_text : Option (List ℕ) → List ℕ
-hint_text None = []
-hint_text (Some text) = left_parenthesis ∷ (text ++ (right_parenthesis ∷ blank ∷ []))
+abbrev pub hint_in_parentheses : Option (List ℕ) → List ℕ
+hint_in_parentheses None = []
+hint_in_parentheses (Some text) = left_parenthesis ∷ (text ++ (right_parenthesis ∷ blank ∷ []))
 
 abbrev pub current_text : Option AnyMove → List ℕ
 current_text None = []
-current_text (Some m) = blank ∷ text_of m
+current_text (Some m) = blank ∷ text_of_move m
 
 -- the text of a reply, without its line feed
 abbrev pub reply_text : Reply → List ℕ
 reply_text (Feature name value) = codes "feature " ++ name ++ codes "=" ++ value
-reply_text (Move m) = codes "move " ++ text_of m
-reply_text (Illegal m) = codes "Illegal move: " ++ text_of m
-reply_text (IllegalLong m) = codes "Illegal move (game too long): " ++ text_of m
+reply_text (Move m) = codes "move " ++ text_of_move m
+reply_text (Illegal m) = codes "Illegal move: " ++ text_of_move m
+reply_text (IllegalLong m) = codes "Illegal move (game too long): " ++ text_of_move m
 reply_text (Error reason line) = codes "Error (" ++ reason_text reason ++ codes "): " ++ line
-reply_text (TellError tell) = user_error_text tell
+reply_text (TellError user_error) = user_error_text user_error
 reply_text (Pong n) = codes "pong " ++ decimal n
 reply_text OfferDraw = codes "offer draw"
 reply_text Resign = codes "resign"
-reply_text (Hint m) = codes "Hint: " ++ text_of m
+reply_text (Hint m) = codes "Hint: " ++ text_of_move m
 reply_text (Result outcome) = outcome_text outcome
 reply_text (Thinking depth score time nodes spelling hint pv) =
     field (decimal depth) ++ field (signed_decimal score) ++ field (decimal time)
-    ++ field (decimal nodes) ++ hint_text hint ++ pv
+    ++ field (decimal nodes) ++ hint_in_parentheses hint ++ pv
 reply_text (Stat01 time nodes depth left all current) =
     codes "stat01: " ++ field (decimal time) ++ field (decimal nodes) ++ field (decimal depth)
     ++ field (decimal left) ++ decimal all ++ current_text current
@@ -128,7 +128,7 @@ IsWritable m = IsOfficer m.promotion
 pub record AreSquares (text : List ℕ) : Type 0 where
   pub move : AnyMove
   pub writable : IsWritable move
-  pub is : text ≡ text_of move
+  pub is : text ≡ text_of_move move
 
 -- the text is a move in a spelling
 abbrev pub IsMoveText : Spelling → List ℕ → Type 0
@@ -170,18 +170,18 @@ HasWritableMoves (Stat01 time nodes depth left all current) = IfSome current IsW
 HasWritableMoves _ = Unit {0}
 
 -- the numbers are those of the fields' types
-abbrev pub Fits : Reply → Type 0
-Fits (Pong n) = n < 2 ^ 32
-Fits (Thinking depth score time nodes spelling hint pv) =
+abbrev pub HasFieldRanges : Reply → Type 0
+HasFieldRanges (Pong n) = n < 2 ^ 32
+HasFieldRanges (Thinking depth score time nodes spelling hint pv) =
     (depth < 2 ^ 64) × FitsSigned w64 score × (time < 2 ^ 64) × (nodes < 2 ^ 64)
-Fits (Stat01 time nodes depth left all current) =
+HasFieldRanges (Stat01 time nodes depth left all current) =
     (time < 2 ^ 64) × (nodes < 2 ^ 64) × (depth < 2 ^ 64) × (left < 2 ^ 64) × (all < 2 ^ 64)
-Fits _ = Unit {0}
+HasFieldRanges _ = Unit {0}
 
 -- A line is the text of a reply.
 pub record SpellsReply (line : List ℕ) (t : Reply) : Type 0 where
   pub form : IsReply t
-  pub fits : Fits t
+  pub fits : HasFieldRanges t
   pub text : line ≡ reply_text t
 
 abbrev pub hint_size : Option (List ℕ) → ℕ
@@ -197,4 +197,4 @@ borrowed_length _ = 0
 
 -- No text is longer than its borrowed bytes and 128 more.
 abbrev pub RepliesAreShort : Type 0
-RepliesAreShort = (t : Reply) → Fits t → length (reply_text t) ≤ 128 + borrowed_length t
+RepliesAreShort = (t : Reply) → HasFieldRanges t → length (reply_text t) ≤ 128 + borrowed_length t

@@ -7,7 +7,7 @@ use Rattle.std.specs.List.{list_any}
 abbrev pub is_between : ℕ → ℕ → ℕ → Bool
 is_between low high b = nat_le low b && nat_le b high
 
--- What a byte of a form stands for: f for a file, r for a rank, e for the first or the last rank, i
+-- The meaning of a byte of a form: f for a file, r for a rank, e for the first or the last rank, i
 -- for another one, P for Q, R, B or N, and any other byte for itself.
 abbrev pub fits : ℕ → ℕ → Bool
 fits form b =
@@ -31,7 +31,7 @@ has_form (form ∷ forms) [] = false
 has_form (form ∷ forms) (b ∷ text) = fits form b && has_form forms text
 
 -- castling; a pawn's move, with its file if it captures, and with a promotion exactly
--- on its last rank; the king's move; and another man's, with nothing, the file, the
+-- on its last rank; the king's move; and another piece's, with nothing, the file, the
 -- rank or both to distinguish it
 abbrev pub forms : List (List ℕ)
 forms =

@@ -39,5 +39,5 @@ commands =
     ∷ (codes "option", With verbs.SetOption) ∷ (codes "memory", With verbs.Memory)
     ∷ (codes "cores", With verbs.Cores) ∷ (codes "egtpath", With verbs.EgtPath) ∷ []
 
-abbrev pub command_of : List ℕ → Option Command
-command_of word = lookup (bytes_eq word) commands
+abbrev pub iface_command_of : List ℕ → Option Command
+iface_command_of word = lookup (bytes_eq word) commands

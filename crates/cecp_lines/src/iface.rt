@@ -1,4 +1,4 @@
-// What the interface says.
+// The messages of the interface.
 
 use chess_board::Move;
 

@@ -3,7 +3,7 @@ ghost use Rattle.std.specs.Prelude.{◌≡◌, ◌↔◌, Ok, Err, ◌+◌, ◌*
 ghost use Rattle.std.specs.Option.{option_map, option_and_then};
 ghost use Rattle.cecp_lines.specs.Messages.{IfaceMsg as AnyIfaceMsg, message_of, read_as};
 ghost use Rattle.cecp_lines.specs.declared.iface.IfaceFault.TheVariants.{UnknownCommand, BadArgument};
-ghost use Rattle.cecp_lines.specs.Reading.{message_or_fault, Spells, IsUnknown, IsBad, only_token, bare_message, argument, protover, minutes_seconds, base_time, level, setting, egt_path, other_line, is_colon, is_equals};
+ghost use Rattle.cecp_lines.specs.Reading.{message_or_fault, SpellsIfaceMsg, IsUnknown, IsBad, only_token, bare_message, argument, protover, minutes_seconds, base_time, level, setting, egt_path, other_line, is_colon, is_equals};
 
 use crate::iface::{IfaceFault, IfaceMsg};
 use crate::words::{BareWord, Command, Verb, command_named};
@@ -207,20 +207,10 @@ fn read_message(line: &[u8]) -> Result<IfaceMsg<'_>, IfaceFault>
 pub fn read_iface(line: &[u8]) -> Result<IfaceMsg<'_>, IfaceFault>
     ensures value { read_as result ≡ message_or_fault line.now }
     // A message is read if and only if the line spells it.
-    ensures spelled { (m : AnyIfaceMsg) → (read_as result ≡ Ok m) ↔ Spells line.now m }
-    // Which fault it is.
+    ensures spelled { (m : AnyIfaceMsg) → (read_as result ≡ Ok m) ↔ SpellsIfaceMsg line.now m }
+    // The fault.
     ensures unknown { (result ≡ Err UnknownCommand) ↔ IsUnknown line.now }
     ensures bad { (result ≡ Err BadArgument) ↔ IsBad line.now }
 {
     read_message(line)
-}
-
-ghost use Rattle.cecp_lines.specs.Quit.{is_quit};
-
-/// Whether the line spells `quit`: its first token tells, and the rest is not read.
-#[tactic(auto, using(crate::proofs::Quits::quit_first))]
-pub fn is_quit(line: &[u8]) -> bool
-    ensures { result ≡ is_quit line.now }
-{
-    split_token(line).0 == b"quit".as_slice()
 }

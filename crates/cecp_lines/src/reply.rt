@@ -28,7 +28,7 @@ pub enum UserError {
     Ended,
 }
 
-/// How a game ended.
+/// The outcome of a game.
 #[derive(Clone, Copy, PartialEq, Eq)]
 pub enum Outcome {
     WhiteMates,
@@ -39,7 +39,7 @@ pub enum Outcome {
     Fifty,
 }
 
-/// How the moves of a thinking line are written.
+/// The spelling of the moves of a thinking line.
 #[derive(Clone, Copy, Debug, PartialEq, Eq)]
 pub enum Spelling {
     /// By their squares: `g1f3`, `a7a8q`.

@@ -3,8 +3,8 @@ ghost use Rattle.std.specs.Prelude.{◌≡◌, ◌+◌, ◌≤◌, ◌++◌, cod
 ghost use Rattle.std.specs.Fmt.{signed_decimal};
 ghost use Rattle.std.specs.Option.{option_map};
 ghost use Rattle.line_io.specs.Out.{with};
-ghost use Rattle.chess_board.specs.Text.{text_of};
-ghost use Rattle.cecp_lines.specs.Replies.{Feature, Error, Pong, Stat01, reply_of, reply_text, reason_text, user_error_text, outcome_text, hint_text, current_text, field, HasWritableMoves, IsWritable};
+ghost use Rattle.chess_board.specs.Text.{text_of_move};
+ghost use Rattle.cecp_lines.specs.Replies.{Feature, Error, Pong, Stat01, reply_of, reply_text, reason_text, user_error_text, outcome_text, hint_in_parentheses, current_text, field, HasWritableMoves, IsWritable};
 
 use crate::reply::{Outcome, Reason, Reply, UserError};
 use chess_board::{Move, write_move};
@@ -28,10 +28,10 @@ fn words_of(reason: Reason) -> &'static [u8]
     }
 }
 
-fn user_error_line(tell: UserError) -> &'static [u8]
-    ensures { result.now ≡ user_error_text tell }
+fn user_error_line(user_error: UserError) -> &'static [u8]
+    ensures { result.now ≡ user_error_text user_error }
 {
-    match tell {
+    match user_error {
         UserError::Position => b"tellusererror Illegal position",
         UserError::Move => b"tellusererror Illegal move by engine",
         UserError::Ended => b"tellusererror Engine ended",
@@ -53,17 +53,17 @@ fn result_line(outcome: Outcome) -> &'static [u8]
 
 fn put_move(m: Move, out: &mut Out)
     requires writable { IsWritable m }
-    requires room { length out.old.text + length (text_of m) ≤ out.old.room }
-    ensures { out.new ≡ with out.old (text_of m) }
+    requires room { length out.old.text + length (text_of_move m) ≤ out.old.room }
+    ensures { out.new ≡ with out.old (text_of_move m) }
 {
     out.put(write_move(m).as_slice());
 }
 
 /// Some words and a move.
-fn put_words_and_move(words: &[u8], m: Move, out: &mut Out)
+fn put_text_and_move(words: &[u8], m: Move, out: &mut Out)
     requires writable { IsWritable m }
-    requires room { length out.old.text + length (words.now ++ text_of m) ≤ out.old.room }
-    ensures { out.new ≡ with out.old (words.now ++ text_of m) }
+    requires room { length out.old.text + length (words.now ++ text_of_move m) ≤ out.old.room }
+    ensures { out.new ≡ with out.old (words.now ++ text_of_move m) }
 {
     out.put(words);
     put_move(m, out);
@@ -89,9 +89,9 @@ fn put_score(n: i64, out: &mut Out)
 }
 
 fn put_hint(hint: Option<&[u8]>, out: &mut Out)
-    requires { length out.old.text + length (hint_text (option_map (λ h. h.now) hint))
+    requires { length out.old.text + length (hint_in_parentheses (option_map (λ h. h.now) hint))
         ≤ out.old.room }
-    ensures { out.new ≡ with out.old (hint_text (option_map (λ h. h.now) hint.entry)) }
+    ensures { out.new ≡ with out.old (hint_in_parentheses (option_map (λ h. h.now) hint.entry)) }
 {
     if let Some(text) = hint {
         out.put(b"(");
@@ -142,70 +142,74 @@ fn put_pong(n: u32, out: &mut Out)
 }
 
 /// The four numbers of a thinking line.
-fn put_thought(depth: u64, score: i64, time: u64, nodes: u64, out: &mut Out)
-    requires { length out.old.text + length (field (decimal depth) ++ field (signed_decimal score)
-        ++ field (decimal time) ++ field (decimal nodes)) ≤ out.old.room }
-    ensures { out.new ≡ with out.old (field (decimal depth) ++ field (signed_decimal score)
-        ++ field (decimal time) ++ field (decimal nodes)) }
-{
-    put_field(depth, out);
-    put_score(score, out);
-    put_field(time, out);
-    put_field(nodes, out);
-}
-
-fn put_thinking(
+#[derive(Clone, Copy)]
+struct ThinkingNumbers {
     depth: u64,
     score: i64,
     time: u64,
     nodes: u64,
-    hint: Option<&[u8]>,
-    pv: &[u8],
-    out: &mut Out,
-)
-    requires { length out.old.text + length (field (decimal depth) ++ field (signed_decimal score)
-        ++ field (decimal time) ++ field (decimal nodes)
-        ++ hint_text (option_map (λ h. h.now) hint) ++ pv.now) ≤ out.old.room }
-    ensures { out.new ≡ with out.old (field (decimal depth) ++ field (signed_decimal score)
-        ++ field (decimal time) ++ field (decimal nodes)
-        ++ hint_text (option_map (λ h. h.now) hint.entry) ++ pv.now) }
-{
-    put_thought(depth, score, time, nodes, out);
-    put_hint(hint, out);
-    out.put(pv);
 }
 
-/// The first four numbers of a `stat01` line.
-fn put_progress(time: u64, nodes: u64, depth: u64, left: u64, out: &mut Out)
-    requires { length out.old.text + length (field (decimal time) ++ field (decimal nodes)
-        ++ field (decimal depth) ++ field (decimal left)) ≤ out.old.room }
-    ensures { out.new ≡ with out.old (field (decimal time) ++ field (decimal nodes)
-        ++ field (decimal depth) ++ field (decimal left)) }
-{
-    put_field(time, out);
-    put_field(nodes, out);
-    put_field(depth, out);
-    put_field(left, out);
-}
-
-fn put_stat01(
+/// The five numbers of a `stat01` line.
+#[derive(Clone, Copy)]
+struct Stat01Numbers {
     time: u64,
     nodes: u64,
     depth: u64,
     left: u64,
     all: u64,
-    current: Option<Move>,
-    out: &mut Out,
-)
+}
+
+fn put_thought(n: ThinkingNumbers, out: &mut Out)
+    requires { length out.old.text + length (field (decimal n.depth)
+        ++ field (signed_decimal n.score) ++ field (decimal n.time) ++ field (decimal n.nodes))
+        ≤ out.old.room }
+    ensures { out.new ≡ with out.old (field (decimal n.depth) ++ field (signed_decimal n.score)
+        ++ field (decimal n.time) ++ field (decimal n.nodes)) }
+{
+    put_field(n.depth, out);
+    put_score(n.score, out);
+    put_field(n.time, out);
+    put_field(n.nodes, out);
+}
+
+fn put_thinking(n: ThinkingNumbers, hint: Option<&[u8]>, pv: &[u8], out: &mut Out)
+    requires { length out.old.text + length (field (decimal n.depth)
+        ++ field (signed_decimal n.score) ++ field (decimal n.time) ++ field (decimal n.nodes)
+        ++ hint_in_parentheses (option_map (λ h. h.now) hint) ++ pv.now) ≤ out.old.room }
+    ensures { out.new ≡ with out.old (field (decimal n.depth) ++ field (signed_decimal n.score)
+        ++ field (decimal n.time) ++ field (decimal n.nodes)
+        ++ hint_in_parentheses (option_map (λ h. h.now) hint.entry) ++ pv.now) }
+{
+    put_thought(n, out);
+    put_hint(hint, out);
+    out.put(pv);
+}
+
+/// The first four numbers of a `stat01` line.
+fn put_progress(n: Stat01Numbers, out: &mut Out)
+    requires { length out.old.text + length (field (decimal n.time) ++ field (decimal n.nodes)
+        ++ field (decimal n.depth) ++ field (decimal n.left)) ≤ out.old.room }
+    ensures { out.new ≡ with out.old (field (decimal n.time) ++ field (decimal n.nodes)
+        ++ field (decimal n.depth) ++ field (decimal n.left)) }
+{
+    put_field(n.time, out);
+    put_field(n.nodes, out);
+    put_field(n.depth, out);
+    put_field(n.left, out);
+}
+
+fn put_stat01(n: Stat01Numbers, current: Option<Move>, out: &mut Out)
     requires writable { IfSome current IsWritable }
     requires room { length out.old.text
-        + length (reply_text (Stat01 time nodes depth left all current)) ≤ out.old.room }
-    ensures { out.new ≡ with out.old (reply_text (Stat01 time nodes depth left all current)) }
+        + length (reply_text (Stat01 n.time n.nodes n.depth n.left n.all current)) ≤ out.old.room }
+    ensures { out.new
+        ≡ with out.old (reply_text (Stat01 n.time n.nodes n.depth n.left n.all current)) }
 {
     let mut digits = Buffer::new();
     out.put(b"stat01: ");
-    put_progress(time, nodes, depth, left, out);
-    out.put(digits.format(all).as_bytes());
+    put_progress(n, out);
+    out.put(digits.format(n.all).as_bytes());
     put_current(current, out);
 }
 
@@ -217,15 +221,15 @@ pub fn write_reply(reply: &Reply, out: &mut Out)
 {
     match reply {
         Reply::Feature { name, value } => put_feature(name, value, out),
-        Reply::Move(m) => put_words_and_move(b"move ", *m, out),
-        Reply::Illegal(m) => put_words_and_move(b"Illegal move: ", *m, out),
-        Reply::IllegalLong(m) => put_words_and_move(b"Illegal move (game too long): ", *m, out),
+        Reply::Move(m) => put_text_and_move(b"move ", *m, out),
+        Reply::Illegal(m) => put_text_and_move(b"Illegal move: ", *m, out),
+        Reply::IllegalLong(m) => put_text_and_move(b"Illegal move (game too long): ", *m, out),
         Reply::Error { reason, line } => put_error(*reason, line, out),
-        Reply::TellError(tell) => out.put(user_error_line(*tell)),
+        Reply::TellError(user_error) => out.put(user_error_line(*user_error)),
         Reply::Pong(n) => put_pong(*n, out),
         Reply::OfferDraw => out.put(b"offer draw"),
         Reply::Resign => out.put(b"resign"),
-        Reply::Hint(m) => put_words_and_move(b"Hint: ", *m, out),
+        Reply::Hint(m) => put_text_and_move(b"Hint: ", *m, out),
         Reply::Result(outcome) => out.put(result_line(*outcome)),
         Reply::Thinking {
             depth,
@@ -235,7 +239,15 @@ pub fn write_reply(reply: &Reply, out: &mut Out)
             spelling: _,
             hint,
             pv,
-        } => put_thinking(*depth, *score, *time, *nodes, *hint, pv, out),
+        } => {
+            let numbers = ThinkingNumbers {
+                depth: *depth,
+                score: *score,
+                time: *time,
+                nodes: *nodes,
+            };
+            put_thinking(numbers, *hint, pv, out)
+        }
         Reply::Stat01 {
             time,
             nodes,
@@ -243,6 +255,15 @@ pub fn write_reply(reply: &Reply, out: &mut Out)
             left,
             all,
             current,
-        } => put_stat01(*time, *nodes, *depth, *left, *all, *current, out),
+        } => {
+            let numbers = Stat01Numbers {
+                time: *time,
+                nodes: *nodes,
+                depth: *depth,
+                left: *left,
+                all: *all,
+            };
+            put_stat01(numbers, *current, out)
+        }
     }
 }

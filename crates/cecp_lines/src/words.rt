@@ -1,17 +1,17 @@
 // The command words.
 ghost use Rattle.std.specs.Prelude.{◌≡◌};
-ghost use Rattle.cecp_lines.specs.Words.{command_of};
+ghost use Rattle.cecp_lines.specs.Words.{iface_command_of};
 
 use peer_words::named;
 
-/// What a command word means.
+/// The meaning of a command word.
 #[derive(Clone, Copy)]
 pub(crate) enum Command {
     /// The line asks for nothing.
     Ignored,
     /// The word is the message, whatever follows it.
     Bare(BareWord),
-    /// What follows the word is read.
+    /// The rest behind the word is read.
     With(Verb),
 }
 
@@ -99,9 +99,9 @@ static COMMANDS: [(&[u8], Command); 40] = [
     (b"egtpath", Command::With(Verb::EgtPath)),
 ];
 
-/// What a word means. None if it is no command word.
+/// The meaning of a word. None if it is no command word.
 pub(crate) fn command_named(word: &[u8]) -> Option<Command>
-    ensures { result ≡ command_of word.now }
+    ensures { result ≡ iface_command_of word.now }
 {
     named(&COMMANDS, word)
 }

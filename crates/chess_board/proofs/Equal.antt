@@ -1,4 +1,4 @@
--- What `==` says of sides, kinds, men, moves and positions: exactly that they are the same.
+-- The meaning of `==` on sides, kinds, pieces, moves and positions: exactly that they are the same.
 use Rattle.std.proofs.Common.{◌≡◌, Bool, ◌&&◌, Option, Some, None, refl, sym, ap, eqb, length, ◌∙◌, ℕ}
 use Rattle.std.proofs.Math.Bool.{beq}
 use Rattle.std.specs.Cmp.{booleans_Decides}
@@ -13,22 +13,22 @@ use Rattle.chess_board.specs.declared.board.Move.{Move}
 use Rattle.chess_board.specs.contracts.board.SidePartialEq.TheImpl as sides
 use Rattle.chess_board.specs.contracts.board.KindPartialEq.TheImpl as kinds
 use Rattle.chess_board.specs.declared.board.Rights.{Rights}
-use Rattle.chess_board.specs.Board.{Man, Men}
+use Rattle.chess_board.specs.Board.{Occupant, Pieces}
 use Rattle.chess_board.specs.Position.{Position}
-use Rattle.chess_board.specs.declared.men.Board.TheInside.{Inside}
-use Rattle.chess_board.specs.Sets.{men_of, sets_of}
+use Rattle.chess_board.specs.declared.pieces.Board.TheInside.{Inside}
+use Rattle.chess_board.specs.Sets.{pieces_by_sets, sets_of}
 use Rattle.chess_board.proofs.Sets.{men_of-sets_of}
 use Rattle.chess_board.proofs.Places.{move_same}
 
--- `==` of two sides, kinds, men and moves
+-- `==` of two sides, kinds, pieces and moves
 abbrev pub side_test : Side → Side → Bool
 side_test = (sides.eq-value).it
 
 abbrev pub kind_test : Kind → Kind → Bool
 kind_test = (kinds.eq-value).it
 
-abbrev pub man_test : Man → Man → Bool
-man_test = option_eq (λ x y. side_test x.0 y.0 && kind_test x.1 y.1)
+abbrev pub piece_test : Occupant → Occupant → Bool
+piece_test = option_eq (λ x y. side_test x.0 y.0 && kind_test x.1 y.1)
 
 abbrev pub move_test : Move → Move → Bool
 move_test a b = eqb a.from.index b.from.index && (eqb a.to.index b.to.index && option_eq kind_test a.promotion b.promotion)
@@ -55,8 +55,8 @@ option-Decides test law None (Some y) = (λ e. absurd (cc), λ e. absurd (cc))
 option-Decides test law (Some x) None = (λ e. absurd (cc), λ e. absurd (cc))
 option-Decides {X = X} test law (Some x) (Some y) = (λ e. ap Some ((law x y).0 e), λ e. let same : x ≡ y = cc in (law x y).1 same)
 
-pub men-Decides : (a b : Man) → Decides (man_test a b) (a ≡ b)
-men-Decides = option-Decides (λ x y. side_test x.0 y.0 && kind_test x.1 y.1) pair
+pub pieces-Decides : (a b : Occupant) → Decides (piece_test a b) (a ≡ b)
+pieces-Decides = option-Decides (λ x y. side_test x.0 y.0 && kind_test x.1 y.1) pair
   where
     pair : (x y : Side × Kind) → Decides (side_test x.0 y.0 && kind_test x.1 y.1) (x ≡ y)
     pair (s, j) (t, k) =
@@ -79,7 +79,7 @@ sets_test a b =
     eqb a.white b.white && (eqb a.black b.black && (eqb a.pawns b.pawns && (eqb a.knights b.knights && (eqb a.bishops b.bishops && (eqb a.rooks b.rooks && (eqb a.queens b.queens && eqb a.kings b.kings))))))
 
 abbrev pub position_test : Position → Position → Bool
-position_test p q = eqb p.half q.half && (eqb p.full q.full && (sets_test (sets_of p.men) (sets_of q.men) && (side_test p.side q.side && (rights_test p.rights q.rights && option_eq eqb p.passant q.passant))))
+position_test p q = eqb p.half q.half && (eqb p.full q.full && (sets_test (sets_of p.pieces) (sets_of q.pieces) && (side_test p.side q.side && (rights_test p.rights q.rights && option_eq eqb p.passant q.passant))))
 
 abbrev rights_of : Bool → Bool → Bool → Bool → Rights
 rights_of a b c d = record { wk = a; wq = b; bk = c; bq = d }
@@ -120,24 +120,24 @@ sets-Decides a b =
       ),
     )
 
--- `==` of two boards says that the same men stand on them
-pub boards-Decides : (men others : Men) → length men ≡ 64 → length others ≡ 64 → Decides (sets_test (sets_of men) (sets_of others)) (men ≡ others)
-boards-Decides men others size size' =
-    let law = sets-Decides (sets_of men) (sets_of others) in
-    (λ e. sym (men_of-sets_of men size) ∙ ap men_of (law.0 e) ∙ men_of-sets_of others size', λ e. law.1 (ap sets_of e))
+-- `==` of two boards says that the same pieces stand on them
+pub boards-Decides : (pieces others : Pieces) → length pieces ≡ 64 → length others ≡ 64 → Decides (sets_test (sets_of pieces) (sets_of others)) (pieces ≡ others)
+boards-Decides pieces others size size' =
+    let law = sets-Decides (sets_of pieces) (sets_of others) in
+    (λ e. sym (men_of-sets_of pieces size) ∙ ap pieces_by_sets (law.0 e) ∙ men_of-sets_of others size', λ e. law.1 (ap sets_of e))
 
-abbrev placed : Men → Side → Rights → Option ℕ → ℕ → ℕ → Position
-placed men side rights passant half full = record { men = men; side = side; rights = rights; passant = passant; half = half; full = full }
+abbrev placed : Pieces → Side → Rights → Option ℕ → ℕ → ℕ → Position
+placed pieces side rights passant half full = record { pieces = pieces; side = side; rights = rights; passant = passant; half = half; full = full }
 
-pub positions-Decides : (p q : Position) → length p.men ≡ 64 → length q.men ≡ 64 → Decides (position_test p q) (p ≡ q)
+pub positions-Decides : (p q : Position) → length p.pieces ≡ 64 → length q.pieces ≡ 64 → Decides (position_test p q) (p ≡ q)
 positions-Decides p q size size' =
-    let men = sets_test (sets_of p.men) (sets_of q.men) in
+    let pieces = sets_test (sets_of p.pieces) (sets_of q.pieces) in
     let side = side_test p.side q.side in
     let rights = rights_test p.rights q.rights in
     let passant = option_eq eqb p.passant q.passant in
     let law = Decides-and (eqb p.half q.half) _ (Decides-eqb p.half q.half) (Decides-and (eqb p.full q.full) _ (Decides-eqb p.full q.full)
-    (Decides-and men _ (boards-Decides p.men q.men size size') (Decides-and side _ (sides-Decides p.side q.side) (Decides-and rights passant (rights-Decides p.rights q.rights) (option-Decides eqb Decides-eqb p.passant q.passant))))) in (
+    (Decides-and pieces _ (boards-Decides p.pieces q.pieces size size') (Decides-and side _ (sides-Decides p.side q.side) (Decides-and rights passant (rights-Decides p.rights q.rights) (option-Decides eqb Decides-eqb p.passant q.passant))))) in (
       λ e. let same = law.0 e in let a = same.0 in let b = same.1.0 in let c = same.1.1.0 in let d = same.1.1.1.0 in let f = same.1.1.1.1.0 in let g = same.1.1.1.1.1 in
-          let whole : placed p.men p.side p.rights p.passant p.half p.full ≡ placed q.men q.side q.rights q.passant q.half q.full = cc in whole,
-      λ e. law.1 (ap (λ (x : Position). x.half) e, (ap (λ (x : Position). x.full) e, (ap (λ (x : Position). x.men) e, (ap (λ (x : Position). x.side) e, (ap (λ (x : Position). x.rights) e, ap (λ (x : Position). x.passant) e))))),
+          let whole : placed p.pieces p.side p.rights p.passant p.half p.full ≡ placed q.pieces q.side q.rights q.passant q.half q.full = cc in whole,
+      λ e. law.1 (ap (λ (x : Position). x.half) e, (ap (λ (x : Position). x.full) e, (ap (λ (x : Position). x.pieces) e, (ap (λ (x : Position). x.side) e, (ap (λ (x : Position). x.rights) e, ap (λ (x : Position). x.passant) e))))),
     )

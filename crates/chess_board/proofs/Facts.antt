@@ -1,35 +1,35 @@
--- What follows from being a position: its parts, put together again, are it, and where its passant square lies.
+-- The consequences of being a position: its parts, put together again, are it, and where its en passant square lies.
 use Rattle.std.proofs.Common.{◌≡◌, ◌+◌, ℕ, Bool, true, false, ◌&&◌, ◌||◌, not, refl, ap, subst, sym, Option, Some, None, Ok, arith, leb, eqb, min, max}
 use Rattle.std.specs.Prelude.{IfSome, count_by}
 use Rattle.std.proofs.lemmas.Bool.{eq-eqb, le-leb, eqb-true, and_parts}
 use Rattle.chess_board.specs.declared.board.Side.{Side}
 use Rattle.chess_board.specs.declared.board.Side.TheVariants.{White, Black}
 use Rattle.chess_board.specs.declared.board.Rights.{Rights}
-use Rattle.chess_board.specs.Board.{Men, man_at, other, is_of, is_king, is_rook, is_pawn, is_empty, rank_of, squares}
+use Rattle.chess_board.specs.Board.{Pieces, piece_at, other, is_of_side, is_king, is_rook, is_pawn, is_vacant, rank_of_square, squares}
 use Rattle.chess_board.specs.Attack.{is_pawn_strike, is_ahead}
 use Rattle.chess_board.specs.Position.{Position}
 use Rattle.chess_board.specs.Rules.{is_en_passant, is_legal, is_at, fifth_rank, sixth_rank, beside}
-use Rattle.chess_board.specs.Play.{AreMen, AreRights, IsPosition, Takeable, can_take, fits_board, fits_kings, at_home, rights_at_home, position_if_built, with_legal_passant, settled_at, is_supported, top_count}
+use Rattle.chess_board.specs.Play.{ArePieces, AreRights, IsPosition, Takeable, can_take, fits_board, fits_kings, at_home, rights_at_home, position_if_built, with_legal_en_passant, settled_at, is_supported, top_count}
 use Rattle.chess_board.proofs.Below.{some_below-found}
 
-pub board_fits : (men : Men) → AreMen men → fits_board men ≡ true
+pub board_fits : (pieces : Pieces) → ArePieces pieces → fits_board pieces ≡ true
 unfolding fits_board
-board_fits men are =
+board_fits pieces are =
     let pawns = are.pawns in
-    let white : leb (count_by (is_of White) men) 16 ≡ true = le-leb _ _ are.white_few in
-    let black : leb (count_by (is_of Black) men) 16 ≡ true = le-leb _ _ are.black_few in
+    let white : leb (count_by (is_of_side White) pieces) 16 ≡ true = le-leb _ _ are.white_few in
+    let black : leb (count_by (is_of_side Black) pieces) 16 ≡ true = le-leb _ _ are.black_few in
     rw (pawns, white, black) refl
 
-pub kings_fit : (p : Position) → IsPosition p → fits_kings p.men p.side ≡ true
+pub kings_fit : (p : Position) → IsPosition p → fits_kings p.pieces p.side ≡ true
 unfolding fits_kings
 kings_fit p is =
-    let white : eqb (count_by (is_king White) p.men) 1 ≡ true = eq-eqb _ _ is.men.white_king in
-    let black : eqb (count_by (is_king Black) p.men) 1 ≡ true = eq-eqb _ _ is.men.black_king in
+    let white : eqb (count_by (is_king White) p.pieces) 1 ≡ true = eq-eqb _ _ is.pieces.white_king in
+    let black : eqb (count_by (is_king Black) p.pieces) 1 ≡ true = eq-eqb _ _ is.pieces.black_king in
     let quiet = is.quiet in
     rw (white, black, quiet) refl
 
-home_same : (men : Men) (right : Bool) (side : Side) (king rook : ℕ) → is_supported men right side king rook ≡ true → at_home men right side king rook ≡ right
-home_same men right side king rook h = go right (is_king side (man_at men king) && is_rook side (man_at men rook)) h
+home_same : (pieces : Pieces) (right : Bool) (side : Side) (king rook : ℕ) → is_supported pieces right side king rook ≡ true → at_home pieces right side king rook ≡ right
+home_same pieces right side king rook h = go right (is_king side (piece_at pieces king) && is_rook side (piece_at pieces rook)) h
   where
     go : (a b : Bool) → (not a || b) ≡ true → (a && b) ≡ a
     go true true e = refl
@@ -39,13 +39,13 @@ home_same men right side king rook h = go right (is_king side (man_at men king) 
 abbrev rights_of : Bool → Bool → Bool → Bool → Rights
 rights_of a b c d = record { wk = a; wq = b; bk = c; bq = d }
 
-rights_same : (men : Men) (rights : Rights) → AreRights men rights → rights_at_home men rights ≡ rights
-rights_same men rights are =
-    let a = home_same men rights.wk White 4 7 are.wk in
-    let b = home_same men rights.wq White 4 0 are.wq in
-    let c = home_same men rights.bk Black 60 63 are.bk in
-    let d = home_same men rights.bq Black 60 56 are.bq in
-    let whole : rights_of (at_home men rights.wk White 4 7) (at_home men rights.wq White 4 0) (at_home men rights.bk Black 60 63) (at_home men rights.bq Black 60 56) ≡ rights_of rights.wk rights.wq rights.bk rights.bq = cc in
+rights_same : (pieces : Pieces) (rights : Rights) → AreRights pieces rights → rights_at_home pieces rights ≡ rights
+rights_same pieces rights are =
+    let a = home_same pieces rights.wk White 4 7 are.wk in
+    let b = home_same pieces rights.wq White 4 0 are.wq in
+    let c = home_same pieces rights.bk Black 60 63 are.bk in
+    let d = home_same pieces rights.bq Black 60 56 are.bq in
+    let whole : rights_of (at_home pieces rights.wk White 4 7) (at_home pieces rights.wq White 4 0) (at_home pieces rights.bk Black 60 63) (at_home pieces rights.bq Black 60 56) ≡ rights_of rights.wk rights.wq rights.bk rights.bq = cc in
     whole
 
 settled_same : (p : Position) (o : Option ℕ) → Takeable p o → settled_at p o ≡ p
@@ -58,42 +58,42 @@ counted p rights half full = record p { rights = rights; half = half; full = ful
 -- a position is what its own parts make
 pub built-same : (p : Position) → IsPosition p → position_if_built p ≡ Ok p
 built-same p is =
-    let board = board_fits p.men is.men in
+    let board = board_fits p.pieces is.pieces in
     let kings = kings_fit p is in
-    let rights = rights_same p.men p.rights is.rights in
+    let rights = rights_same p.pieces p.rights is.rights in
     let half : min p.half top_count ≡ p.half = omega (arith, is.half) in
     let full : max 1 (min p.full top_count) ≡ p.full = omega (arith, is.full.0, is.full.1) in
-    let same : counted p (rights_at_home p.men p.rights) (min p.half top_count) (max 1 (min p.full top_count)) ≡ counted p p.rights p.half p.full = cc in
+    let same : counted p (rights_at_home p.pieces p.rights) (min p.half top_count) (max 1 (min p.full top_count)) ≡ counted p p.rights p.half p.full = cc in
     let still : settled_at p p.passant ≡ p = settled_same p p.passant is.passant in
-    let last : with_legal_passant (counted p (rights_at_home p.men p.rights) (min p.half top_count) (max 1 (min p.full top_count))) ≡ p =
-    subst (λ (q : Position). with_legal_passant q ≡ p) (sym same) still in
+    let last : with_legal_en_passant (counted p (rights_at_home p.pieces p.rights) (min p.half top_count) (max 1 (min p.full top_count))) ≡ p =
+    subst (λ (q : Position). with_legal_en_passant q ≡ p) (sym same) still in
     rw (board, kings) (ap Ok last)
 
 ahead_rank : (side : Side) (rank to : ℕ) → rank ≡ fifth_rank side → is_ahead side rank to 1 ≡ true → to ≡ sixth_rank side
 ahead_rank White rank to five e = let q = eqb-true to (rank + 1) e in omega arith
 ahead_rank Black rank to five e = let q = eqb-true rank (to + 1) e in omega arith
 
-passant_rank_of : (p : Position) (from at : ℕ) → is_en_passant p from at ≡ true → rank_of at ≡ sixth_rank p.side
+en_passant_rank_of : (p : Position) (from at : ℕ) → is_en_passant p from at ≡ true → rank_of_square at ≡ sixth_rank p.side
 unfolding is_en_passant
-passant_rank_of p from at e =
-    let strike = is_pawn_strike p.side from at && is_empty (man_at p.men at) in
-    let parts = and_parts (is_at p.passant at && eqb (rank_of from) (fifth_rank p.side)) (strike && is_pawn (other p.side) (man_at p.men (beside from at))) e in
-    let five = eqb-true _ _ (and_parts (is_at p.passant at) (eqb (rank_of from) (fifth_rank p.side)) parts.0).1 in
-    let strikes = (and_parts (is_pawn_strike p.side from at) (is_empty (man_at p.men at)) (and_parts strike (is_pawn (other p.side) (man_at p.men (beside from at))) parts.1).0).0 in
-    ahead_rank p.side (rank_of from) (rank_of at) five (and_parts _ _ strikes).1
+en_passant_rank_of p from at e =
+    let strike = is_pawn_strike p.side from at && is_vacant (piece_at p.pieces at) in
+    let parts = and_parts (is_at p.passant at && eqb (rank_of_square from) (fifth_rank p.side)) (strike && is_pawn (other p.side) (piece_at p.pieces (beside from at))) e in
+    let five = eqb-true _ _ (and_parts (is_at p.passant at) (eqb (rank_of_square from) (fifth_rank p.side)) parts.0).1 in
+    let strikes = (and_parts (is_pawn_strike p.side from at) (is_vacant (piece_at p.pieces at)) (and_parts strike (is_pawn (other p.side) (piece_at p.pieces (beside from at))) parts.1).0).0 in
+    ahead_rank p.side (rank_of_square from) (rank_of_square at) five (and_parts _ _ strikes).1
 
-take_rank : (p : Position) (at : ℕ) → can_take p at ≡ true → rank_of at ≡ sixth_rank p.side
+take_rank : (p : Position) (at : ℕ) → can_take p at ≡ true → rank_of_square at ≡ sixth_rank p.side
 unfolding can_take
 take_rank p at e =
-    let found = some_below-found squares (λ from. is_pawn p.side (man_at p.men from) && (is_en_passant p from at && is_legal p from at None)) e in
+    let found = some_below-found squares (λ from. is_pawn p.side (piece_at p.pieces from) && (is_en_passant p from at && is_legal p from at None)) e in
     let from = found.0 in
-    let rest = and_parts (is_pawn p.side (man_at p.men from)) (is_en_passant p from at && is_legal p from at None) found.2 in
-    passant_rank_of p from at (and_parts (is_en_passant p from at) (is_legal p from at None) rest.1).0
+    let rest = and_parts (is_pawn p.side (piece_at p.pieces from)) (is_en_passant p from at && is_legal p from at None) found.2 in
+    en_passant_rank_of p from at (and_parts (is_en_passant p from at) (is_legal p from at None) rest.1).0
 
--- the passant square lies on the sixth rank of the side on move
-pub passant_rank : (p : Position) → IsPosition p → IfSome p.passant (λ at. rank_of at ≡ sixth_rank p.side)
-passant_rank p is = go p.passant is.passant
+-- the en passant square lies on the sixth rank of the side on move
+pub en_passant_rank : (p : Position) → IsPosition p → IfSome p.passant (λ at. rank_of_square at ≡ sixth_rank p.side)
+en_passant_rank p is = go p.passant is.passant
   where
-    go : (o : Option ℕ) → Takeable p o → IfSome o (λ at. rank_of at ≡ sixth_rank p.side)
+    go : (o : Option ℕ) → Takeable p o → IfSome o (λ at. rank_of_square at ≡ sixth_rank p.side)
     go None t = tt
     go (Some at) t = take_rank p at t.1

@@ -6,9 +6,9 @@ use Rattle.chess_board.specs.declared.board.Square.{Square}
 use Rattle.chess_board.specs.declared.board.Kind.{Kind}
 use Rattle.chess_board.specs.declared.board.Kind.TheVariants.{Knight, Bishop, Rook, Queen}
 use Rattle.chess_board.specs.declared.board.Move.{Move}
-use Rattle.chess_board.specs.Text.{Spells, SquareSpells, promotion_of, IsOfficer}
+use Rattle.chess_board.specs.Text.{SpellsMove, SquareSpells, promotion_of, IsOfficer}
 use Rattle.chess_board.proofs.Places.{square_same}
-use Rattle.chess_board.specs.Spelling.{square_if, square_named, move_from, move_with_promotion, move_of}
+use Rattle.chess_board.specs.Spelling.{square_if, square_named, move_from, move_with_promotion, move_spelled_by}
 
 if_there : (n : ℕ) (s : Square) (b : Bool) (e : ltb n 64 ≡ b) → n ≡ s.index → square_if n b e ≡ Some s
 if_there n s true e h = ap Some (square_same _ s h)
@@ -79,8 +79,8 @@ promoted_from : (a b : Option Square) (p : Option Kind) → IsSome p → move_wi
 promoted_from a b None h = absurd (cc)
 promoted_from a b (Some k) h = refl
 
-pub move_spells : (text : List ℕ) (m : Move) → move_of text ≡ Some m → Spells text m
-unfolding move_of
+pub move_spells : (text : List ℕ) (m : Move) → move_spelled_by text ≡ Some m → SpellsMove text m
+unfolding move_spelled_by
 move_spells [] m h = absurd (cc)
 move_spells (f ∷ []) m h = absurd (cc)
 move_spells (f ∷ r ∷ []) m h = absurd (cc)
@@ -93,8 +93,8 @@ move_spells (f ∷ r ∷ g ∷ s ∷ letter ∷ []) m h =
     (named_spells f r m.from parts.0, named_spells g s m.to parts.1, sym parts.2, parts.3)
 move_spells (f ∷ r ∷ g ∷ s ∷ letter ∷ more ∷ others) m h = absurd (cc)
 
-pub spells_move : (text : List ℕ) (m : Move) → Spells text m → move_of text ≡ Some m
-unfolding move_of
+pub spells_move : (text : List ℕ) (m : Move) → SpellsMove text m → move_spelled_by text ≡ Some m
+unfolding move_spelled_by
 spells_move [] m h = absurd h
 spells_move (f ∷ []) m h = absurd h
 spells_move (f ∷ r ∷ []) m h = absurd h
@@ -105,14 +105,14 @@ spells_move (f ∷ r ∷ g ∷ s ∷ letter ∷ []) m h =
     ∙ to_parts (square_named f r) (square_named g s) (promotion_of letter) m (named_there f r m.from h.0) (named_there g s m.to h.1) (sym h.2)
 spells_move (f ∷ r ∷ g ∷ s ∷ letter ∷ more ∷ others) m h = absurd h
 
-no_move : (text : List ℕ) (o : Option Move) → move_of text ≡ o → ((m : Move) → Spells text m → ⊥) → None ≡ o
+no_move : (text : List ℕ) (o : Option Move) → move_spelled_by text ≡ o → ((m : Move) → SpellsMove text m → ⊥) → None ≡ o
 no_move text None e h = refl
 no_move text (Some m) e h = absurd (h m (move_spells text m e))
 
 -- a call that answers the move that a text spells answers the function's
-pub read_is : (text : List ℕ) (o : Option Move) → IfSome o (Spells text) → IfNone o ((m : Move) → Spells text m → ⊥) → o ≡ move_of text
+pub read_is : (text : List ℕ) (o : Option Move) → IfSome o (SpellsMove text) → IfNone o ((m : Move) → SpellsMove text m → ⊥) → o ≡ move_spelled_by text
 read_is text (Some m) h none = sym (spells_move text m h)
-read_is text None h none = no_move text (move_of text) refl none
+read_is text None h none = no_move text (move_spelled_by text) refl none
 
 -- a text names no pawn and no king
 chosen : (a b c d : Bool) → IsOfficer (cond a (Some Queen) (cond b (Some Rook) (cond c (Some Bishop) (cond d (Some Knight) None))))
@@ -125,7 +125,7 @@ chosen false false false false = tt
 officer : (letter : ℕ) → IsOfficer (promotion_of letter)
 officer letter = chosen _ _ _ _
 
-pub spelled_officer : (text : List ℕ) (m : Move) → Spells text m → IsOfficer m.promotion
+pub spelled_officer : (text : List ℕ) (m : Move) → SpellsMove text m → IsOfficer m.promotion
 spelled_officer [] m h = absurd h
 spelled_officer (f ∷ []) m h = absurd h
 spelled_officer (f ∷ r ∷ []) m h = absurd h
@@ -134,9 +134,9 @@ spelled_officer (f ∷ r ∷ g ∷ s ∷ []) m h = subst IsOfficer (sym h.2) tt
 spelled_officer (f ∷ r ∷ g ∷ s ∷ letter ∷ []) m h = subst IsOfficer (sym h.2) (officer letter)
 spelled_officer (f ∷ r ∷ g ∷ s ∷ letter ∷ more ∷ others) m h = absurd h
 
-pub read_officer : (text : List ℕ) (m : Move) → move_of text ≡ Some m → IsOfficer m.promotion
+pub read_officer : (text : List ℕ) (m : Move) → move_spelled_by text ≡ Some m → IsOfficer m.promotion
 read_officer text m h = spelled_officer text m (move_spells text m h)
 
-pub some_officer : (text : List ℕ) (o : Option Move) → IfSome o (Spells text) → IfSome o (λ m. IsOfficer m.promotion)
+pub some_officer : (text : List ℕ) (o : Option Move) → IfSome o (SpellsMove text) → IfSome o (λ m. IsOfficer m.promotion)
 some_officer text None h = tt
 some_officer text (Some m) h = spelled_officer text m h

@@ -1,4 +1,4 @@
--- The tables of squares that a man could go to: each row is the set of the squares that pass the test.
+-- The tables of squares that a piece could go to: each row is the set of the squares that pass the test.
 use Rattle.std.proofs.Common.{◌≡◌, ◌<◌, ◌+◌, ◌*◌, ◌/◌, ◌%◌, ℕ, suc, Bool, true, false, not, cond, List, refl, sym, subst, arith, get_or}
 use Rattle.chess_board.specs.declared.board.Kind.TheVariants.{Pawn, Knight, Bishop, Rook, Queen, King}
 use Rattle.chess_board.specs.declared.board.Side.TheVariants.{White, Black}

@@ -5,8 +5,8 @@ use Rattle.std.specs.List.{list_all}
 use Rattle.chess_board.specs.declared.board.Move.{Move}
 use Rattle.chess_board.specs.declared.board.Kind.{Kind}
 use Rattle.chess_board.specs.declared.board.Kind.TheVariants.{Pawn, Knight, Bishop, Rook, Queen, King}
-use Rattle.chess_board.specs.Board.{file_of, rank_of}
-use Rattle.chess_board.specs.Text.{text_of, promotion_text}
+use Rattle.chess_board.specs.Board.{file_of, rank_of_square}
+use Rattle.chess_board.specs.Text.{text_of_move, promotion_text}
 
 high : (c : ℕ) → 49 ≤ c → leb 49 c ≡ true
 high c h = grind (arith, nat_tests)
@@ -20,10 +20,10 @@ promotion_high (Some Rook) = refl
 promotion_high (Some Bishop) = refl
 promotion_high (Some Knight) = refl
 
-pub text_high : (m : Move) → list_all (λ b. leb 49 b) (text_of m) ≡ true
+pub text_high : (m : Move) → list_all (λ b. leb 49 b) (text_of_move m) ≡ true
 text_high m =
     let a = high (97 + file_of m.from.index) (omega arith) in
-    let b = high (49 + rank_of m.from.index) (omega arith) in
+    let b = high (49 + rank_of_square m.from.index) (omega arith) in
     let c = high (97 + file_of m.to.index) (omega arith) in
-    let d = high (49 + rank_of m.to.index) (omega arith) in
+    let d = high (49 + rank_of_square m.to.index) (omega arith) in
     rw (a, b, c, d, promotion_high m.promotion) refl

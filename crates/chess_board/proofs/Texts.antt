@@ -4,9 +4,9 @@ use Rattle.chess_board.specs.declared.board.Kind.{Kind}
 use Rattle.chess_board.specs.declared.board.Kind.TheVariants.{Pawn, Knight, Bishop, Rook, Queen, King}
 use Rattle.chess_board.specs.declared.board.Move.{Move}
 use Rattle.chess_board.specs.declared.board.Side.{Side}
-use Rattle.chess_board.specs.Board.{file_of, rank_of}
+use Rattle.chess_board.specs.Board.{file_of, rank_of_square}
 use Rattle.chess_board.specs.Laws.{IsPromotion, Promotes}
-use Rattle.chess_board.specs.Text.{Spells, SquareSpells, SpellsOneMove, ReadsBack, LegalIsWritten, IsOfficer, promotion_text}
+use Rattle.chess_board.specs.Text.{SpellsMove, SquareSpells, SpellsOneMove, MoveTextReadsBack, LegalIsWritten, IsOfficer, promotion_text}
 use Rattle.chess_board.proofs.Places.{move_same}
 
 one_square : (f r a b : ℕ) → a < 64 → b < 64 → SquareSpells f r a → SquareSpells f r b → a ≡ b
@@ -24,7 +24,7 @@ spells-one (f ∷ r ∷ g ∷ s ∷ letter ∷ []) a b h k =
 spells-one (f ∷ r ∷ g ∷ s ∷ letter ∷ more ∷ rest) a b h k = absurd h
 
 reads_back_of : (m : Move) (promotion : Option Kind) → m.promotion ≡ promotion → IsOfficer promotion →
-    Spells ((97 + file_of m.from.index) ∷ (49 + rank_of m.from.index) ∷ (97 + file_of m.to.index) ∷ (49 + rank_of m.to.index) ∷ promotion_text promotion) m
+    SpellsMove ((97 + file_of m.from.index) ∷ (49 + rank_of_square m.from.index) ∷ (97 + file_of m.to.index) ∷ (49 + rank_of_square m.to.index) ∷ promotion_text promotion) m
 reads_back_of m None e h = ((refl, refl), (refl, refl), e)
 reads_back_of m (Some Queen) e h = ((refl, refl), (refl, refl), e, refl)
 reads_back_of m (Some Rook) e h = ((refl, refl), (refl, refl), e, refl)
@@ -33,7 +33,7 @@ reads_back_of m (Some Knight) e h = ((refl, refl), (refl, refl), e, refl)
 reads_back_of m (Some Pawn) e h = absurd h
 reads_back_of m (Some King) e h = absurd h
 
-pub reads-back : ReadsBack
+pub reads-back : MoveTextReadsBack
 reads-back m h = reads_back_of m m.promotion refl h
 
 -- a text names no pawn and no king, and a legal move promotes to none

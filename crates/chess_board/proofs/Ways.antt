@@ -1,9 +1,9 @@
--- Whether there is a legal move, by tests of all pairs of squares.
+-- The existence of a legal move, by tests of all pairs of squares.
 use Rattle.std.proofs.Common.{◌≡◌, ◌<◌, ℕ, Bool, true, false, Option, sym, subst, ◌∙◌}
 use Rattle.std.specs.Bool.{Decides}
 use Rattle.chess_board.specs.declared.board.Kind.{Kind}
 use Rattle.chess_board.specs.declared.board.Square.{Square}
-use Rattle.chess_board.specs.Board.{is_of, man_at, squares}
+use Rattle.chess_board.specs.Board.{is_of_side, piece_at, squares}
 use Rattle.chess_board.specs.Position.{Position}
 use Rattle.chess_board.specs.Rules.{is_legal, reaches_to}
 use Rattle.chess_board.specs.Play.{HasLegal}
@@ -12,12 +12,12 @@ use Rattle.chess_board.proofs.Below.{some_below-hit, some_below-none, some_below
 use Rattle.chess_board.proofs.Legal.{legal-law}
 use Rattle.chess_board.proofs.Places.{never_from, never_to, proper, promotion-promotion_place}
 
--- from a square with no man of the side there is none
-pub no_way_from : (p : Position) (from : ℕ) → is_of p.side (man_at p.men from) ≡ false → has_way_from p from ≡ false
+-- from a square with no piece of the side there is none
+pub no_way_from : (p : Position) (from : ℕ) → is_of_side p.side (piece_at p.pieces from) ≡ false → has_way_from p from ≡ false
 unfolding has_way_from has_way
 no_way_from p from e = some_below-none squares _ (λ to _. some_below-none 5 _ (λ choice _. never_from p from to (nth_promotion choice) e))
 
--- nor to a square that the man does not reach
+-- nor to a square that the piece does not reach
 pub no_way : (p : Position) (from to : ℕ) → reaches_to p from to ≡ false → has_way p from to ≡ false
 unfolding has_way
 no_way p from to e = some_below-none 5 _ (λ choice _. never_to p from to (nth_promotion choice) e)

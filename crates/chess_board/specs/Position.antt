@@ -4,11 +4,11 @@ use Rattle.chess_board.specs.declared.board.Side.{Side}
 use Rattle.chess_board.specs.declared.board.Kind.{Kind}
 use Rattle.chess_board.specs.declared.board.Rights.{Rights}
 
--- What stands on each square, by its number, and what the board does not show: the side on
+-- The occupant of each square, by its number, and what the board does not show: the side on
 -- move, the castling rights, the square of a possible capture en passant, and the counts of
 -- half-moves and full moves.
 pub record Position : Type 0 where
-  pub men : List (Option (Side × Kind))
+  pub pieces : List (Option (Side × Kind))
   pub side : Side
   pub rights : Rights
   pub passant : Option ℕ

@@ -1,4 +1,4 @@
--- Where a man could go on an empty board, and sets of squares by the bits of a number.
+-- Where a piece could go on an empty board, and sets of squares by the bits of a number.
 use Rattle.std.specs.Prelude.{ℕ, ◌≡◌, ◌<◌, Bool, true, false, ◌&&◌, ◌||◌, ◌==◌}
 use Rattle.std.specs.Prelude.{Option, Some, None, max, nat_lt, nat_le, ◌≢◌, slice_set}
 use Rattle.std.specs.Int.{bit_at}
@@ -6,12 +6,12 @@ use Rattle.chess_board.specs.declared.board.Side.{Side}
 use Rattle.chess_board.specs.declared.board.Kind.{Kind}
 use Rattle.chess_board.specs.declared.board.Kind.TheVariants.{Pawn, Knight, Bishop}
 use Rattle.chess_board.specs.declared.board.Kind.TheVariants.{Rook, Queen, King}
-use Rattle.chess_board.specs.Board.{Man, Men, man_at, same_side, gap, files_apart, rank_of}
+use Rattle.chess_board.specs.Board.{Occupant, Pieces, piece_at, same_side, gap, files_apart, rank_of_square}
 use Rattle.chess_board.specs.Attack.{is_ahead, attacks, is_checked}
 use Rattle.chess_board.specs.Position.{Position}
-use Rattle.chess_board.specs.Rules.{reaches_to, may_land, goes, promotes, men_after}
+use Rattle.chess_board.specs.Rules.{reaches_to, may_land, may_go_to, promotes, pieces_after}
 
--- what a man's move looks like on an empty board: by how many files, from which rank to which
+-- what a piece's move looks like on an empty board: by how many files, from which rank to which
 abbrev pub shape : Side → Kind → ℕ → ℕ → ℕ → Bool
 shape side Pawn files from to =
     nat_le files 1 && (is_ahead side from to 1 || ((files == 0) && is_ahead side from to 2))
@@ -25,9 +25,9 @@ shape side Queen files from to =
     nat_lt 0 (max files (gap from to))
     && ((files == gap from to) || ((files == 0) || (gap from to == 0)))
 
--- whether a man could go from a square to another on an empty board, or castle so
+-- whether a piece could go from a square to another on an empty board, or castle so
 abbrev pub form : Side → Kind → ℕ → ℕ → Bool
-form side piece from to = shape side piece (files_apart from to) (rank_of from) (rank_of to)
+form side piece from to = shape side piece (files_apart from to) (rank_of_square from) (rank_of_square to)
 
 -- whether a square is in a set: the bit of its number
 abbrev pub has : ℕ → ℕ → Bool
@@ -37,48 +37,48 @@ has set s = bit_at set s == 1
 abbrev pub IsSetOf : (ℕ → Bool) → ℕ → Type 0
 IsSetOf test set = (s : ℕ) → s < 64 → has set s ≡ test s
 
--- whether the man on a square could go to another on an empty board, and may land there
-abbrev pub could_go : Position → Man → ℕ → ℕ → Bool
+-- whether the piece on a square could go to another on an empty board, and may land there
+abbrev pub could_go : Position → Occupant → ℕ → ℕ → Bool
 could_go p None from to = false
-could_go p (Some man) from to = may_land p.side (man_at p.men to) && form p.side man.1 from to
+could_go p (Some occupant) from to = may_land p.side (piece_at p.pieces to) && form p.side occupant.1 from to
 
--- the squares to which the man on a square could go
+-- the squares to which the piece on a square could go
 abbrev pub AreWays : Position → ℕ → ℕ → Type 0
-AreWays p from set = IsSetOf (could_go p (man_at p.men from) from) set
+AreWays p from set = IsSetOf (could_go p (piece_at p.pieces from) from) set
 
--- whether the man on a square is of the side on move and goes to another, whatever it lands on
-abbrev pub goes_as : Position → Man → ℕ → ℕ → Bool
+-- whether the piece on a square is of the side on move and goes to another, whatever it lands on
+abbrev pub goes_as : Position → Occupant → ℕ → ℕ → Bool
 goes_as p None from to = false
-goes_as p (Some man) from to = same_side man.0 p.side && goes p man.1 from to
+goes_as p (Some occupant) from to = same_side occupant.0 p.side && may_go_to p occupant.1 from to
 
--- whether a man of the kind goes any way along a line
+-- whether a piece of the kind goes any way along a line
 abbrev pub is_slider : Kind → Bool
 is_slider Bishop = true
 is_slider Rook = true
 is_slider Queen = true
 is_slider _ = false
 
--- from a square no man goes to a square outside the set
+-- from a square no piece goes to a square outside the set
 abbrev pub Bounds : Position → ℕ → ℕ → Type 0
 Bounds p from set = (to : ℕ) → to < 64 → has set to ≡ false → reaches_to p from to ≡ false
 
--- no man of the side that stands outside the set attacks the square, wherever the other men stand
-abbrev pub Nears : Men → Side → ℕ → ℕ → Type 0
-Nears men side at set =
-    (others : Men) (s : ℕ) → s < 64 → has set s ≡ false → man_at others s ≡ man_at men s
+-- no piece of the side that stands outside the set attacks the square, wherever the other pieces stand
+abbrev pub Nears : Pieces → Side → ℕ → ℕ → Type 0
+Nears pieces side at set =
+    (others : Pieces) (s : ℕ) → s < 64 → has set s ≡ false → piece_at others s ≡ piece_at pieces s
     → attacks others side s at ≡ false
 
--- no man that stands outside the set shields a square from an attack: with him away, what attacks
+-- no piece that stands outside the set shields a square from an attack: with it away, what attacks
 -- it from another square did before
-abbrev pub Shields : Men → Side → ℕ → ℕ → ℕ → Type 0
-Shields men side from at set =
+abbrev pub Shields : Pieces → Side → ℕ → ℕ → ℕ → Type 0
+Shields pieces side from at set =
     (s : ℕ) → s < 64 → from ≢ s → has set s ≡ false
-    → attacks (slice_set men s None) side from at ≡ true → attacks men side from at ≡ true
+    → attacks (slice_set pieces s None) side from at ≡ true → attacks pieces side from at ≡ true
 
--- a man that leaves a square outside the set leaves its king unattacked
+-- a piece that leaves a square outside the set leaves its king unattacked
 abbrev pub Frees : Position → ℕ → Type 0
 Frees p set =
     (piece : Kind) (from to : ℕ) (promotion : Option Kind) → from < 64 → to < 64
-    → has set from ≡ false → man_at p.men from ≡ Some (p.side, piece)
+    → has set from ≡ false → piece_at p.pieces from ≡ Some (p.side, piece)
     → promotes p.side piece to promotion ≡ true
-    → is_checked (men_after p piece from to promotion) p.side ≡ false
+    → is_checked (pieces_after p piece from to promotion) p.side ≡ false

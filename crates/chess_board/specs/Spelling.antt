@@ -32,8 +32,8 @@ move_with_promotion from to None = None
 move_with_promotion from to (Some piece) = move_from from to (Some piece)
 
 -- the move that a text spells
-unfoldable pub move_of : List ℕ → Option Move
-move_of (f ∷ r ∷ g ∷ s ∷ []) = move_from (square_named f r) (square_named g s) None
-move_of (f ∷ r ∷ g ∷ s ∷ letter ∷ []) =
+unfoldable pub move_spelled_by : List ℕ → Option Move
+move_spelled_by (f ∷ r ∷ g ∷ s ∷ []) = move_from (square_named f r) (square_named g s) None
+move_spelled_by (f ∷ r ∷ g ∷ s ∷ letter ∷ []) =
     move_with_promotion (square_named f r) (square_named g s) (promotion_of letter)
-move_of _ = None
+move_spelled_by _ = None

@@ -3,7 +3,7 @@ ghost use Rattle.std.specs.Prelude.{◌≡◌, ◌↔◌, ◌≤◌, IsTrue, len
 ghost use Rattle.chess_board.specs.Laws.{AttacksLaw, LegalLaw};
 ghost use Rattle.chess_board.specs.Lawful.{BuildLaw};
 ghost use Rattle.chess_board.specs.Played.{PlayLaw};
-ghost use Rattle.chess_board.specs.Text.{text_of, LegalIsWritten, ReadsBack, SpellsOneMove};
+ghost use Rattle.chess_board.specs.Text.{text_of_move, LegalIsWritten, MoveTextReadsBack, SpellsOneMove};
 
 use crate::board::Move;
 use crate::position::Position;
@@ -34,25 +34,25 @@ pub fn legality_is_lawful()
     ensures { LegalLaw }
 {}
 
-/// What `Position::build` answers is what the Laws say.
+/// The answer of `Position::build` is what the Laws say.
 pub fn building_is_lawful()
     ensures { BuildLaw }
 {}
 
-/// What `Position::play` leaves is what the Laws say.
+/// The position that `Position::play` leaves is what the Laws say.
 pub fn playing_is_lawful()
     ensures { PlayLaw }
 {}
 
 /// The text of a move has four or five bytes.
 pub fn move_texts_are_short(m: Move)
-    ensures least { 4 ≤ length (text_of m) }
-    ensures most { length (text_of m) ≤ 5 }
+    ensures least { 4 ≤ length (text_of_move m) }
+    ensures most { length (text_of_move m) ≤ 5 }
 {}
 
 /// A text spells at most one move, the text of a move spells it, and every legal move has a text.
 pub fn move_texts_are_exact()
     ensures one { SpellsOneMove }
-    ensures back { ReadsBack }
+    ensures back { MoveTextReadsBack }
     ensures written { LegalIsWritten }
 {}

@@ -1,4 +1,4 @@
-//! Where men could go on an empty board, as sets of squares: bit s of a number stands for the square s.
+//! Where pieces could go on an empty board, as sets of squares: bit s of a number stands for the square s.
 ghost use Rattle.std.specs.Prelude.{◌≡◌, ◌<◌, ◌≤◌, ◌&&◌, ℕ, false, not, slice_index_or};
 ghost use Rattle.chess_board.specs.Reach.{form, has, IsSetOf};
 
@@ -6,7 +6,7 @@ use crate::board::{Kind, Side, Square};
 use crate::slides::{DIAGONALS, LINES, STRAIGHTS};
 use crate::steps::{BLACK_PAWN_WAYS, JUMPS, KING_WAYS, WHITE_PAWN_WAYS};
 
-/// Whether a square is in a set.
+/// True if a square is in a set.
 pub(crate) fn is_in(set: u64, at: Square) -> bool
     ensures { result ≡ has set at.index }
 {
@@ -27,7 +27,7 @@ fn row(table: &[u64; 64], from: Square) -> u64
     table[from.index as usize]
 }
 
-/// The squares that a man could go to on an empty board, or castle to.
+/// The squares that a piece could go to on an empty board, or castle to.
 pub(crate) fn ways_of(side: Side, kind: Kind, from: Square) -> u64
     ensures { IsSetOf (form side kind from.index) result }
 {

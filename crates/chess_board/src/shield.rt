@@ -1,17 +1,17 @@
-//! Which men shield a square from attacks along lines.
+//! The pieces that shield a square from attacks along lines.
 ghost use Rattle.std.specs.Prelude.{◌≡◌, ◌<◌, ℕ, None, false, slice_set, true};
 ghost use Rattle.chess_board.specs.declared.board.Side.{Side as AnySide};
-ghost use Rattle.chess_board.specs.Attack.{is_clear, IsLine};
+ghost use Rattle.chess_board.specs.Attack.{is_clear, ShareALine};
 ghost use Rattle.chess_board.specs.Reach.{has, Shields};
 
 use crate::attack::{distance_of, is_on_line, near_of, step_on};
 use crate::board::{Side, Square};
-use crate::men::{Board, placed};
+use crate::pieces::{Board, placed};
 use crate::reach::next_in;
 
-/// The first man on the way from a square to another, as a set: with any other man away the way is no clearer.
+/// The first piece on the way from a square to another, as a set: with any other piece away the way is no clearer.
 fn shield_between(board: &Board, from: Square, to: Square) -> u64
-    requires { IsLine from.index to.index }
+    requires { ShareALine from.index to.index }
     ensures { (s : ℕ) → has result s ≡ false → s < 64
         → is_clear (slice_set board.now s None) from.index to.index ≡ true
         → is_clear board.now from.index to.index ≡ true }
@@ -25,7 +25,7 @@ fn shield_between(board: &Board, from: Square, to: Square) -> u64
     0
 }
 
-/// The man that may shield a square from an attack from another, as a set.
+/// The piece that may shield a square from an attack from another, as a set.
 fn shield_from(board: &Board, from: Square, to: Square) -> u64
     ensures { (side : AnySide) → Shields board.now side from.index to.index result }
 {
@@ -36,8 +36,8 @@ fn shield_from(board: &Board, from: Square, to: Square) -> u64
     }
 }
 
-/// Squares such that no man on any other shields a square from an attack of a side: the first man on the way of each
-/// man that could attack it on an empty board.
+/// Squares such that no piece on any other shields a square from an attack of a side: the first piece on the way of each
+/// piece that could attack it on an empty board.
 pub(crate) fn shields_of(board: &Board, side: Side, at: Square) -> u64
     ensures { (from : ℕ) → from < 64 → Shields board.now side from at.index result }
 {

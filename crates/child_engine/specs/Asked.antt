@@ -1,4 +1,4 @@
--- What was asked of a host.
+-- The requests to a host.
 use Rattle.std.specs.Prelude.{◌≡◌, ℕ, zero, suc, List, [], ◌∷◌, ◌++◌, Option}
 use Rattle.std.specs.Prelude.{Some, None, option_map, Result, IfErr, OnOk}
 use Rattle.child_engine.specs.declared.host.HostFault.{HostFault}
@@ -23,9 +23,9 @@ abbrev pub with_many : {T : Type 0} → ℕ → T → Option (List T) → Option
 with_many zero one kept = kept
 with_many (suc n) one kept = option_map (λ all. all ++ one ∷ []) (with_many n one kept)
 
--- so many engines more were asked for, with these words
+-- so many engines more were asked for, with these arguments
 abbrev pub and_engines : ℕ → List (List ℕ) → Asked → Asked
-and_engines n words asked = record asked { engines = with_many n words asked.engines }
+and_engines n arguments asked = record asked { engines = with_many n arguments asked.engines }
 
 -- so many logs more were asked for, of this name
 abbrev pub and_logs : ℕ → List ℕ → Asked → Asked

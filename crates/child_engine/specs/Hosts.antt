@@ -1,38 +1,38 @@
--- What a host counts, and what it reports of the parts that were closed.
+-- The counts of a host, and its reports on the parts that were closed.
 use Rattle.std.specs.Prelude.{◌≡◌, ℕ, ◌+◌, ◌<◌, ◌≤◌, Bool, if◌then◌else◌, List, [], ◌∷◌}
 use Rattle.std.specs.Prelude.{◌++◌, Option, Some, None, option_map, Result, IfErr, OnOk}
-use Rattle.line_io.specs.Causes.{Rose, HasCause}
+use Rattle.line_io.specs.Causes.{Rose, ErrorIsCounted}
 use Rattle.line_io.specs.Source.{Supplied, Received}
 use Rattle.child_engine.specs.declared.host.Faults.{Faults}
 use Rattle.child_engine.specs.declared.host.HostFault.{HostFault}
 use Rattle.child_engine.specs.declared.host.HostFault.TheVariants as faults
 
 -- what a closed run showed: what its source gave and had left, and what its sink took
-pub record Told : Type 0 where
+pub record ShownRun : Type 0 where
   pub given : Option (List ℕ)
   pub left : Option (List ℕ)
   pub taken : Option (List ℕ)
 
-abbrev pub told_by : Supplied → Received → Told
-told_by source sink = record { given = source.given; left = source.left; taken = sink.taken }
+abbrev pub shown_run : Supplied → Received → ShownRun
+shown_run source sink = record { given = source.given; left = source.left; taken = sink.taken }
 
--- What a host tells of its parts, how many runs and logs were handed out, and what those showed
+-- The reports of a host on its parts, how many runs and logs were handed out, and what those showed
 -- that were closed, in the order of closing.
-pub record Books : Type 0 where
-  -- what each engine says, if the sources tell what they give and have left
+pub record Ledger : Type 0 where
+  -- what each engine says, if the sources report what they give and have left
   pub says : Option (List ℕ)
-  -- whether the engines' inputs and the logs tell what they take
-  pub tells : Bool
+  -- whether the engines' inputs and the logs report what they take
+  pub sinks_report : Bool
   pub runs_out : ℕ
   pub logs_out : ℕ
-  pub runs : List Told
+  pub runs : List ShownRun
   pub logs : List (Option (List ℕ))
 
--- the books of a host that tells this much, and handed out nothing
-abbrev pub unused_books : Option (List ℕ) → Bool → Books
-unused_books says tells = record {
+-- the ledger of a host that reports this much, and handed out nothing
+abbrev pub unused_ledger : Option (List ℕ) → Bool → Ledger
+unused_ledger says sinks_report = record {
   says = says;
-  tells = tells;
+  sinks_report = sinks_report;
   runs_out = 0;
   logs_out = 0;
   runs = [];
@@ -40,26 +40,26 @@ unused_books says tells = record {
 }
 
 -- nothing was handed out
-abbrev pub IsUnused : Books → Type 0
-IsUnused books = books ≡ unused_books books.says books.tells
+abbrev pub HostIsUnused : Ledger → Type 0
+HostIsUnused ledger = ledger ≡ unused_ledger ledger.says ledger.sinks_report
 
--- the books after a run or a log was handed out
-abbrev pub with_run : Books → Books
-with_run books = record books { runs_out = books.runs_out + 1 }
+-- the ledger after a run or a log was handed out
+abbrev pub with_run : Ledger → Ledger
+with_run ledger = record ledger { runs_out = ledger.runs_out + 1 }
 
-abbrev pub with_log : Books → Books
-with_log books = record books { logs_out = books.logs_out + 1 }
+abbrev pub with_log : Ledger → Ledger
+with_log ledger = record ledger { logs_out = ledger.logs_out + 1 }
 
 -- one run was handed out, and nothing else
-abbrev pub IsStarted : Books → Type 0
-IsStarted books = books ≡ with_run (unused_books books.says books.tells)
+abbrev pub IsStarted : Ledger → Type 0
+IsStarted ledger = ledger ≡ with_run (unused_ledger ledger.says ledger.sinks_report)
 
--- the books after one was closed
-abbrev pub with_closed_run : Books → Supplied → Received → Books
-with_closed_run books source sink = record books { runs = books.runs ++ told_by source sink ∷ [] }
+-- the ledger after one was closed
+abbrev pub with_closed_run : Ledger → Supplied → Received → Ledger
+with_closed_run ledger source sink = record ledger { runs = ledger.runs ++ shown_run source sink ∷ [] }
 
-abbrev pub with_closed_log : Books → Received → Books
-with_closed_log books log = record books { logs = books.logs ++ log.taken ∷ [] }
+abbrev pub with_closed_log : Ledger → Received → Ledger
+with_closed_log ledger log = record ledger { logs = ledger.logs ++ log.taken ∷ [] }
 
 -- what a source shows that is handed out: it gave nothing, has left all that the
 -- engine says, and never failed
@@ -68,15 +68,15 @@ fresh_source says = record { given = option_map (λ _. []) says; left = says; fa
 
 -- what a sink or a log shows that is handed out: it took nothing, and never failed
 abbrev pub fresh_sink : Bool → Received
-fresh_sink tells = record { taken = if tells then Some [] else None; faults = 0 }
+fresh_sink sinks_report = record { taken = if sinks_report then Some [] else None; faults = 0 }
 
--- it was shown by a sink that let go
-abbrev pub WasLetGo : {K : Type 0} → (K → Received) → (K → Type 0) → Received → Type 0
-WasLetGo {K} state is_let_go shown = (sink : K) × (state sink ≡ shown) × is_let_go sink
+-- it was shown by a sink that was closed
+abbrev pub WasSinkClosed : {K : Type 0} → (K → Received) → (K → Type 0) → Received → Type 0
+WasSinkClosed {K} state is_sink_closed shown = (sink : K) × (state sink ≡ shown) × is_sink_closed sink
 
--- it did not let go
+-- it was not closed
 abbrev pub HoldsOn : {K : Type 0} → (K → Type 0) → K → Type 0
-HoldsOn is_let_go sink = is_let_go sink → ⊥
+HoldsOn is_sink_closed sink = is_sink_closed sink → ⊥
 
 -- The count does not fall, rose if the call failed, and is as before if it succeeded or if
 -- there was no memory.
@@ -103,7 +103,7 @@ pub record OpensBy {T : Type 0} (before now : Faults) (result : Result T HostFau
 -- the run's source and sink had these counts
 pub record ClosesBy {T E : Type 0} (before now : Faults) (source sink : ℕ)
     (result : Result T E) : Type 0 where
-  pub waits : HasCause before.waits now.waits result
+  pub waits : ErrorIsCounted before.waits now.waits result
   pub reads : RisesBy source before.reads now.reads
   pub writes : RisesBy sink before.writes now.writes
   pub starts : now.starts ≡ before.starts

@@ -7,12 +7,12 @@ use Rattle.child_engine.specs.declared.input.EngineInput.{EngineInput}
 use Rattle.line_io.specs.Lines.{line_feed}
 
 -- it reports nothing of what was taken, since nobody keeps that after `quit`
-abbrev pub shown_by : {W : Type 0} → EngineInput W → Received
-shown_by input = closing.shown_by input.sink
+abbrev pub shown_by_input : {W : Type 0} → EngineInput W → Received
+shown_by_input input = closing.shown_by_closing input.sink
 
--- the writer is held: it was not let go, and took no line `quit`
-abbrev pub is_open : {W : Type 0} → EngineInput W → Bool
-is_open input = closing.is_open input.sink
+-- the writer is held: it was not closed, and took no line `quit`
+abbrev pub is_input_open : {W : Type 0} → EngineInput W → Bool
+is_input_open input = closing.is_writer_held input.sink
 
 abbrev pub quit_line : List ℕ
 quit_line = codes "quit" ++ line_feed ∷ []

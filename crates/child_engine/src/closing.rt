@@ -1,36 +1,36 @@
-// Sinks that let go of what they write to.
+// Sinks that close what they write to.
 ghost use Rattle.std.specs.Prelude.{◌≡◌, ◌<◌, ◌≤◌, ⊤, length, None, IfOk, IsErr, true, false};
 ghost use Rattle.std.specs.Io.KnownBytes.{WriteAppends};
-ghost use Rattle.line_io.specs.Causes.{HasCause};
-ghost use Rattle.child_engine.specs.Closing.{HandsOn, shown_by, is_open};
+ghost use Rattle.line_io.specs.Causes.{ErrorIsCounted};
+ghost use Rattle.child_engine.specs.Closing.{HandsOn, shown_by_closing, is_writer_held};
 
 use line_io::{Failed, MemSink, NullSink, Sink};
 use std::io::Write;
 
-/// A sink that can let go of what it writes to, so that an engine that reads there meets the end of
+/// A sink that can close what it writes to, so that an engine that reads there meets the end of
 /// its input. What the sink shows stays as it is. Nothing is to be written to it from then on.
-pub trait LetGo: Sink {
-    /// It let go. This holds of a sink that has nothing to let go of.
-    ghost is_let_go: { Self → Type 0 };
+pub trait ClosableSink: Sink {
+    /// It is closed. This holds of a sink that has nothing to close.
+    ghost is_sink_closed: { Self → Type 0 };
 
-    fn let_go(&mut self)
+    fn close_sink(&mut self)
         ensures shown { Self.state self.new ≡ Self.state self.old }
-        ensures gone { is_let_go self.new };
+        ensures gone { is_sink_closed self.new };
 }
 
-impl LetGo for MemSink {
-    ghost is_let_go = { λ _. ⊤ };
+impl ClosableSink for MemSink {
+    ghost is_sink_closed = { λ _. ⊤ };
 
-    fn let_go(&mut self) {}
+    fn close_sink(&mut self) {}
 }
 
-impl LetGo for NullSink {
-    ghost is_let_go = { λ _. ⊤ };
+impl ClosableSink for NullSink {
+    ghost is_sink_closed = { λ _. ⊤ };
 
-    fn let_go(&mut self) {}
+    fn close_sink(&mut self) {}
 }
 
-/// A sink over a writer that is let go when it is told so, and not before.
+/// A sink over a writer that is closed when it is told so, and not before.
 #[derive(Drop)]
 pub struct Closing<W> {
     writer: Option<W>,
@@ -40,8 +40,8 @@ pub struct Closing<W> {
 impl<W> Closing<W> {
     /// Over a writer, with no fault counted.
     pub fn new(writer: W) -> Closing<W>
-        ensures shown { shown_by result ≡ record { taken = None; faults = 0 } }
-        ensures open { is_open result ≡ true }
+        ensures shown { shown_by_closing result ≡ record { taken = None; faults = 0 } }
+        ensures open { is_writer_held result ≡ true }
     {
         Closing {
             writer: Some(writer),
@@ -49,10 +49,10 @@ impl<W> Closing<W> {
         }
     }
 
-    /// Over no writer: it is let go already, and each write fails.
+    /// Over no writer: it is closed already, and each write fails.
     pub fn shut() -> Closing<W>
-        ensures shown { shown_by result ≡ record { taken = None; faults = 0 } }
-        ensures shut { is_open result ≡ false }
+        ensures shown { shown_by_closing result ≡ record { taken = None; faults = 0 } }
+        ensures shut { is_writer_held result ≡ false }
     {
         Closing {
             writer: None,
@@ -60,17 +60,17 @@ impl<W> Closing<W> {
         }
     }
 
-    /// How many writes failed, took nothing, or came when the writer was gone. The count stays at the
+    /// The count of writes that failed, took nothing, or came when the writer was gone. It stays at the
     /// last value of its type.
     pub fn faults(&self) -> u64
-        ensures { result ≡ (shown_by self.now).faults }
+        ensures { result ≡ (shown_by_closing self.now).faults }
     {
         self.faults
     }
 
-    /// Whether the writer was not let go yet.
+    /// True if the writer was not closed yet.
     pub fn is_open(&self) -> bool
-        ensures { result ≡ is_open self.now }
+        ensures { result ≡ is_writer_held self.now }
     {
         self.writer.is_some()
     }
@@ -83,8 +83,8 @@ impl<W: Write + Drop> Closing<W> {
         ensures bound { IfOk result (λ n. (0 < n) × (n ≤ length piece.now)) }
         ensures handed { HandsOn W.contents self.old.writer self.new.writer result piece.now }
         ensures faults { self.new.faults ≡ self.old.faults }
-        ensures open { is_open self.new ≡ is_open self.old }
-        ensures shut { is_open self.old ≡ false → IsErr result }
+        ensures open { is_writer_held self.new ≡ is_writer_held self.old }
+        ensures shut { is_writer_held self.old ≡ false → IsErr result }
     {
         let Some(writer) = &mut self.writer else {
             return Err(Failed);
@@ -97,16 +97,17 @@ impl<W: Write + Drop> Closing<W> {
 }
 
 impl<W: Write + Drop> Sink for Closing<W> {
-    ghost state = { λ s. shown_by s };
+    ghost state = { λ s. shown_by_closing s };
 
     fn write(&mut self, piece: &[u8]) -> Result<usize, Failed>
         requires { 0 < length piece.now }
         ensures bound { IfOk result (λ n. (0 < n) × (n ≤ length piece.now)) }
         ensures takes { WriteAppends None None result piece.now }
         ensures handed { HandsOn W.contents self.old.writer self.new.writer result piece.now }
-        ensures cause { HasCause (shown_by self.old).faults (shown_by self.new).faults result }
-        ensures open { is_open self.new ≡ is_open self.old }
-        ensures shut { is_open self.old ≡ false → IsErr result }
+        ensures cause { ErrorIsCounted (shown_by_closing self.old).faults (shown_by_closing
+            self.new).faults result }
+        ensures open { is_writer_held self.new ≡ is_writer_held self.old }
+        ensures shut { is_writer_held self.old ≡ false → IsErr result }
     {
         match self.hand_over(piece) {
             Ok(count) => Ok(count),
@@ -118,12 +119,12 @@ impl<W: Write + Drop> Sink for Closing<W> {
     }
 }
 
-impl<W: Write + Drop> LetGo for Closing<W> {
-    ghost is_let_go = { λ s. is_open s ≡ false };
+impl<W: Write + Drop> ClosableSink for Closing<W> {
+    ghost is_sink_closed = { λ s. is_writer_held s ≡ false };
 
-    fn let_go(&mut self)
-        ensures shown { shown_by self.new ≡ shown_by self.old }
-        ensures shut { is_open self.new ≡ false }
+    fn close_sink(&mut self)
+        ensures shown { shown_by_closing self.new ≡ shown_by_closing self.old }
+        ensures shut { is_writer_held self.new ≡ false }
     {
         self.writer = None;
     }

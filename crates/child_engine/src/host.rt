@@ -1,7 +1,7 @@
 // Where engines and logs come from.
 ghost use Rattle.std.specs.Prelude.{◌≡◌, ◌<◌, ◌≤◌, length, map, string_bytes, IfOk, OnOk, OnErr};
 ghost use Rattle.child_engine.specs.Asked.{Asked, Asks, not_kept, and_engines, and_logs};
-ghost use Rattle.child_engine.specs.Hosts.{Books, with_run, with_log, with_closed_run, with_closed_log, fresh_source, fresh_sink, StartsBy, OpensBy, ClosesBy, ClosesLogBy, RisesBy};
+ghost use Rattle.child_engine.specs.Hosts.{Ledger, with_run, with_log, with_closed_run, with_closed_log, fresh_source, fresh_sink, StartsBy, OpensBy, ClosesBy, ClosesLogBy, RisesBy};
 
 use line_io::{Failed, NoMemory, Sink, Source};
 use std::alloc::Global;
@@ -24,7 +24,7 @@ impl From<NoMemory> for HostFault {
     }
 }
 
-/// How often each kind of call failed, or a part that was closed had failed. Each count stays at
+/// The number of times that each kind of call failed, or a part that was closed had failed. Each count stays at
 /// the last value of its type.
 #[derive(Clone, Copy, Default)]
 pub struct Faults {
@@ -65,54 +65,54 @@ pub trait Host {
 
     type EngineProcess;
 
-    /// How often each kind of call failed.
+    /// The failures of each kind of call.
     ghost faults: { Self → Faults };
 
-    /// What the parts tell, what was handed out, and what was shown by that which was closed.
-    ghost books: { Self → Books };
+    /// The reports of the parts, what was handed out, and what was shown by that which was closed.
+    ghost ledger: { Self → Ledger };
 
     /// The words of each engine that was to be started and the name of each log that was to be
     /// opened, whether that succeeded or failed, if the host keeps them.
     ghost asked: { Self → Asked } = { λ _. not_kept };
 
-    /// Starts the engine that the words name, the first being its program.
+    /// Starts the engine that the arguments name, the first being its program.
     fn start(
         &mut self,
         alloc: Global,
-        words: &[String],
+        arguments: &[String],
     ) -> Result<Started<Self::EngineSource, Self::EngineSink, Self::EngineProcess>, HostFault>
-        requires words { 0 < length words.now }
-        requires few { (books self.old).runs_out < 10 }
-        ensures out { OnOk result (books self.new ≡ with_run (books self.old)) }
+        requires arguments { 0 < length arguments.now }
+        requires few { (ledger self.old).runs_out < 10 }
+        ensures out { OnOk result (ledger self.new ≡ with_run (ledger self.old)) }
         ensures source { IfOk result (λ run.
-            Self.EngineSource.state run.source ≡ fresh_source (books self.old).says) }
+            Self.EngineSource.state run.source ≡ fresh_source (ledger self.old).says) }
         ensures sink { IfOk result (λ run.
-            Self.EngineSink.state run.sink ≡ fresh_sink (books self.old).tells) }
-        ensures err { OnErr result (books self.new ≡ books self.old) }
+            Self.EngineSink.state run.sink ≡ fresh_sink (ledger self.old).sinks_report) }
+        ensures err { OnErr result (ledger self.new ≡ ledger self.old) }
         ensures asked { Asks (asked self.old)
-            (and_engines 1 (map string_bytes words.now) (asked self.old)) (asked self.new)
+            (and_engines 1 (map string_bytes arguments.now) (asked self.old)) (asked self.new)
             result }
         ensures cause { StartsBy (faults self.old) (faults self.new) result };
 
     /// Makes the log of this name anew.
     fn open_log(&mut self, alloc: Global, name: &str) -> Result<Self::Log, HostFault>
-        requires few { (books self.old).logs_out < 10 }
-        ensures out { OnOk result (books self.new ≡ with_log (books self.old)) }
+        requires few { (ledger self.old).logs_out < 10 }
+        ensures out { OnOk result (ledger self.new ≡ with_log (ledger self.old)) }
         ensures log { IfOk result (λ log.
-            Self.Log.state log ≡ fresh_sink (books self.old).tells) }
-        ensures err { OnErr result (books self.new ≡ books self.old) }
+            Self.Log.state log ≡ fresh_sink (ledger self.old).sinks_report) }
+        ensures err { OnErr result (ledger self.new ≡ ledger self.old) }
         ensures asked { Asks (asked self.old)
             (and_logs 1 name.now (asked self.old)) (asked self.new) result }
         ensures cause { OpensBy (faults self.old) (faults self.new) result };
 
-    /// Lets go of the engine's pipes, and waits for the engine's end.
+    /// Closes the engine's pipes, and waits for the engine's end.
     fn close(
         &mut self,
         run: Started<Self::EngineSource, Self::EngineSink, Self::EngineProcess>,
     ) -> Result<(), Failed>
-        requires { length (books self.old).runs < (books self.old).runs_out }
-        ensures books { books self.new
-            ≡ with_closed_run (books self.old) (Self.EngineSource.state run.source)
+        requires { length (ledger self.old).runs < (ledger self.old).runs_out }
+        ensures ledger { ledger self.new
+            ≡ with_closed_run (ledger self.old) (Self.EngineSource.state run.source)
             (Self.EngineSink.state run.sink) }
         ensures asked { asked self.new ≡ asked self.old }
         ensures cause { ClosesBy (faults self.old) (faults self.new)
@@ -121,8 +121,8 @@ pub trait Host {
 
     /// Takes a log back.
     fn close_log(&mut self, log: Self::Log)
-        requires { length (books self.old).logs < (books self.old).logs_out }
-        ensures books { books self.new ≡ with_closed_log (books self.old) (Self.Log.state log) }
+        requires { length (ledger self.old).logs < (ledger self.old).logs_out }
+        ensures ledger { ledger self.new ≡ with_closed_log (ledger self.old) (Self.Log.state log) }
         ensures asked { asked self.new ≡ asked self.old }
         ensures cause { ClosesLogBy (faults self.old) (faults self.new)
             (Self.Log.state log).faults };

@@ -10,7 +10,7 @@ mod process;
 mod real;
 mod steady;
 
-pub use closing::{Closing, LetGo};
+pub use closing::{ClosableSink, Closing};
 pub use host::{Faults, Host, HostFault, Started};
 pub use input::EngineInput;
 pub use memory::{Fails, MemHost};

@@ -32,13 +32,13 @@ fn copy_of(alloc: Global, text: &str) -> Result<String, NoMemory>
     Ok(String::from_str(alloc, text)?)
 }
 
-// Copies of words.
-fn copies_of(alloc: Global, words: &[String]) -> Result<Vec<String>, NoMemory>
-    ensures { IfOk result (λ v. map string_bytes v.items ≡ map string_bytes words.now) }
+// Copies of arguments.
+fn copies_of(alloc: Global, arguments: &[String]) -> Result<Vec<String>, NoMemory>
+    ensures { IfOk result (λ v. map string_bytes v.items ≡ map string_bytes arguments.now) }
 {
     let mut copies: Vec<String> = Vec::new(alloc);
-    for word in words {
-        let copy = copy_of(alloc, word.as_str())?;
+    for argument in arguments {
+        let copy = copy_of(alloc, argument.as_str())?;
         if copies.push(copy).is_err() {
             return Err(NoMemory);
         }
@@ -74,9 +74,9 @@ pub struct MemHost {
 
 impl MemHost {
     ghost use Rattle.std.specs.Prelude.{true};
-    ghost use Rattle.child_engine.specs.Hosts.{unused_books};
+    ghost use Rattle.child_engine.specs.Hosts.{unused_ledger};
     ghost use Rattle.child_engine.specs.Asked.{none_asked};
-    ghost use Rattle.child_engine.specs.Memory.{asked_of, books_of, means_of};
+    ghost use Rattle.child_engine.specs.Memory.{asked_of, memory_ledger, means_of};
     ghost use Rattle.child_engine.specs.Steady.{no_faults};
 
     /// A host that has handed out nothing. Each engine says these bytes, as many at a read as the
@@ -89,8 +89,8 @@ impl MemHost {
         fails: &Fails,
     ) -> Result<MemHost, NoMemory>
         requires { 0 < piece }
-        ensures books { IfOk result (λ h. books_of h
-            ≡ unused_books (Some engine.now) true) }
+        ensures ledger { IfOk result (λ h. memory_ledger h
+            ≡ unused_ledger (Some engine.now) true) }
         ensures asked { IfOk result (λ h. asked_of h ≡ none_asked) }
         ensures faults { IfOk result (λ h. h.faults ≡ no_faults) }
         ensures means { IfOk result (λ h. means_of h ≡ record {
@@ -125,18 +125,19 @@ impl MemHost {
         })
     }
 
-    /// What the sink of the k-th closed run took, counted from 0.
+    /// The bytes of the k-th closed run's sink, counted from 0.
     pub fn wrote(&self, k: usize) -> &[u8]
-        requires { k < length (books_of self.now).runs }
-        ensures { IfSome (slice_get (books_of self.now).runs k) (λ t. t.taken ≡ Some result.now) }
+        requires { k < length (memory_ledger self.now).runs }
+        ensures { IfSome (slice_get (memory_ledger self.now).runs k) (λ t. t.taken ≡ Some
+            result.now) }
     {
         self.runs[k].sink.taken()
     }
 
-    /// What the k-th closed log took, counted from 0.
+    /// The bytes of the k-th closed log, counted from 0.
     pub fn logged(&self, k: usize) -> &[u8]
-        requires { k < length (books_of self.now).logs }
-        ensures { slice_get (books_of self.now).logs k ≡ Some (Some result.now) }
+        requires { k < length (memory_ledger self.now).logs }
+        ensures { slice_get (memory_ledger self.now).logs k ≡ Some (Some result.now) }
     {
         self.closed_logs[k].taken()
     }
@@ -144,7 +145,7 @@ impl MemHost {
     /// The words of each engine that was to be started, in their order.
     pub fn engines(&self) -> &[Vec<String>]
         ensures { (asked_of self.now).engines
-            ≡ Some (map (λ words. map string_bytes (vec_items words)) result.now) }
+            ≡ Some (map (λ arguments. map string_bytes (vec_items arguments)) result.now) }
     {
         self.engines.as_slice()
     }
@@ -162,7 +163,7 @@ impl Host for MemHost {
     ghost use Rattle.line_io.specs.Memory.{supply_of, store_of, unread_supply, unwritten_store};
     ghost use Rattle.child_engine.specs.Hosts.{ClosesBy, OpensBy, StartsBy, with_closed_run, with_log, with_run};
     ghost use Rattle.child_engine.specs.Asked.{Asks, and_engines, and_logs};
-    ghost use Rattle.child_engine.specs.Memory.{asked_of, books_of, means_of, shown_by_source, shown_by_sink};
+    ghost use Rattle.child_engine.specs.Memory.{asked_of, memory_ledger, means_of, shown_by_memory_source, shown_by_sink};
 
     type EngineSource = MemSource;
 
@@ -174,25 +175,25 @@ impl Host for MemHost {
 
     ghost faults = { λ h. h.faults };
 
-    ghost books = { λ h. books_of h };
+    ghost ledger = { λ h. memory_ledger h };
 
     ghost asked = { λ h. asked_of h };
 
     fn start(
         &mut self,
         alloc: Global,
-        words: &[String],
+        arguments: &[String],
     ) -> Result<Started<MemSource, MemSink, ()>, HostFault>
-        requires words { 0 < length words.now }
-        requires few { (books_of self.old).runs_out < 10 }
-        ensures out { OnOk result (books_of self.new ≡ with_run (books_of self.old)) }
+        requires arguments { 0 < length arguments.now }
+        requires few { (memory_ledger self.old).runs_out < 10 }
+        ensures out { OnOk result (memory_ledger self.new ≡ with_run (memory_ledger self.old)) }
         ensures source { IfOk result (λ run. supply_of run.source ≡ unread_supply
             (means_of self.old).engine (means_of self.old).piece (means_of self.old).reads) }
         ensures sink { IfOk result (λ run. store_of run.sink
             ≡ unwritten_store (means_of self.old).room (means_of self.old).writes) }
-        ensures err { OnErr result (books_of self.new ≡ books_of self.old) }
+        ensures err { OnErr result (memory_ledger self.new ≡ memory_ledger self.old) }
         ensures asked { Asks (asked_of self.old)
-            (and_engines 1 (map string_bytes words.now) (asked_of self.old)) (asked_of self.new)
+            (and_engines 1 (map string_bytes arguments.now) (asked_of self.old)) (asked_of self.new)
             result }
         ensures cause { StartsBy self.old.faults self.new.faults result }
         ensures fails { (means_of self.old).fails_start ≡ true → IsErr result }
@@ -205,8 +206,8 @@ impl Host for MemHost {
             self.failing_reads.as_slice(),
         )?;
         let sink = MemSink::make(alloc, self.room, self.failing_writes.as_slice())?;
-        let words = copies_of(alloc, words)?;
-        if self.engines.push(words).is_err() {
+        let arguments = copies_of(alloc, arguments)?;
+        if self.engines.push(arguments).is_err() {
             return Err(HostFault::NoMemory);
         }
         if self.fails_start {
@@ -222,11 +223,11 @@ impl Host for MemHost {
     }
 
     fn open_log(&mut self, alloc: Global, name: &str) -> Result<MemSink, HostFault>
-        requires few { (books_of self.old).logs_out < 10 }
-        ensures out { OnOk result (books_of self.new ≡ with_log (books_of self.old)) }
+        requires few { (memory_ledger self.old).logs_out < 10 }
+        ensures out { OnOk result (memory_ledger self.new ≡ with_log (memory_ledger self.old)) }
         ensures log { IfOk result (λ log. store_of log
             ≡ unwritten_store (means_of self.old).room (means_of self.old).logs) }
-        ensures err { OnErr result (books_of self.new ≡ books_of self.old) }
+        ensures err { OnErr result (memory_ledger self.new ≡ memory_ledger self.old) }
         ensures asked { Asks (asked_of self.old)
             (and_logs 1 name.now (asked_of self.old)) (asked_of self.new) result }
         ensures cause { OpensBy self.old.faults self.new.faults result }
@@ -247,13 +248,13 @@ impl Host for MemHost {
     }
 
     fn close(&mut self, run: Started<MemSource, MemSink, ()>) -> Result<(), Failed>
-        requires { length (books_of self.old).runs < (books_of self.old).runs_out }
-        ensures books { books_of self.new
-            ≡ with_closed_run (books_of self.old)
-            (shown_by_source run.source) (shown_by_sink run.sink) }
+        requires { length (memory_ledger self.old).runs < (memory_ledger self.old).runs_out }
+        ensures ledger { memory_ledger self.new
+            ≡ with_closed_run (memory_ledger self.old)
+            (shown_by_memory_source run.source) (shown_by_sink run.sink) }
         ensures asked { asked_of self.new ≡ asked_of self.old }
         ensures cause { ClosesBy self.old.faults self.new.faults
-            (shown_by_source run.source).faults (shown_by_sink run.sink).faults result }
+            (shown_by_memory_source run.source).faults (shown_by_sink run.sink).faults result }
         ensures fails { (means_of self.old).fails_wait ≡ true → IsErr result }
         ensures means { means_of self.new ≡ means_of self.old }
     {

@@ -1,25 +1,25 @@
 // A sink over the pipe into an engine.
 ghost use Rattle.std.specs.Prelude.{◌≡◌};
 ghost use Rattle.child_engine.specs.Hosts.{HoldsOn};
-ghost use Rattle.child_engine.specs.Real.{untold_sink};
+ghost use Rattle.child_engine.specs.Real.{real_mute_sink};
 
-use crate::{Closing, EngineInput, LetGo};
+use crate::{ClosableSink, Closing, EngineInput};
 use std::io::Write;
 
-/// A sink over the pipe `P` into an engine: its type says when the pipe is let go, so that the engine
+/// A sink over the pipe `P` into an engine: its type says when the pipe is closed, so that the engine
 /// meets the end of its input. It reports no bytes.
-pub trait PipeSink<P>: LetGo {
+pub trait PipeSink<P>: ClosableSink {
     /// Over a pipe that it holds, with no fault counted.
     fn over(pipe: P) -> Self
-        ensures shown { Self.state result ≡ untold_sink 0 }
-        ensures held { HoldsOn Self.is_let_go result };
+        ensures shown { Self.state result ≡ real_mute_sink 0 }
+        ensures held { HoldsOn Self.is_sink_closed result };
 
-    /// How many writes failed.
+    /// The count of failed writes.
     fn faults(&self) -> u64
-        ensures { Self.state self.now ≡ untold_sink result };
+        ensures { Self.state self.now ≡ real_mute_sink result };
 }
 
-/// The pipe is let go once it took the line `quit`.
+/// The pipe is closed once it took the line `quit`.
 impl<P: Write + Drop> PipeSink<P> for EngineInput<P> {
     fn over(pipe: P) -> Self {
         EngineInput::new(pipe)
@@ -30,7 +30,7 @@ impl<P: Write + Drop> PipeSink<P> for EngineInput<P> {
     }
 }
 
-/// The pipe is let go when the sink is told so.
+/// The pipe is closed when the sink is told so.
 impl<P: Write + Drop> PipeSink<P> for Closing<P> {
     fn over(pipe: P) -> Self {
         Closing::new(pipe)

@@ -18,7 +18,7 @@ use std::{fs, io};
 
 /// A host of real programs and files, over the handle `R` by which it starts and opens them. The
 /// engine's standard error is that of this process or the null device. The engine's input is an `S`,
-/// which decides when it is let go.
+/// which decides when it is closed.
 #[derive(Drop)]
 pub struct RealHost<R, S> {
     rt: R,
@@ -54,38 +54,39 @@ fn counted(count: u64, fault: HostFault) -> u64
 }
 
 // Hands the command one argument more.
-fn put_argument(word: &str, command: &mut Command) -> Result<(), NoMemory>
+fn put_argument(argument: &str, command: &mut Command) -> Result<(), NoMemory>
     ensures program { OnOk result (command_program command.new ≡ command_program command.old) }
-    ensures arguments { OnOk result (command_args command.new
-        ≡ command_args command.old ++ word.now ∷ []) }
+    ensures arguments_put { OnOk result (command_args command.new
+        ≡ command_args command.old ++ argument.now ∷ []) }
 {
-    match command.arg(word) {
+    match command.arg(argument) {
         Ok(_) => Ok(()),
         Err(_) => Err(NoMemory),
     }
 }
 
 // Hands the command its arguments.
-fn put_arguments(words: &[String], command: &mut Command) -> Result<(), NoMemory>
+fn put_arguments(arguments: &[String], command: &mut Command) -> Result<(), NoMemory>
     ensures program { OnOk result (command_program command.new ≡ command_program command.old) }
-    ensures arguments { OnOk result (command_args command.new
-        ≡ command_args command.old ++ map string_bytes words.now) }
+    ensures arguments_put { OnOk result (command_args command.new
+        ≡ command_args command.old ++ map string_bytes arguments.now) }
 {
-    for word in words {
-        put_argument(word.as_str(), command)?;
+    for argument in arguments {
+        put_argument(argument.as_str(), command)?;
     }
     Ok(())
 }
 
-// The command that these words name, the first being its program and the others its arguments.
-fn command_of(alloc: Global, words: &[String]) -> Result<Command, NoMemory>
-    requires { 0 < length words.now }
-    ensures { IfOk result (λ c. command_program c ∷ command_args c ≡ map string_bytes words.now) }
+// The command that these arguments name, the first being its program and the others its arguments.
+fn command_of(alloc: Global, arguments: &[String]) -> Result<Command, NoMemory>
+    requires { 0 < length arguments.now }
+    ensures { IfOk result (λ c. command_program c ∷ command_args c ≡ map string_bytes
+        arguments.now) }
 {
-    let Ok(mut command) = Command::new(alloc, words[0].as_str()) else {
+    let Ok(mut command) = Command::new(alloc, arguments[0].as_str()) else {
         return Err(NoMemory);
     };
-    put_arguments(&words[1..], &mut command)?;
+    put_arguments(&arguments[1..], &mut command)?;
     Ok(command)
 }
 
@@ -101,15 +102,15 @@ fn diag_of(is_shared: bool) -> Stdio {
 
 impl<R, S> RealHost<R, S> {
     ghost use Rattle.std.specs.Prelude.{None, false};
-    ghost use Rattle.child_engine.specs.Hosts.{unused_books};
-    ghost use Rattle.child_engine.specs.Real.{books_of};
+    ghost use Rattle.child_engine.specs.Hosts.{unused_ledger};
+    ghost use Rattle.child_engine.specs.Real.{real_ledger};
     ghost use Rattle.child_engine.specs.Steady.{no_faults};
 
     /// A host that has handed out nothing. Its engines share the standard error of this process, or
     /// else have the null device.
     pub fn new(rt: R, shares_diag: bool) -> RealHost<R, S>
-        ensures books { books_of result
-            ≡ unused_books None false }
+        ensures ledger { real_ledger result
+            ≡ unused_ledger None false }
         ensures faults { result.faults ≡ no_faults }
         ensures diag { result.shares_diag ≡ shares_diag }
     {
@@ -133,9 +134,9 @@ impl<
     S: PipeSink<ChildStdin> + Send + Drop,
 > Host for RealHost<R, S> {
     ghost use Rattle.std.specs.Prelude.{◌≡◌, ◌<◌, length, map, string_bytes, IfOk, OnOk, OnErr};
-    ghost use Rattle.line_io.specs.Adapters.{read_faults};
+    ghost use Rattle.line_io.specs.Adapters.{reader_faults};
     ghost use Rattle.child_engine.specs.Hosts.{ClosesBy, HoldsOn, StartsBy, with_closed_run, with_run};
-    ghost use Rattle.child_engine.specs.Real.{books_of, spawned_words, untold_sink, untold_source};
+    ghost use Rattle.child_engine.specs.Real.{real_ledger, spawned_command, real_mute_sink, mute_source};
 
     type EngineSource = ReadAdapter<ChildStdout>;
 
@@ -147,21 +148,21 @@ impl<
 
     ghost faults = { λ h. h.faults };
 
-    ghost books = { λ h. books_of h };
+    ghost ledger = { λ h. real_ledger h };
 
-    fn start(&mut self, alloc: Global, words: &[String]) -> Result<StartedEngine<S>, HostFault>
-        requires words { 0 < length words.now }
-        requires few { (books_of self.old).runs_out < 10 }
-        ensures out { OnOk result (books_of self.new ≡ with_run (books_of self.old)) }
-        ensures source { IfOk result (λ run. read_faults run.source ≡ 0) }
-        ensures sink { IfOk result (λ run. S.state run.sink ≡ untold_sink 0) }
-        ensures held { IfOk result (λ run. HoldsOn S.is_let_go run.sink) }
+    fn start(&mut self, alloc: Global, arguments: &[String]) -> Result<StartedEngine<S>, HostFault>
+        requires arguments { 0 < length arguments.now }
+        requires few { (real_ledger self.old).runs_out < 10 }
+        ensures out { OnOk result (real_ledger self.new ≡ with_run (real_ledger self.old)) }
+        ensures source { IfOk result (λ run. reader_faults run.source ≡ 0) }
+        ensures sink { IfOk result (λ run. S.state run.sink ≡ real_mute_sink 0) }
+        ensures held { IfOk result (λ run. HoldsOn S.is_sink_closed run.sink) }
         ensures command { IfOk result (λ run.
-            spawned_words run.process ≡ map string_bytes words.now) }
-        ensures err { OnErr result (books_of self.new ≡ books_of self.old) }
+            spawned_command run.process ≡ map string_bytes arguments.now) }
+        ensures err { OnErr result (real_ledger self.new ≡ real_ledger self.old) }
         ensures cause { StartsBy self.old.faults self.new.faults result }
     {
-        let command = command_of(alloc, words)?;
+        let command = command_of(alloc, arguments)?;
         let mut process = match RealProcess::spawn(&self.rt, command, &diag_of(self.shares_diag)) {
             Ok(process) => process,
             Err(error) => {
@@ -195,13 +196,13 @@ impl<
         Ok(WriteAdapter::new(file))
     }
 
-    #[tactic(auto, using(crate::proofs::Untold::runs_count))]
+    #[tactic(auto, using(crate::proofs::Mute::runs_count))]
     fn close(&mut self, run: StartedEngine<S>) -> Result<(), Failed>
-        requires { length (books_of self.old).runs < (books_of self.old).runs_out }
-        ensures books { books_of self.new
-            ≡ with_closed_run (books_of self.old) (untold_source 0) (S.state run.sink) }
+        requires { length (real_ledger self.old).runs < (real_ledger self.old).runs_out }
+        ensures ledger { real_ledger self.new
+            ≡ with_closed_run (real_ledger self.old) (mute_source 0) (S.state run.sink) }
         ensures cause { ClosesBy self.old.faults self.new.faults
-            (read_faults run.source) (S.state run.sink).faults result }
+            (reader_faults run.source) (S.state run.sink).faults result }
     {
         let Started {
             source,
@@ -221,7 +222,7 @@ impl<
         Ok(())
     }
 
-    #[tactic(auto, using(crate::proofs::Untold::logs_count))]
+    #[tactic(auto, using(crate::proofs::Mute::logs_count))]
     fn close_log(&mut self, log: WriteAdapter<File>) {
         self.faults.logs = raised(self.faults.logs, log.faults());
         self.logs_closed += 1;

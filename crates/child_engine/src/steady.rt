@@ -22,15 +22,15 @@ pub struct SteadyHost {
 
 impl SteadyHost {
     ghost use Rattle.std.specs.Prelude.{Some, false};
-    ghost use Rattle.child_engine.specs.Hosts.{unused_books};
-    ghost use Rattle.child_engine.specs.Steady.{books_of, says_of};
+    ghost use Rattle.child_engine.specs.Hosts.{unused_ledger};
+    ghost use Rattle.child_engine.specs.Steady.{steady_ledger, says_of};
 
     /// A host that has handed out nothing. Each engine says these bytes, as many at a read as the
     /// piece.
     pub fn make(alloc: Global, engine: &[u8], piece: usize) -> Result<SteadyHost, NoMemory>
         requires { 0 < piece }
-        ensures books { IfOk result (λ h. books_of h
-            ≡ unused_books (Some engine.now) false) }
+        ensures ledger { IfOk result (λ h. steady_ledger h
+            ≡ unused_ledger (Some engine.now) false) }
         ensures says { IfOk result (λ h. says_of h
             ≡ record { engine = engine.now; piece = piece }) }
     {
@@ -49,7 +49,7 @@ impl Host for SteadyHost {
     ghost use Rattle.std.specs.Prelude.{◌≡◌, ◌<◌, [], length, map, string_bytes, IfOk, OnOk, OnErr};
     ghost use Rattle.line_io.specs.Memory.{steady_of, unread_supply};
     ghost use Rattle.child_engine.specs.Hosts.{ClosesBy, StartsBy, with_closed_run, with_run};
-    ghost use Rattle.child_engine.specs.Steady.{no_faults, books_of, says_of, shown_by_source, untold_sink};
+    ghost use Rattle.child_engine.specs.Steady.{no_faults, steady_ledger, says_of, shown_by_steady_source, steady_mute_sink};
 
     type EngineSource = SteadySource;
 
@@ -61,23 +61,23 @@ impl Host for SteadyHost {
 
     ghost faults = { λ h. no_faults };
 
-    ghost books = { λ h. books_of h };
+    ghost ledger = { λ h. steady_ledger h };
 
     fn start(
         &mut self,
         alloc: Global,
-        words: &[String],
+        arguments: &[String],
     ) -> Result<Started<SteadySource, NullSink, ()>, HostFault>
-        requires words { 0 < length words.now }
-        requires few { (books_of self.old).runs_out < 10 }
-        ensures out { OnOk result (books_of self.new ≡ with_run (books_of self.old)) }
+        requires arguments { 0 < length arguments.now }
+        requires few { (steady_ledger self.old).runs_out < 10 }
+        ensures out { OnOk result (steady_ledger self.new ≡ with_run (steady_ledger self.old)) }
         ensures source { IfOk result (λ run. steady_of run.source
             ≡ unread_supply (says_of self.old).engine (says_of self.old).piece []) }
-        ensures err { OnErr result (books_of self.new ≡ books_of self.old) }
+        ensures err { OnErr result (steady_ledger self.new ≡ steady_ledger self.old) }
         ensures cause { StartsBy no_faults no_faults result }
         ensures says { says_of self.new ≡ says_of self.old }
     {
-        let _ = words;
+        let _ = arguments;
         let source = SteadySource::make(alloc, self.engine.as_slice(), self.piece)?;
         self.runs_out += 1;
         Ok(Started {
@@ -93,9 +93,10 @@ impl Host for SteadyHost {
     }
 
     fn close(&mut self, run: Started<SteadySource, NullSink, ()>) -> Result<(), Failed>
-        requires { length (books_of self.old).runs < (books_of self.old).runs_out }
-        ensures books { books_of self.new
-            ≡ with_closed_run (books_of self.old) (shown_by_source run.source) untold_sink }
+        requires { length (steady_ledger self.old).runs < (steady_ledger self.old).runs_out }
+        ensures ledger { steady_ledger self.new
+            ≡ with_closed_run (steady_ledger self.old) (shown_by_steady_source run.source)
+            steady_mute_sink }
         ensures cause { ClosesBy no_faults no_faults 0 0 result }
     {
         let Started {
@@ -107,7 +108,7 @@ impl Host for SteadyHost {
         Ok(())
     }
 
-    #[tactic(auto, using(crate::proofs::Untold::logs_count))]
+    #[tactic(auto, using(crate::proofs::Mute::logs_count))]
     fn close_log(&mut self, _log: NullSink) {
         self.logs_closed += 1;
     }

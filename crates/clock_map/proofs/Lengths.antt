@@ -7,44 +7,46 @@ use Rattle.std.proofs.lemmas.Fmt.{length-decimal-le}
 use Rattle.std.specs.Prelude.{max, codes, decimal}
 use Rattle.chess_board.specs.declared.board.Side.{Side}
 use Rattle.chess_board.specs.declared.board.Side.TheVariants.{White, Black}
+use Rattle.peer_words.specs.declared.kinds.GoKind.{GoKind}
 use Rattle.peer_words.specs.declared.kinds.GoKind.TheVariants.{Move, Ponder, Analyse}
 use Rattle.uci_lines.specs.declared.orders.GoControl.{GoControl}
 use Rattle.uci_lines.specs.declared.orders.GoControl.TheVariants.{Clock}
-use Rattle.uci_lines.specs.Orders.{order_text, go_text, control_text, optional_number}
+use Rattle.uci_lines.specs.Orders.{uci_order_text, go_text, control_text, optional_number}
+use Rattle.clock_map.specs.declared.request.SearchRequest.{SearchRequest}
 use Rattle.clock_map.specs.declared.clocks.Clocks.{Clocks}
 use Rattle.clock_map.specs.declared.clocks.Control.{Control}
 use Rattle.clock_map.specs.declared.clocks.Control.TheVariants.{Session, Fixed}
-use Rattle.clock_map.specs.Clocks.{AreShort, IsShort, IsShortControl, IsShortLimit, at_least_one}
-use Rattle.clock_map.specs.Search.{moves_to_go, time_of, AreFewBytes}
+use Rattle.clock_map.specs.Clocks.{ClocksAreShort, HasTenDigits, IsShortControl, IsShortLimit, at_least_one}
+use Rattle.clock_map.specs.Search.{moves_to_go, time_of, order_by_kind, AreFewBytes}
 
 -- a word and a short number
-digits : (n : ℕ) → IsShort n → length (decimal n) ≤ 10
+digits : (n : ℕ) → HasTenDigits n → length (decimal n) ≤ 10
 digits n h = length-decimal-le 10 n (lit< tt) h (omega arith)
 
-number_length : (front word : List ℕ) (n m : ℕ) → IsShort n → length front ≤ m → length (front ++ word ++ decimal n) ≤ m + length word + 10
-number_length front word n m h l = omega (arith, digits n h, length-append (front ++ word) (decimal n), length-append front word)
+number_length : (prefix word : List ℕ) (n m : ℕ) → HasTenDigits n → length prefix ≤ m → length (prefix ++ word ++ decimal n) ≤ m + length word + 10
+number_length prefix word n m h l = omega (arith, digits n h, length-append (prefix ++ word) (decimal n), length-append prefix word)
 
 optional_length : (word : List ℕ) (n : Option ℕ) → IsShortLimit n → length (optional_number word n) ≤ length word + 10
 optional_length word None h = omega arith
 optional_length word (Some n) h = omega (arith, length-append word (decimal n), digits n h.1)
 
-last_length : (front word : List ℕ) (n : Option ℕ) (m : ℕ) → IsShortLimit n → length front ≤ m → length (front ++ optional_number word n) ≤ m + length word + 10
-last_length front word n m h l = omega (arith, optional_length word n h, length-append front (optional_number word n))
+last_length : (prefix word : List ℕ) (n : Option ℕ) (m : ℕ) → IsShortLimit n → length prefix ≤ m → length (prefix ++ optional_number word n) ≤ m + length word + 10
+last_length prefix word n m h l = omega (arith, optional_length word n h, length-append prefix (optional_number word n))
 
-max_small : (n : ℕ) → n < 10 ^ 10 → max n 1 < 10 ^ 10
+pub max_small : (n : ℕ) → n < 10 ^ 10 → max n 1 < 10 ^ 10
 max_small n h = let a : n ≤ 9999999999 = omega arith in let b : 1 ≤ 9999999999 = lit≤ tt in let m : max n 1 ≤ 9999999999 = max-le a b in omega arith
 
-to_go_step : (b : Bool) (moves plies : ℕ) → eqb moves 0 ≡ b → IsShort moves → IsShortLimit (cond b None (Some (moves - plies / 2 % moves)))
+to_go_step : (b : Bool) (moves plies : ℕ) → eqb moves 0 ≡ b → HasTenDigits moves → IsShortLimit (cond b None (Some (moves - plies / 2 % moves)))
 to_go_step true moves plies e h = tt
 to_go_step false moves plies e h =
     let some : 0 < moves = grind (arith, nat_tests) in
     let less : plies / 2 % moves < moves = mod-lt (plies / 2) some in
     (omega arith, omega arith)
 
-to_go_short : (moves plies : ℕ) → IsShort moves → IsShortLimit (moves_to_go moves plies)
+pub to_go_short : (moves plies : ℕ) → HasTenDigits moves → IsShortLimit (moves_to_go moves plies)
 to_go_short moves plies h = to_go_step (eqb moves 0) moves plies refl h
 
-clock_length : (w b i : ℕ) (k : Option ℕ) → IsShort w → IsShort b → IsShort i → IsShortLimit k → length (control_text (Clock w b i i k)) ≤ 87
+clock_length : (w b i : ℕ) (k : Option ℕ) → HasTenDigits w → HasTenDigits b → HasTenDigits i → IsShortLimit k → length (control_text (Clock w b i i k)) ≤ 87
 clock_length w b i k hw hb hi hk =
     let one = codes " wtime " ++ decimal w in
     let two = one ++ codes " btime " ++ decimal b in
@@ -56,7 +58,7 @@ clock_length w b i k hw hb hi hk =
     let l4 : length four ≤ 66 = number_length three (codes " binc ") i 50 hi l3 in
     last_length four (codes " movestogo ") k 66 hk l4
 
-control_length : (control : Control) (c : Clocks) (side : Side) (plies : ℕ) → IsShortControl control → AreShort c → length (control_text (time_of control c side plies)) ≤ 87
+control_length : (control : Control) (c : Clocks) (side : Side) (plies : ℕ) → IsShortControl control → ClocksAreShort c → length (control_text (time_of control c side plies)) ≤ 87
 control_length Session c White plies h s = clock_length (at_least_one c.engine) (at_least_one c.opponent) c.increment (moves_to_go c.moves plies) s.engine s.opponent s.increment (to_go_short c.moves plies s.moves)
 control_length Session c Black plies h s = clock_length (at_least_one c.opponent) (at_least_one c.engine) c.increment (moves_to_go c.moves plies) s.opponent s.engine s.increment (to_go_short c.moves plies s.moves)
 control_length (Fixed time) c side plies h s =
@@ -64,14 +66,17 @@ control_length (Fixed time) c side plies h s =
 
 go_length : (ponder : Bool) (control : GoControl) (depth : Option ℕ) → length (control_text control) ≤ 87 → IsShortLimit depth → length (go_text ponder control depth) ≤ 113
 go_length true control depth h d =
-    let front : length (codes "go ponder" ++ control_text control) ≤ 96 = omega (arith, h) in
-    last_length (codes "go ponder" ++ control_text control) (codes " depth ") depth 96 d front
+    let prefix : length (codes "go ponder" ++ control_text control) ≤ 96 = omega (arith, h) in
+    last_length (codes "go ponder" ++ control_text control) (codes " depth ") depth 96 d prefix
 go_length false control depth h d =
-    let front : length (codes "go" ++ control_text control) ≤ 96 = omega (arith, h) in
-    last_length (codes "go" ++ control_text control) (codes " depth ") depth 96 d front
+    let prefix : length (codes "go" ++ control_text control) ≤ 96 = omega (arith, h) in
+    last_length (codes "go" ++ control_text control) (codes " depth ") depth 96 d prefix
+
+few_of_kind : (kind : GoKind) (r : SearchRequest) (c : Clocks) → ClocksAreShort c → length (uci_order_text (order_by_kind kind r c)) ≤ 113
+unfolding uci_order_text
+few_of_kind Move r c s = go_length false (time_of c.control c r.side r.plies) c.depth (control_length c.control c r.side r.plies s.control s) s.depth
+few_of_kind Ponder r c s = go_length true (time_of c.control c r.side r.plies) c.depth (control_length c.control c r.side r.plies s.control s) s.depth
+few_of_kind Analyse r c s = lit≤ tt
 
 pub few_bytes : AreFewBytes
-unfolding order_text
-few_bytes c side plies Move s = go_length false (time_of c.control c side plies) c.depth (control_length c.control c side plies s.control s) s.depth
-few_bytes c side plies Ponder s = go_length true (time_of c.control c side plies) c.depth (control_length c.control c side plies s.control s) s.depth
-few_bytes c side plies Analyse s = lit≤ tt
+few_bytes r c s = few_of_kind r.kind r c s

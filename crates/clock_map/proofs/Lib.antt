@@ -1,3 +1,4 @@
 pub mod Numbers
 pub mod Messages
 pub mod Lengths
+pub mod Spelled

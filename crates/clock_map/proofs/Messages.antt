@@ -6,12 +6,12 @@ use Rattle.std.specs.Prelude.{ℤ, pos, negsuc, neg_ℤ, nat_abs, max, FitsSigne
 use Rattle.std.proofs.Common.{w64, to_z, of_z}
 use Rattle.std.proofs.lemmas.Int.{to_z-of_z}
 use Rattle.cecp_lines.specs.declared.iface.IfaceMsg.{IfaceMsg as CodeIfaceMsg}
-use Rattle.cecp_lines.specs.declared.iface.IfaceMsg.TheVariants as told
+use Rattle.cecp_lines.specs.declared.iface.IfaceMsg.TheVariants as cecp
 use Rattle.cecp_lines.specs.Messages as says
 use Rattle.cecp_lines.specs.Messages.{IfaceMsg, message_of}
 use Rattle.cecp_lines.specs.Reading.{CanBeRead}
 use Rattle.clock_map.specs.declared.clocks.Clocks.{Clocks}
-use Rattle.clock_map.specs.Clocks.{AreShort, IsShort, IsShortLimit, after_message, at_least_one, of_centis, StayShort}
+use Rattle.clock_map.specs.Clocks.{ClocksAreShort, HasTenDigits, IsShortLimit, after_message, at_least_one, of_centis, StayShort}
 use Rattle.peer_words.proofs.Sizes.{digits_small, seconds_small, centis_small}
 use Rattle.clock_map.proofs.Numbers.{base_small}
 
@@ -54,30 +54,30 @@ clock_fits (pos n) h = omega arith
 clock_fits (negsuc n) h = negative_fits (10 * suc n) (omega arith)
 
 -- the same, as the code has the message
-pub base_told : (msg : CodeIfaceMsg) (mps base inc : ℕ) → msg ≡ told.Level mps base inc → CanBeRead (message_of msg) → base < 2 ^ 63
-base_told msg mps base inc e h =
+pub base_reported : (msg : CodeIfaceMsg) (mps base inc : ℕ) → msg ≡ cecp.Level mps base inc → CanBeRead (message_of msg) → base < 2 ^ 63
+base_reported msg mps base inc e h =
     let k : CanBeRead (says.Level mps base inc) = subst (λ (x : CodeIfaceMsg). CanBeRead (message_of x)) e h in
     omega (arith, base_read mps base inc k)
 
-pub time_told : (msg : CodeIfaceMsg) (z : ℤ) → msg ≡ told.Time z → CanBeRead (message_of msg) → FitsSigned w64 (of_centis (to_z w64 (of_z w64 z)))
-time_told msg z e h =
+pub time_reported : (msg : CodeIfaceMsg) (z : ℤ) → msg ≡ cecp.Time z → CanBeRead (message_of msg) → FitsSigned w64 (of_centis (to_z w64 (of_z w64 z)))
+time_reported msg z e h =
     let k : CanBeRead (says.Time z) = subst (λ (x : CodeIfaceMsg). CanBeRead (message_of x)) e h in
     rw (to_z-of_z w64 z (number_fits z (time_read z k))) (clock_fits z (time_read z k))
 
-pub other_time_told : (msg : CodeIfaceMsg) (z : ℤ) → msg ≡ told.Otim z → CanBeRead (message_of msg) → FitsSigned w64 (of_centis (to_z w64 (of_z w64 z)))
-other_time_told msg z e h =
+pub other_time_reported : (msg : CodeIfaceMsg) (z : ℤ) → msg ≡ cecp.Otim z → CanBeRead (message_of msg) → FitsSigned w64 (of_centis (to_z w64 (of_z w64 z)))
+other_time_reported msg z e h =
     let k : CanBeRead (says.Otim z) = subst (λ (x : CodeIfaceMsg). CanBeRead (message_of x)) e h in
     rw (to_z-of_z w64 z (number_fits z (other_time_read z k))) (clock_fits z (other_time_read z k))
 
 -- the clocks after a message
-shown_short : (n : ℕ) → n < 10 ^ 10 → IsShort (at_least_one (pos n))
+shown_short : (n : ℕ) → n < 10 ^ 10 → HasTenDigits (at_least_one (pos n))
 shown_short n h = max_small n h
 
-negative_short : (k : ℕ) → IsShort (at_least_one (neg_ℤ (pos k)))
+negative_short : (k : ℕ) → HasTenDigits (at_least_one (neg_ℤ (pos k)))
 negative_short zero = lit< tt
 negative_short (suc k) = lit< tt
 
-centis_short : (z : ℤ) → nat_abs z < 10 ^ 9 → IsShort (at_least_one (of_centis z))
+centis_short : (z : ℤ) → nat_abs z < 10 ^ 9 → HasTenDigits (at_least_one (of_centis z))
 centis_short (pos n) h = max_small (10 * n) (omega arith)
 centis_short (negsuc n) h = negative_short (10 * suc n)
 
@@ -85,7 +85,7 @@ limit_short : (b : Bool) (n : ℕ) → eqb n 0 ≡ b → n < 10 ^ 10 → IsShort
 limit_short true n e h = tt
 limit_short false n e h = (grind (arith, nat_tests), h)
 
-after_level_short : (c : Clocks) (mps base inc : ℕ) → AreShort c → CanBeRead (says.Level mps base inc) → AreShort (after_message c (says.Level mps base inc))
+after_level_short : (c : Clocks) (mps base inc : ℕ) → ClocksAreShort c → CanBeRead (says.Level mps base inc) → ClocksAreShort (after_message c (says.Level mps base inc))
 after_level_short c mps base inc s h = record {
   control = tt;
   moves = moves_read mps base inc h;

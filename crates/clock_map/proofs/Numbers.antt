@@ -1,4 +1,4 @@
--- How large the base of a time control is at most.
+-- The bound of the base of a time control.
 use Rattle.std.proofs.Common.{◌≡◌, ℕ, ◌+◌, ◌*◌, ◌^◌, ◌<◌, List, Bool, true, false, cond, leb, take, drop, position, Option, Some, None, refl, arith}
 use Rattle.std.specs.Option.{option_map}
 use Rattle.peer_words.specs.Numbers.{digits}

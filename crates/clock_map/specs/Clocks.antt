@@ -110,30 +110,30 @@ at_least_one (pos n) = max n 1
 at_least_one (negsuc n) = 1
 
 -- at most ten digits
-abbrev pub IsShort : ℕ → Type 0
-IsShort n = n < 10 ^ 10
+abbrev pub HasTenDigits : ℕ → Type 0
+HasTenDigits n = n < 10 ^ 10
 
 abbrev pub IsShortControl : Control → Type 0
 IsShortControl Session = Unit {0}
-IsShortControl (Fixed time) = IsShort time
+IsShortControl (Fixed time) = HasTenDigits time
 
 abbrev pub IsShortLimit : Option ℕ → Type 0
 IsShortLimit None = Unit {0}
-IsShortLimit (Some depth) = (0 < depth) × IsShort depth
+IsShortLimit (Some depth) = (0 < depth) × HasTenDigits depth
 
 -- all numbers of the clocks have at most ten digits
-pub record AreShort (c : Clocks) : Type 0 where
+pub record ClocksAreShort (c : Clocks) : Type 0 where
   pub control : IsShortControl c.control
-  pub moves : IsShort c.moves
-  pub base : IsShort (at_least_one c.base)
-  pub increment : IsShort c.increment
+  pub moves : HasTenDigits c.moves
+  pub base : HasTenDigits (at_least_one c.base)
+  pub increment : HasTenDigits c.increment
   pub depth : IsShortLimit c.depth
-  pub engine : IsShort (at_least_one c.engine)
-  pub opponent : IsShort (at_least_one c.opponent)
+  pub engine : HasTenDigits (at_least_one c.engine)
+  pub opponent : HasTenDigits (at_least_one c.opponent)
 
 -- The messages of lines keep them so.
 abbrev pub StayShort : Type 0
-StayShort = (c : Clocks) (m : IfaceMsg) → AreShort c → CanBeRead m → AreShort (after_message c m)
+StayShort = (c : Clocks) (m : IfaceMsg) → ClocksAreShort c → CanBeRead m → ClocksAreShort (after_message c m)
 
 abbrev pub StayShortAtNew : Type 0
-StayShortAtNew = (c : Clocks) → AreShort c → AreShort (after_new c)
+StayShortAtNew = (c : Clocks) → ClocksAreShort c → ClocksAreShort (after_new c)

@@ -4,11 +4,12 @@ ghost use Rattle.std.specs.Int.{w64};
 ghost use Rattle.line_io.specs.Out.{with};
 ghost use Rattle.cecp_lines.specs.Messages.{message_of};
 ghost use Rattle.cecp_lines.specs.Reading.{CanBeRead};
-ghost use Rattle.uci_lines.specs.Orders.{order_of, order_text};
-ghost use Rattle.clock_map.specs.Clocks.{AreShort, first_clocks, after_message, after_new, at_least_one, limit, of_centis};
+ghost use Rattle.uci_lines.specs.Orders.{uci_order_of, uci_order_text};
+ghost use Rattle.clock_map.specs.Clocks.{ClocksAreShort, first_clocks, after_message, after_new, at_least_one, limit, of_centis};
 ghost use Rattle.uci_lines.specs.OrderReading.{SpellsOrder};
-ghost use Rattle.clock_map.specs.Search.{moves_to_go, times_of, time_of, search_order};
+ghost use Rattle.clock_map.specs.Search.{moves_to_go, clock_times_of, time_of, search_order};
 
+use crate::SearchRequest;
 use cecp_lines::IfaceMsg;
 use chess_board::Side;
 use line_io::Out;
@@ -18,7 +19,7 @@ use uci_lines::{GoControl, Order, write_order};
 /// In milliseconds.
 const FIVE_MINUTES: i64 = 5 * MINUTE as i64;
 
-/// How the time of a move is bounded.
+/// The bound on the time of a move.
 #[derive(Clone, Copy)]
 enum Control {
     /// The clocks run, as `level` set them.
@@ -91,7 +92,7 @@ impl Clocks {
     /// Five minutes for the whole game, without increment.
     pub fn new() -> Clocks
         ensures value { result ≡ first_clocks }
-        ensures short { AreShort result }
+        ensures short { ClocksAreShort result }
     {
         Clocks {
             control: Control::Session,
@@ -142,7 +143,7 @@ impl Clocks {
 
     /// Times as the side of the engine sees them.
     fn times(&self, side: Side, plies: u32) -> GoControl
-        ensures { result ≡ times_of self.now side plies }
+        ensures { result ≡ clock_times_of self.now side plies }
     {
         let engine = at_least_one(self.engine);
         let opponent = at_least_one(self.opponent);
@@ -168,19 +169,19 @@ impl Clocks {
         }
     }
 
-    /// The order for a search by this side.
-    fn search(&self, side: Side, plies: u32, kind: GoKind) -> Order<'static>
-        ensures { order_of result ≡ search_order self.now side plies kind }
+    /// The order for a search.
+    fn search(&self, request: SearchRequest) -> Order<'static>
+        ensures { uci_order_of result ≡ search_order request self.now }
     {
-        match kind {
+        match request.kind {
             GoKind::Move => Order::Go {
                 ponder: false,
-                control: self.time(side, plies),
+                control: self.time(request.side, request.plies),
                 depth: self.depth,
             },
             GoKind::Ponder => Order::Go {
                 ponder: true,
-                control: self.time(side, plies),
+                control: self.time(request.side, request.plies),
                 depth: self.depth,
             },
             GoKind::Analyse => Order::Go {
@@ -191,16 +192,15 @@ impl Clocks {
         }
     }
 
-    /// Writes the `go` line for a search by the side on move, which the engine has, in a position after so many
-    /// plies, with no line feed. For pondering the hint is one of the plies.
-    pub fn write_go(&self, side: Side, plies: u32, kind: GoKind, out: &mut Out)
-        requires { length out.old.text
-            + length (order_text (search_order self.now side plies kind)) ≤ out.old.room }
-        ensures text { out.new ≡ with out.old (order_text (search_order self.now side plies kind)) }
-        ensures spelled { AreShort self.now
-            → SpellsOrder (order_text (search_order self.now side plies kind))
-            (search_order self.now side plies kind) }
+    /// Writes the `go` line for a search, with no line feed.
+    pub fn write_go(&self, request: SearchRequest, out: &mut Out)
+        requires { length out.old.text + length (uci_order_text (search_order request self.now))
+            ≤ out.old.room }
+        ensures text { out.new ≡ with out.old (uci_order_text (search_order request self.now)) }
+        ensures spelled { ClocksAreShort self.now
+            → SpellsOrder (uci_order_text (search_order request self.now))
+            (search_order request self.now) }
     {
-        write_order(&self.search(side, plies, kind), out);
+        write_order(&self.search(request), out);
     }
 }

@@ -1,6 +1,6 @@
-// What holds of all clocks.
+// The laws of all clocks.
 ghost use Rattle.clock_map.specs.Clocks.{StayShort, StayShortAtNew};
-ghost use Rattle.clock_map.specs.Search.{AreSpelled, AreFewBytes};
+ghost use Rattle.clock_map.specs.Search.{SearchOrdersAreSpelled, AreFewBytes};
 
 /// The lines of the interface never set clocks to numbers of more than ten digits.
 pub fn clocks_stay_short()
@@ -10,6 +10,6 @@ pub fn clocks_stay_short()
 
 /// Under such clocks the order of a search may be written, and its text is short.
 pub fn searches_are_short()
-    ensures spelled { AreSpelled }
+    ensures spelled { SearchOrdersAreSpelled }
     ensures short { AreFewBytes }
 {}

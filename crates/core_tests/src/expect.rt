@@ -1,4 +1,4 @@
-// What the tests of this crate compare, and the room that they write into.
+// The values that the tests of this crate compare, and the room that they write into.
 ghost use Rattle.std.specs.Prelude.{◌≡◌, true};
 
 use line_io::Out;

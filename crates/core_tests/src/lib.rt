@@ -1,4 +1,4 @@
-//! What no session of a program shows of the crates below the programs: the board and its texts, the protocols, the
+//! Tests of crates below the programs, for what no session shows: the board and its texts, the protocols, the
 //! tables, the dialogue, scripts and logs; and their laws.
 #![tactic(auto)]
 
@@ -6,6 +6,8 @@
 mod board;
 #[cfg(test)]
 mod dialogue;
+#[cfg(test)]
+mod examples;
 #[cfg(test)]
 mod expect;
 #[cfg(test)]

@@ -3,7 +3,7 @@ use crate::board::positions;
 use chess_board::Move;
 use std::process::Abort;
 
-/// What stands before the first bar, and what is behind it: nothing if there is no bar.
+/// The text before the first bar, and the text behind it: nothing if there is no bar.
 pub(crate) fn cut(row: &str) -> (&str, &str) {
     row.split_once('|').unwrap_or((row, ""))
 }
@@ -19,8 +19,8 @@ pub(crate) fn first(word: &str) -> u8 {
 /// The value of the field of a name. None if there is no such field.
 pub(crate) fn text_in<'a>(fields: &'a str, name: &str) -> Option<&'a str> {
     for field in fields.split('|') {
-        if let Some((front, value)) = field.split_once('=') {
-            if front == name {
+        if let Some((prefix, value)) = field.split_once('=') {
+            if prefix == name {
                 return Some(value);
             }
         }

@@ -1,4 +1,4 @@
-//! What the tables do beyond what the worked sessions show.
+//! The behaviour of the tables beyond what the worked sessions show.
 mod options;
-mod seen;
+mod search_info;
 mod settings;

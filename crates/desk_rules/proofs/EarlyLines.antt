@@ -4,21 +4,21 @@ use Rattle.std.specs.List.{onto_first, before_first, after_first, flat_map, AllB
 use Rattle.std.proofs.lemmas.Bool.{not-true, or_from, and_parts, leb-true}
 use Rattle.std.proofs.lemmas.Grind.{flat_map-append}
 use Rattle.line_io.specs.Event.{is_line, has_feed}
-use Rattle.line_io.specs.Lines.{parts, is_feed}
+use Rattle.line_io.specs.Lines.{parts_by_feed, is_feed}
 use Rattle.line_io.proofs.Parts.{parts_first}
-use Rattle.desk_rules.specs.Early.{lines_with_feeds, may_wait, AreEarly}
+use Rattle.desk_rules.specs.Early.{lines_with_feeds, may_wait, EarlyLinesAreFew}
 
 -- LINE BY LINE
 
 -- the first line of a text that is there, and the lines after it
-pub some_lines : (text line others : List ℕ) → 0 < length text → line ≡ before_first is_feed text → others ≡ after_first is_feed text → parts text ≡ line ∷ parts others
+pub some_lines : (text line others : List ℕ) → 0 < length text → line ≡ before_first is_feed text → others ≡ after_first is_feed text → parts_by_feed text ≡ line ∷ parts_by_feed others
 some_lines [] line others h e f = absurd (omega arith)
 some_lines (x ∷ xs) line others h e f = rw (e, f) (parts_first x xs)
 
-parts_line : (line rest : List ℕ) → has_feed line ≡ false → parts (line ++ 10 ∷ rest) ≡ line ∷ parts rest
+parts_line : (line rest : List ℕ) → has_feed line ≡ false → parts_by_feed (line ++ 10 ∷ rest) ≡ line ∷ parts_by_feed rest
 parts_line [] rest none = refl
 parts_line (x ∷ xs) rest none =
-    (elim (is_feed x) as (λ v. (v || has_feed xs) ≡ false → cond v ([] ∷ parts (xs ++ 10 ∷ rest)) (onto_first x (parts (xs ++ 10 ∷ rest))) ≡ (x ∷ xs) ∷ parts rest) [
+    (elim (is_feed x) as (λ v. (v || has_feed xs) ≡ false → cond v ([] ∷ parts_by_feed (xs ++ 10 ∷ rest)) (onto_first x (parts_by_feed (xs ++ 10 ∷ rest))) ≡ (x ∷ xs) ∷ parts_by_feed rest) [
       | true ↦ λ e. cc
       | false ↦ λ e. ap (onto_first x) (parts_line xs rest e)
     ]) none
@@ -35,17 +35,17 @@ bare_next : (x : ℕ) (ps : List (List ℕ)) (v : Bool) → is_feed x ≡ v → 
 bare_next x ps true e b = (refl, b)
 bare_next x ps false e b = onto_bare x ps e b
 
-bare_parts : (xs : List ℕ) → AreBare (parts xs)
+bare_parts : (xs : List ℕ) → AreBare (parts_by_feed xs)
 bare_parts [] = tt
-bare_parts (x ∷ xs) = bare_next x (parts xs) (is_feed x) refl (bare_parts xs)
+bare_parts (x ∷ xs) = bare_next x (parts_by_feed xs) (is_feed x) refl (bare_parts xs)
 
 bare_more : (ps : List (List ℕ)) (line : List ℕ) → AreBare ps → has_feed line ≡ false → AreBare (ps ++ line ∷ [])
 bare_more [] line b e = (e, tt)
 bare_more (p ∷ ps) line b e = (b.0, bare_more ps line b.1 e)
 
-fed_back : (ps : List (List ℕ)) → AreBare ps → parts (lines_with_feeds ps) ≡ ps
+fed_back : (ps : List (List ℕ)) → AreBare ps → parts_by_feed (lines_with_feeds ps) ≡ ps
 fed_back [] b = refl
-fed_back (p ∷ ps) b = ap parts (append_assoc p (10 ∷ []) (lines_with_feeds ps)) ∙ parts_line p (lines_with_feeds ps) b.0 ∙ ap (λ (qs : List (List ℕ)). p ∷ qs) (fed_back ps b.1)
+fed_back (p ∷ ps) b = ap parts_by_feed (append_assoc p (10 ∷ []) (lines_with_feeds ps)) ∙ parts_line p (lines_with_feeds ps) b.0 ∙ ap (λ (qs : List (List ℕ)). p ∷ qs) (fed_back ps b.1)
 
 -- ONE MORE
 
@@ -63,14 +63,14 @@ bare_line line e = not-true (has_feed line) (and_parts (nat_le (length line) 655
 
 -- the text with one more line
 pub record IsMore (old new line : List ℕ) : Type 0 where
-  pub lines : parts new ≡ parts old ++ line ∷ []
-  pub closed : new ≡ lines_with_feeds (parts new)
+  pub lines : parts_by_feed new ≡ parts_by_feed old ++ line ∷ []
+  pub closed : new ≡ lines_with_feeds (parts_by_feed new)
 
-pub kept_more : (old new line : List ℕ) → old ≡ lines_with_feeds (parts old) → new ≡ (old ++ line) ++ 10 ∷ [] → is_line line ≡ true → IsMore old new line
+pub kept_more : (old new line : List ℕ) → old ≡ lines_with_feeds (parts_by_feed old) → new ≡ (old ++ line) ++ 10 ∷ [] → is_line line ≡ true → IsMore old new line
 kept_more old new line closed e l =
-    let text : new ≡ lines_with_feeds (parts old ++ line ∷ []) =
-    e ∙ append_assoc old line (10 ∷ []) ∙ ap (λ (t : List ℕ). t ++ (line ++ 10 ∷ [])) closed ∙ sym (fed_more (parts old) line) in
-    let lines : parts new ≡ parts old ++ line ∷ [] = ap parts text ∙ fed_back (parts old ++ line ∷ []) (bare_more (parts old) line (bare_parts old) (bare_line line l)) in
+    let text : new ≡ lines_with_feeds (parts_by_feed old ++ line ∷ []) =
+    e ∙ append_assoc old line (10 ∷ []) ∙ ap (λ (t : List ℕ). t ++ (line ++ 10 ∷ [])) closed ∙ sym (fed_more (parts_by_feed old) line) in
+    let lines : parts_by_feed new ≡ parts_by_feed old ++ line ∷ [] = ap parts_by_feed text ∙ fed_back (parts_by_feed old ++ line ∷ []) (bare_more (parts_by_feed old) line (bare_parts old) (bare_line line l)) in
     record { lines = lines; closed = text ∙ ap lines_with_feeds (sym lines) }
 
 -- WHETHER ONE MORE MAY WAIT
@@ -87,12 +87,12 @@ lines_more : (early : List (List ℕ)) (line : List ℕ) → AllByRecursion (λ 
 lines_more [] line a e = (e, tt)
 lines_more (l ∷ early) line a e = (a.0, lines_more early line a.1 e)
 
-pub early_more : (early : List (List ℕ)) (line : List ℕ) → AreEarly early → is_line line ≡ true → may_wait early line ≡ true → AreEarly (early ++ line ∷ [])
+pub early_more : (early : List (List ℕ)) (line : List ℕ) → EarlyLinesAreFew early → is_line line ≡ true → may_wait early line ≡ true → EarlyLinesAreFew (early ++ line ∷ [])
 early_more early line a e w = record { lines = lines_more early line a.lines e; few = waits_few early line w; short = waits_short early line w }
 
-pub none_early : AreEarly []
+pub none_early : EarlyLinesAreFew []
 none_early = record { lines = tt; few = omega arith; short = omega arith }
 
-pub early_left : (b : Bool) (early : List (List ℕ)) → AreEarly early → AreEarly (cond b [] early)
+pub early_left : (b : Bool) (early : List (List ℕ)) → EarlyLinesAreFew early → EarlyLinesAreFew (cond b [] early)
 early_left true early a = none_early
 early_left false early a = a

@@ -1,9 +1,9 @@
--- How long the refusals of early lines are.
+-- The lengths of the refusals of early lines.
 use Rattle.std.proofs.Common.{◌≡◌, ℕ, ◌+◌, ◌*◌, ◌≤◌, List, [], ◌∷◌, ◌++◌, length, codes, true, Result, Ok, Err, Option, ap, arith, length-append}
 use Rattle.peer_words.specs.Tokens.{trimmed}
 use Rattle.peer_words.proofs.Lengths.{trimmed_length}
 use Rattle.cecp_lines.specs.Replies.{reply_text}
-use Rattle.cecp_lines.specs.Replies as told
+use Rattle.cecp_lines.specs.Replies as cecp
 use Rattle.cecp_lines.specs.declared.reply.Reason.TheVariants as reasons
 use Rattle.uci_lines.specs.Orders.{Order}
 use Rattle.option_map.specs.declared.fault.OptionFault.{OptionFault}
@@ -11,20 +11,20 @@ use Rattle.option_map.specs.declared.fault.OptionFault.TheVariants.{UnknownOptio
 use Rattle.option_map.specs.Settings.{OptionSetting}
 use Rattle.option_map.specs.Features.{reply_line, reply_lines}
 use Rattle.desk_rules.specs.declared.desk.Desk.{Desk}
-use Rattle.desk_rules.specs.Early.{lines_with_feeds, AreEarly}
+use Rattle.desk_rules.specs.Early.{lines_with_feeds, EarlyLinesAreFew}
 use Rattle.desk_rules.specs.Lines.{refused_option, early_answer}
 use Rattle.desk_rules.specs.Replies.{early_refusal, early_refusals, list_where, boot_row}
 use Rattle.desk_rules.proofs.Rooms.{lines-one, lines-append}
 use Rattle.desk_rules.proofs.EarlyLines.{fed_first}
 
-behind : (front line : List ℕ) → length ((front ++ trimmed line) ++ 10 ∷ []) ≤ length front + length line + 1
-behind front line = omega (arith, length-append (front ++ trimmed line) (10 ∷ []), length-append front (trimmed line), trimmed_length line)
+behind : (prefix line : List ℕ) → length ((prefix ++ trimmed line) ++ 10 ∷ []) ≤ length prefix + length line + 1
+behind prefix line = omega (arith, length-append (prefix ++ trimmed line) (10 ∷ []), length-append prefix (trimmed line), trimmed_length line)
 
-unknown_le : (line : List ℕ) → length (reply_lines (told.Error reasons.UnknownOption (trimmed line) ∷ [])) ≤ 64 + length line
-unknown_le line = omega (arith, ap length (lines-one (told.Error reasons.UnknownOption (trimmed line))), behind (codes "Error (" ++ codes "unknown option" ++ codes "): ") line)
+unknown_le : (line : List ℕ) → length (reply_lines (cecp.Error reasons.UnknownOption (trimmed line) ∷ [])) ≤ 64 + length line
+unknown_le line = omega (arith, ap length (lines-one (cecp.Error reasons.UnknownOption (trimmed line))), behind (codes "Error (" ++ codes "unknown option" ++ codes "): ") line)
 
-bad_le : (line : List ℕ) → length (reply_lines (told.Error reasons.BadValue (trimmed line) ∷ [])) ≤ 64 + length line
-bad_le line = omega (arith, ap length (lines-one (told.Error reasons.BadValue (trimmed line))), behind (codes "Error (" ++ codes "bad value" ++ codes "): ") line)
+bad_le : (line : List ℕ) → length (reply_lines (cecp.Error reasons.BadValue (trimmed line) ∷ [])) ≤ 64 + length line
+bad_le line = omega (arith, ap length (lines-one (cecp.Error reasons.BadValue (trimmed line))), behind (codes "Error (" ++ codes "bad value" ++ codes "): ") line)
 
 refusal_le : (a : Result (Option Order) OptionFault) (line : List ℕ) → length (reply_lines (early_refusal (refused_option a) line)) ≤ 64 + length line
 refusal_le (Ok order) line = omega arith
@@ -44,7 +44,7 @@ refusals_le os (line ∷ lines) =
       fed_first line lines,
     )
 
-pub boot_le : (d : Desk) → AreEarly d.early → length (reply_lines (list_where d.due (record d { booted = true }))) ≤ 67000 → length (reply_lines (boot_row d)) ≤ 115768
+pub boot_le : (d : Desk) → EarlyLinesAreFew d.early → length (reply_lines (list_where d.due (record d { booted = true }))) ≤ 67000 → length (reply_lines (boot_row d)) ≤ 115768
 boot_le d a h =
     let list = list_where d.due (record d { booted = true }) in
     let refused = early_refusals d.options d.early in

@@ -11,13 +11,13 @@ use Rattle.uci_lines.specs.Orders as orders
 use Rattle.option_map.specs.Names.{same_text}
 use Rattle.option_map.specs.Settings.{OptionSetting}
 use Rattle.option_map.specs.Asked.{asked}
-use Rattle.option_map.specs.Held.{with_order, with_orders}
+use Rattle.option_map.specs.Held.{held_list_with, with_orders}
 use Rattle.desk_rules.specs.declared.desk.Desk.{Desk}
 use Rattle.desk_rules.specs.Desk.{Situation, table, analyses, is_boot, is_gone, ponder_name, analyse_name}
-use Rattle.desk_rules.specs.Lines.{tells, asks_for_mode, asked_by, asks_of, asks, change, at_position}
+use Rattle.desk_rules.specs.Lines.{check_order, asks_for_mode, order_asked_by, asks_of, asks, change, desk_at_position}
 use Rattle.desk_rules.specs.Steps.{Effect, Accepts, Boots, desk_after_effect}
 use Rattle.desk_rules.specs.Orders.{asked_by_effect, orders_waiting}
-use Rattle.desk_rules.specs.Fits.{IsFirst}
+use Rattle.desk_rules.specs.Fits.{OnlyNewGameIsHeld}
 
 abbrev pub IsBoots : Effect → Type 0
 IsBoots Boots = Unit {0}
@@ -34,25 +34,25 @@ IsNewGame (Some order) = ⊥
 no_order : (o : Option Order) → o ≡ None → IsNewGame o
 no_order o e = subst IsNewGame (sym e) tt
 
-pub tells_none : (os : List OptionSetting) (name : List ℕ) (on : Bool) → os ≡ [] → tells os name on ≡ None
-tells_none os name on e = ap (λ (l : List OptionSetting). tells l name on) e
+pub reports_none : (os : List OptionSetting) (name : List ℕ) (on : Bool) → os ≡ [] → check_order os name on ≡ None
+reports_none os name on e = ap (λ (l : List OptionSetting). check_order l name on) e
 
 mode_none : (os : List OptionSetting) (before after : Bool) → os ≡ [] → asks_for_mode os before after ≡ None
-mode_none os false true e = tells_none os analyse_name true e
-mode_none os true false e = tells_none os analyse_name false e
+mode_none os false true e = reports_none os analyse_name true e
+mode_none os true false e = reports_none os analyse_name false e
 mode_none os true true e = refl
 mode_none os false false e = refl
 
-either_none : (b : Bool) → asked_by (Ok (cond b None None)) ≡ None
+either_none : (b : Bool) → order_asked_by (Ok (cond b None None)) ≡ None
 either_none true = refl
 either_none false = refl
 
-sets_none : (m : IfaceMsg) → asked_by (asked [] m) ≡ None
+sets_none : (m : IfaceMsg) → order_asked_by (asked [] m) ≡ None
 sets_none (says.EgtPath kind path) = either_none (same_text (codes "nalimov") kind)
 sets_none m = refl
 
-set_none : (os : List OptionSetting) (m : IfaceMsg) → os ≡ [] → asked_by (asked os m) ≡ None
-set_none os m e = ap (λ (l : List OptionSetting). asked_by (asked l m)) e ∙ sets_none m
+set_none : (os : List OptionSetting) (m : IfaceMsg) → os ≡ [] → order_asked_by (asked os m) ≡ None
+set_none os m e = ap (λ (l : List OptionSetting). order_asked_by (asked l m)) e ∙ sets_none m
 
 desk_first : (d : Desk) (m : IfaceMsg) → table d ≡ [] → IsNewGame (asks_of d m)
 desk_first d says.New e = tt
@@ -62,9 +62,9 @@ desk_first d says.PlayOther e = no_order (asks_for_mode (table d) (analyses d.mo
 desk_first d says.Analyze e = no_order (asks_for_mode (table d) (analyses d.mode) true) (mode_none (table d) (analyses d.mode) true e)
 desk_first d says.Exit e = no_order (asks_for_mode (table d) (analyses d.mode) false) (mode_none (table d) (analyses d.mode) false e)
 desk_first d says.Result e = no_order (asks_for_mode (table d) (analyses d.mode) false) (mode_none (table d) (analyses d.mode) false e)
-desk_first d says.Hard e = no_order (tells (table d) ponder_name true) (tells_none (table d) ponder_name true e)
-desk_first d says.Easy e = no_order (tells (table d) ponder_name false) (tells_none (table d) ponder_name false e)
-desk_first d m e = no_order (asked_by (asked (table d) m)) (set_none (table d) m e)
+desk_first d says.Hard e = no_order (check_order (table d) ponder_name true) (reports_none (table d) ponder_name true e)
+desk_first d says.Easy e = no_order (check_order (table d) ponder_name false) (reports_none (table d) ponder_name false e)
+desk_first d m e = no_order (order_asked_by (asked (table d) m)) (set_none (table d) m e)
 
 gone_first : (gone : Bool) (o : Option Order) → IsNewGame o → IsNewGame (cond gone None o)
 gone_first true o h = tt
@@ -77,11 +77,11 @@ asks_first gone d m e = gone_first gone (asks_of d m) (desk_first d m e)
 -- WHAT IS HELD THEN
 
 -- a new game takes the place of a new game
-joined_first : (held : List Order) → IsFirst held → IsFirst (with_order held orders.NewGame)
-joined_first held (inl e) = inr (ap (λ (os : List Order). with_order os orders.NewGame) e)
-joined_first held (inr e) = inr (ap (λ (os : List Order). with_order os orders.NewGame) e)
+joined_first : (held : List Order) → OnlyNewGameIsHeld held → OnlyNewGameIsHeld (held_list_with held orders.NewGame)
+joined_first held (inl e) = inr (ap (λ (os : List Order). held_list_with os orders.NewGame) e)
+joined_first held (inr e) = inr (ap (λ (os : List Order). held_list_with os orders.NewGame) e)
 
-order_first : (held : List Order) (o : Option Order) → IsFirst held → IsNewGame o → IsFirst (with_orders held (option_to_list o))
+order_first : (held : List Order) (o : Option Order) → OnlyNewGameIsHeld held → IsNewGame o → OnlyNewGameIsHeld (with_orders held (option_to_list o))
 order_first held None f n = f
 order_first held (Some orders.NewGame) f n = joined_first held f
 order_first held (Some order) f n = absurd n
@@ -91,13 +91,13 @@ no_table true os e = cc
 no_table false os e = refl
 
 -- what is held after an effect
-pub orders_first : (h : Situation) (held : List Order) (d : Effect) → (IsBoots d → ⊥) → h.desk.booted ≡ false → IsFirst held → IsFirst (orders_waiting h held d)
+pub orders_first : (h : Situation) (held : List Order) (d : Effect) → (IsBoots d → ⊥) → h.desk.booted ≡ false → OnlyNewGameIsHeld held → OnlyNewGameIsHeld (orders_waiting h held d)
 unfolding asked_by_effect
 orders_first h held (Accepts m) n b f = order_first held (asks (is_gone h.engine) h.desk m) f (asks_first (is_gone h.engine) h.desk m (no_table h.desk.booted h.desk.options b))
 orders_first h held Boots n b f = absurd (n tt)
 orders_first h held d n b f = f
 
-position_booted : (d : Desk) (r : Result Position FenFault) → (at_position d r).booted ≡ d.booted
+position_booted : (d : Desk) (r : Result Position FenFault) → (desk_at_position d r).booted ≡ d.booted
 position_booted d (Ok p) = refl
 position_booted d (Err fault) = refl
 

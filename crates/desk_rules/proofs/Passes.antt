@@ -1,4 +1,4 @@
--- What holds of a message that is not refused.
+-- The facts of a message that is not refused.
 use Rattle.std.proofs.Common.{◌≡◌, ℕ, ◌<◌, ◌≤◌, List, length, Bool, true, false, not, cond, ◌&&◌, ◌||◌, nat_le, nat_lt, Option, Some, None, refl, arith}
 use Rattle.std.proofs.lemmas.Bool.Decides.{nat_tests}
 use Rattle.chess_board.specs.Place.{legal}
@@ -11,15 +11,15 @@ use Rattle.cecp_lines.specs.declared.reply.Reason.{Reason}
 use Rattle.cecp_lines.specs.declared.reply.Reason.TheVariants as reasons
 use Rattle.cecp_lines.proofs.Spellings.{reading_spells}
 use Rattle.uci_lines.specs.Orders.{Order}
-use Rattle.game_record.specs.Game.{now_of}
+use Rattle.game_record.specs.Game.{current_position}
 use Rattle.option_map.specs.Asked.{asked}
 use Rattle.search_epochs.specs.declared.words.Call.{Call}
 use Rattle.search_epochs.specs.declared.words.Call.TheVariants as calls
-use Rattle.search_epochs.specs.Tickets.{Serves}
+use Rattle.search_epochs.specs.Tickets.{SearchServesCall}
 use Rattle.desk_rules.specs.declared.effect.Refusal.{Refusal}
 use Rattle.desk_rules.specs.declared.desk.Desk.{Desk}
-use Rattle.desk_rules.specs.Desk.{Situation, table, analyses, is_gone, is_full, plies, call_of, call_in, current}
-use Rattle.desk_rules.specs.Lines.{asks, or_else, where_true, needs_engine, needs_analysis, lacks_moves, illegal_move, move_too_many, illegal_position, refused_option, does_not_fit, pings_too_often, refusal}
+use Rattle.desk_rules.specs.Desk.{Situation, table, analyses, is_gone, is_full, plies, call_of_desk, call_in, current}
+use Rattle.desk_rules.specs.Lines.{asks, or_else, reason_where, needs_engine, needs_analysis, lacks_moves, illegal_move, move_too_many, illegal_position, refused_option, does_not_fit, pings_too_often, refusal}
 use Rattle.desk_rules.specs.Fits.{IsAccepted, IsServed, CanChange, CanEnter}
 
 -- the tests that it passed
@@ -40,7 +40,7 @@ then_none : (a b : Option Refusal) → or_else a b ≡ None → b ≡ None
 then_none None b e = e
 then_none (Some r) b e = cc
 
-not_where : (b : Bool) (r : Reason) → where_true b r ≡ None → b ≡ false
+not_where : (b : Bool) (r : Reason) → reason_where b r ≡ None → b ≡ false
 not_where true r e = cc
 not_where false r e = refl
 
@@ -76,9 +76,9 @@ pub passes : (h : Situation) (held : List Order) (m : IfaceMsg) → refusal h he
 unfolding refusal
 passes h held m e =
     let unfit = does_not_fit held (asks (is_gone h.engine) h.desk m) in
-    let n = all_none (where_true (needs_engine h.settings m && is_gone h.engine) reasons.EngineEnded) (where_true (needs_analysis m && not (analyses h.desk.mode)) reasons.NotAnalyzing)
-    (where_true (lacks_moves h.desk.game m) reasons.NoMoveToUndo) (illegal_move h.desk.game m) (move_too_many h.desk.game m)
-    (illegal_position m) (refused_option (asked (table h.desk) m)) (where_true unfit reasons.TooManySettings) (where_true (pings_too_often h m) reasons.TooManyPings) e in
+    let n = all_none (reason_where (needs_engine h.settings m && is_gone h.engine) reasons.EngineEnded) (reason_where (needs_analysis m && not (analyses h.desk.mode)) reasons.NotAnalyzing)
+    (reason_where (lacks_moves h.desk.game m) reasons.NoMoveToUndo) (illegal_move h.desk.game m) (move_too_many h.desk.game m)
+    (illegal_position m) (refused_option (asked (table h.desk) m)) (reason_where unfit reasons.TooManySettings) (reason_where (pings_too_often h m) reasons.TooManyPings) e in
     record {
       moves = not_where (lacks_moves h.desk.game m) reasons.NoMoveToUndo n.third;
       legal = n.fourth;
@@ -106,7 +106,7 @@ least : (n k : ℕ) → nat_lt n k ≡ false → k ≤ n
 least n k e = grind (arith, nat_tests)
 
 pub can_enter : (h : Situation) (held : List Order) (m : IfaceMsg) → Passes h held m → CanEnter h.desk.game m
-can_enter h held (says.UserMove m) p = is_legal (now_of h.desk.game) m (legal_of (legal (now_of h.desk.game) m) _ p.legal)
+can_enter h held (says.UserMove m) p = is_legal (current_position h.desk.game) m (legal_of (legal (current_position h.desk.game) m) _ p.legal)
 can_enter h held m p = tt
 
 pub can_change : (h : Situation) (held : List Order) (m : IfaceMsg) → length h.desk.pings ≤ 64 → IsAccepted h held m → CanChange h.desk m
@@ -127,12 +127,12 @@ last_false true b c e = cc
 last_false false true c e = cc
 last_false false false c e = e
 
-pub served_short : (b : Bool) (c : Call) (k : GoKind) → Serves k (cond b calls.Nothing c) → b ≡ false
+pub served_short : (b : Bool) (c : Call) (k : GoKind) → SearchServesCall k (cond b calls.Nothing c) → b ≡ false
 served_short true c k s = cc (s.0)
 served_short false c k s = refl
 
-not_full : (closed gone : Bool) (d : Desk) (k : GoKind) → Serves k (call_of closed gone d) → plies d.game < 12000
-unfolding call_of
+not_full : (closed gone : Bool) (d : Desk) (k : GoKind) → SearchServesCall k (call_of_desk closed gone d) → plies d.game < 12000
+unfolding call_of_desk
 not_full closed gone d k s = below (plies d.game) (last_false closed gone (is_full d.game) (served_short (closed || gone || is_full d.game) (call_in d d.mode) k s))
 
 pub served_few : (h : Situation) (k : GoKind) → IsServed h → h.closed ≡ false → current h.engine ≡ Some k → plies h.desk.game < 12000

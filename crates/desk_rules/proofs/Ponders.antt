@@ -5,11 +5,11 @@ use Rattle.chess_board.specs.declared.board.Move.{Move}
 use Rattle.chess_board.proofs.LegalMoves.{legal_is}
 use Rattle.peer_words.specs.declared.kinds.GoKind.{GoKind}
 use Rattle.peer_words.specs.declared.kinds.GoKind.TheVariants as kinds
-use Rattle.game_record.specs.Game.{Game, ply_of, now_of, IsPlayable}
-use Rattle.think_text.specs.Line.{IsPlayable as CanBePlayed}
+use Rattle.game_record.specs.Game.{Game, ply_of, current_position, IsPlayablePly}
+use Rattle.think_text.specs.Line.{IsPlayableAsHint as CanBePlayed}
 use Rattle.desk_rules.specs.Replies.{named_hint}
 
-pub hint_played : (k : GoKind) (g : Game) (hint : Option Move) → IfSome hint (λ m. IsPlayable (now_of g) (ply_of m)) → CanBePlayed (named_hint k g hint)
-hint_played kinds.Ponder g (Some m) h = legal_is (now_of g) m h
+pub hint_played : (k : GoKind) (g : Game) (hint : Option Move) → IfSome hint (λ m. IsPlayablePly (current_position g) (ply_of m)) → CanBePlayed (named_hint k g hint)
+hint_played kinds.Ponder g (Some m) h = legal_is (current_position g) m h
 hint_played kinds.Ponder g None h = tt
 hint_played k g hint h = tt

@@ -1,4 +1,4 @@
--- How long the texts of lines are.
+-- The lengths of the texts of lines.
 use Rattle.std.proofs.Common.{◌≡◌, ℕ, ◌+◌, ◌^◌, ◌<◌, ◌≤◌, List, [], ◌∷◌, ◌++◌, length, map, take, get_or, Bool, true, false, not, ◌&&◌, nat_le, Option, Some, None, decimal, arith, length-append, append_assoc, append-nil, lit<, refl, ap, sym, ◌∙◌}
 use Rattle.std.specs.Option.{option_to_list, is_some}
 use Rattle.std.proofs.lemmas.List.{take_more}
@@ -9,12 +9,12 @@ use Rattle.line_io.specs.Out.{Text, with}
 use Rattle.chess_board.specs.Position.{Position}
 use Rattle.cecp_lines.specs.declared.reply.Spelling.{Spelling}
 use Rattle.cecp_lines.specs.declared.reply.Spelling.TheVariants.{Coordinates, San}
-use Rattle.cecp_lines.specs.Replies.{Reply, Pong, Fits, borrowed_length, reply_text}
-use Rattle.cecp_lines.proofs.Lengths.{told_short}
+use Rattle.cecp_lines.specs.Replies.{Reply, Pong, HasFieldRanges, borrowed_length, reply_text}
+use Rattle.cecp_lines.proofs.Lengths.{reported_short}
 use Rattle.uci_lines.specs.Info.{Info as AnyInfo}
 use Rattle.uci_lines.specs.Messages.{Info}
 use Rattle.think_text.specs.declared.line.Pondered.{Pondered}
-use Rattle.think_text.specs.Line.{thinking_line, with_line, HasRoom, IsPlayable}
+use Rattle.think_text.specs.Line.{thinking_line, text_with_line, ThinkingLineHasRoom, IsPlayableAsHint}
 use Rattle.think_text.specs.Short.{most_bytes}
 use Rattle.option_map.specs.Settings.{OptionSetting, text_size}
 use Rattle.option_map.specs.Features.{feature_list, reply_line, reply_lines}
@@ -37,8 +37,8 @@ lines-append [] us = refl
 lines-append (t ∷ ts) us = ap (λ l. reply_line t ++ l) (lines-append ts us) ∙ sym (append_assoc (reply_line t) (reply_lines ts) (reply_lines us))
 
 -- a reply that borrows nothing
-pub brief_le : (t : Reply) → Fits t → borrowed_length t ≡ 0 → length (reply_line t) ≤ 129
-brief_le t f b = omega (arith, told_short t f, b, length-append (reply_text t) (10 ∷ []))
+pub brief_le : (t : Reply) → HasFieldRanges t → borrowed_length t ≡ 0 → length (reply_line t) ≤ 129
+brief_le t f b = omega (arith, reported_short t f, b, length-append (reply_text t) (10 ∷ []))
 
 -- as much as a line, and as its list
 pub one_line : (old new : Text) (t : Reply) → new ≡ with old (reply_line t) → new ≡ with old (reply_lines (t ∷ []))
@@ -77,12 +77,12 @@ thought_le None h = omega arith
 thought_le (Some t) h = omega (arith, h t refl, ap length (lines-one t), length-append (reply_text t) (10 ∷ []))
 
 -- the room for a thinking line
-pub thought_room : (out : Text) (o : Option Reply) → length (reply_lines (option_to_list o)) ≤ 105021 → length out.text + 105021 ≤ out.room → HasRoom out o
+pub thought_room : (out : Text) (o : Option Reply) → length (reply_lines (option_to_list o)) ≤ 105021 → length out.text + 105021 ≤ out.room → ThinkingLineHasRoom out o
 thought_room out None h r = tt
 thought_room out (Some t) h r = omega (arith, h, r, ap length (lines-one t), length-append (reply_text t) (10 ∷ []))
 
 -- and for its line feed
-pub feed_room : (old new : Text) (o : Option Reply) → new ≡ with_line old o → is_some o ≡ true → length (reply_lines (option_to_list o)) ≤ 105021 → length old.text + 105021 ≤ old.room → length new.text + 1 ≤ new.room
+pub feed_room : (old new : Text) (o : Option Reply) → new ≡ text_with_line old o → is_some o ≡ true → length (reply_lines (option_to_list o)) ≤ 105021 → length old.text + 105021 ≤ old.room → length new.text + 1 ≤ new.room
 feed_room old new None e s h r = absurd (cc)
 feed_room old new (Some t) e s h r =
     omega (arith, h, r, ap (λ (x : Text). length x.text) e, ap (λ (x : Text). x.room) e, length-append old.text (reply_text t), ap length (lines-one t), length-append (reply_text t) (10 ∷ []))
@@ -91,7 +91,7 @@ pub most_le : (s : Spelling) (n : ℕ) → n ≤ 65536 → most_bytes s n ≤ 12
 most_le Coordinates n h = omega (arith, h)
 most_le San n h = omega (arith, h)
 
-pub thinking_le : (s : Spelling) (facts : AnyInfo) (p : Position) (hint : Option Pondered) → IsPlayable hint → IsSaid (Info facts) → length (reply_lines (option_to_list (thinking_line s facts p hint))) ≤ 105021
+pub thinking_le : (s : Spelling) (facts : AnyInfo) (p : Position) (hint : Option Pondered) → IsPlayableAsHint hint → IsSaid (Info facts) → length (reply_lines (option_to_list (thinking_line s facts p hint))) ≤ 105021
 thinking_le s facts p hint i said =
     thought_le (thinking_line s facts p hint) (λ t e. let l = most_le s (length said.line) (line_le said.line said.is_line) in omega (arith, l, lines_short s said.line facts p hint t i said.says e))
 

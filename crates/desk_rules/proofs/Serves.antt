@@ -6,7 +6,7 @@ use mathlib.Core.Bool.{or-false}
 use Rattle.chess_board.specs.declared.board.Move.{Move}
 use Rattle.chess_board.specs.Board.{same_side}
 use Rattle.uci_lines.specs.Orders.{Order}
-use Rattle.game_record.specs.Game.{now_of}
+use Rattle.game_record.specs.Game.{current_position}
 use Rattle.game_record.specs.Ending.{has_legal}
 use Rattle.peer_words.specs.declared.kinds.GoKind.{GoKind}
 use Rattle.cecp_lines.specs.Messages.{IfaceMsg}
@@ -16,14 +16,14 @@ use Rattle.search_epochs.specs.declared.words.Call.{Call}
 use Rattle.search_epochs.specs.declared.words.Call.TheVariants as calls
 use Rattle.search_epochs.specs.declared.words.EngineState.{EngineState}
 use Rattle.search_epochs.specs.declared.words.EngineState.TheVariants as states
-use Rattle.search_epochs.specs.Tickets.{is_move, Serves}
+use Rattle.search_epochs.specs.Tickets.{is_move, SearchServesCall}
 use Rattle.desk_rules.specs.declared.mode.Mode.{Mode}
 use Rattle.desk_rules.specs.declared.mode.Mode.TheVariants as modes
 use Rattle.desk_rules.specs.declared.desk.Desk.{Desk}
-use Rattle.desk_rules.specs.Desk.{Situation, call_of, call_in, call_while_waiting, call_for_hint, call_before, current, is_gone, is_boot, is_getting, is_full, table, ponder_name, has_ended, on_move, played, owes_move, owed_at}
+use Rattle.desk_rules.specs.Desk.{Situation, call_of_desk, call_in, call_while_waiting, call_for_hint, call_before, current, is_gone, is_boot, is_getting, is_full, table, ponder_name, has_ended, on_move, game_played, owes_move, owed_at}
 use Rattle.desk_rules.specs.Lines.{asks, change, is_epoch_line}
 use Rattle.desk_rules.specs.Steps.{Effect, Accepts, Defers, Names, Declares, Boots, Readies, Thinks, Shows, Forfeits, Answers, Dies, desk_after_effect, begins_epoch, call_after}
-use Rattle.desk_rules.specs.Fits.{Fits}
+use Rattle.desk_rules.specs.Fits.{EffectFitsDesk}
 
 -- an effect that leaves an open search open
 abbrev pub IsNoAnswer : Effect → Type 0
@@ -71,7 +71,7 @@ for_no_move d = go d.hint where
 
   go : (o : Option Move) → call_for_hint d.game o ≡ calls.Move → ⊥
   go None e = cc
-  go (Some g) e = end (has_ended (played d.game g)) (calls.Ponder g) (λ x. cc) e
+  go (Some g) e = end (has_ended (game_played d.game g)) (calls.Ponder g) (λ x. cc) e
 
 pub wait_no_move : (d : Desk) → call_while_waiting d ≡ calls.Move → ⊥
 wait_no_move d e = hint_no_move (d.pondering && is_some (check_named ponder_name (table d))) (call_for_hint d.game d.hint) (for_no_move d) e
@@ -87,15 +87,15 @@ analyse_no_move false e = cc
 in_stays : (m : Mode) (d : Desk) (b : Bool) → call_in d m ≡ calls.Move → call_in (record d { pondering = b }) m ≡ calls.Move
 in_stays modes.Force d b e = cc
 in_stays modes.Over d b e = cc
-in_stays modes.Analyse d b e = absurd (analyse_no_move (has_legal (now_of d.game)) e)
+in_stays modes.Analyse d b e = absurd (analyse_no_move (has_legal (current_position d.game)) e)
 in_stays (modes.Plays s) d b e = over_stays (has_ended d.game) (same_side s (on_move d.game)) (call_while_waiting d) (call_while_waiting (record d { pondering = b })) e (wait_no_move d)
 
 out_stays : (out : Bool) (x y : Call) → cond out calls.Nothing x ≡ calls.Move → (x ≡ calls.Move → y ≡ calls.Move) → cond out calls.Nothing y ≡ calls.Move
 out_stays true x y e f = cc
 out_stays false x y e f = f e
 
-move_stays : (closed gone : Bool) (d : Desk) (b : Bool) → call_of closed gone d ≡ calls.Move → call_of closed gone (record d { pondering = b }) ≡ calls.Move
-unfolding call_of
+move_stays : (closed gone : Bool) (d : Desk) (b : Bool) → call_of_desk closed gone d ≡ calls.Move → call_of_desk closed gone (record d { pondering = b }) ≡ calls.Move
+unfolding call_of_desk
 move_stays closed gone d b e = out_stays (closed || gone || is_full d.game) (call_in d d.mode) (call_in (record d { pondering = b }) d.mode) e (in_stays d.mode d b)
 
 pub is_move_call : (c : Call) → is_move c ≡ true → c ≡ calls.Move
@@ -109,13 +109,13 @@ owed_move true c e = cc
 owed_move false c e = is_move_call c e
 
 -- `hard` and `easy` while a Move is owed
-told_pondering : (h : Situation) (k : GoKind) (b : Bool) → not (owes_move h) ≡ false → Serves k (call_before h) → Serves k (call_of h.closed (is_gone h.engine) (record h.desk { pondering = b }))
-told_pondering h k b r s =
+shown_pondering : (h : Situation) (k : GoKind) (b : Bool) → not (owes_move h) ≡ false → SearchServesCall k (call_before h) → SearchServesCall k (call_of_desk h.closed (is_gone h.engine) (record h.desk { pondering = b }))
+shown_pondering h k b r s =
     let p : call_before h ≡ calls.Move = owed_move h.spent (call_before h) (not-false (owes_move h) r) in
-    subst (Serves k) (p ∙ sym (move_stays h.closed (is_gone h.engine) h.desk b p)) s
+    subst (SearchServesCall k) (p ∙ sym (move_stays h.closed (is_gone h.engine) h.desk b p)) s
 
-line_serves : (h : Situation) (m : IfaceMsg) (k : GoKind) → is_epoch_line (owes_move h) (asks (is_gone h.engine) h.desk m) m ≡ false → Serves k (call_before h) → Serves k (call_of h.closed (is_gone h.engine) (change (is_boot h.engine) h.desk m))
-unfolding change is_epoch_line call_of
+line_serves : (h : Situation) (m : IfaceMsg) (k : GoKind) → is_epoch_line (owes_move h) (asks (is_gone h.engine) h.desk m) m ≡ false → SearchServesCall k (call_before h) → SearchServesCall k (call_of_desk h.closed (is_gone h.engine) (change (is_boot h.engine) h.desk m))
+unfolding change is_epoch_line call_of_desk
 line_serves h says.New k r s = cc
 line_serves h says.Force k r s = cc
 line_serves h says.Go k r s = cc
@@ -127,15 +127,15 @@ line_serves h (says.SetBoard text) k r s = cc
 line_serves h says.Analyze k r s = cc
 line_serves h says.Exit k r s = cc
 line_serves h says.Result k r s = cc
-line_serves h says.Hard k r s = told_pondering h k true r s
-line_serves h says.Easy k r s = told_pondering h k false r s
+line_serves h says.Hard k r s = shown_pondering h k true r s
+line_serves h says.Easy k r s = shown_pondering h k false r s
 line_serves h m k r s = s
 
-as_gone : (k : GoKind) (c : Bool) (g : Bool) (d : Desk) → Serves k (call_of c g d) → Serves k (call_of c (g || false) d)
-as_gone k c g d s = subst (λ (b : Bool). Serves k (call_of c b d)) (sym (or-false g)) s
+as_gone : (k : GoKind) (c : Bool) (g : Bool) (d : Desk) → SearchServesCall k (call_of_desk c g d) → SearchServesCall k (call_of_desk c (g || false) d)
+as_gone k c g d s = subst (λ (b : Bool). SearchServesCall k (call_of_desk c b d)) (sym (or-false g)) s
 
 -- the call goes on to be served
-pub still_serves : (h : Situation) (held : List Order) (d : Effect) (k : GoKind) → Fits h held d → IsNoAnswer d → begins_epoch h d ≡ false → current h.engine ≡ Some k → Serves k (call_before h) → Serves k (call_after h.closed h d)
+pub still_serves : (h : Situation) (held : List Order) (d : Effect) (k : GoKind) → EffectFitsDesk h held d → IsNoAnswer d → begins_epoch h d ≡ false → current h.engine ≡ Some k → SearchServesCall k (call_before h) → SearchServesCall k (call_after h.closed h d)
 unfolding desk_after_effect
 still_serves h held (Accepts m) k f n r c s = as_gone k h.closed (is_gone h.engine) (change (is_boot h.engine) h.desk m) (line_serves h m k r s)
 still_serves h held (Defers line) k f n r c s = absurd (not_boot h.engine k c f.in_boot)
@@ -143,7 +143,7 @@ still_serves h held (Names x) k f n r c s = absurd (not_boot h.engine k c f.1)
 still_serves h held (Declares x y) k f n r c s = absurd (not_boot h.engine k c f.1)
 still_serves h held Boots k f n r c s = absurd (not_boot h.engine k c f.1)
 still_serves h held Readies k f n r c s = absurd (not_getting h.engine k c f.1)
-still_serves h held (Thinks g i) k f n r c s = as_gone k h.closed (is_gone h.engine) (desk_after_effect h (Thinks g i)) (unfold call_of in s)
+still_serves h held (Thinks g i) k f n r c s = as_gone k h.closed (is_gone h.engine) (desk_after_effect h (Thinks g i)) (unfold call_of_desk in s)
 still_serves h held (Shows m hint) k f n r c s = absurd n
 still_serves h held Forfeits k f n r c s = absurd n
 still_serves h held Answers k f n r c s = absurd n

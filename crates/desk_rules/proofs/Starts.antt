@@ -6,20 +6,20 @@ use Rattle.game_record.specs.Game.{game_from}
 use Rattle.desk_rules.specs.declared.effect.Refusal.{Refusal}
 use Rattle.desk_rules.specs.declared.effect.Refusal.TheVariants as refusals
 use Rattle.desk_rules.specs.declared.desk.Desk.{Desk}
-use Rattle.desk_rules.specs.Lines.{spelled, no_position, at_position, with_game}
+use Rattle.desk_rules.specs.Lines.{spelled_position, no_position, desk_at_position, with_game}
 
-pub no_start : (r : Result Position FenFault) → None ≡ spelled r → no_position r ≡ Some refusals.IllegalPosition
+pub no_start : (r : Result Position FenFault) → None ≡ spelled_position r → no_position r ≡ Some refusals.IllegalPosition
 no_start (Ok p) e = cc
 no_start (Err fault) e = refl
 
-pub some_start : (r : Result Position FenFault) (p : Position) → Some p ≡ spelled r → no_position r ≡ None
+pub some_start : (r : Result Position FenFault) (p : Position) → Some p ≡ spelled_position r → no_position r ≡ None
 some_start (Ok p) q e = refl
 some_start (Err fault) q e = cc
 
-pub placed : (d : Desk) (r : Result Position FenFault) (p : Position) → Some p ≡ spelled r → at_position d r ≡ with_game d (game_from p)
+pub placed : (d : Desk) (r : Result Position FenFault) (p : Position) → Some p ≡ spelled_position r → desk_at_position d r ≡ with_game d (game_from p)
 placed d (Ok p) q e = cc
 placed d (Err fault) q e = cc
 
-pub not_placed : (d : Desk) (r : Result Position FenFault) → None ≡ spelled r → at_position d r ≡ d
+pub not_placed : (d : Desk) (r : Result Position FenFault) → None ≡ spelled_position r → desk_at_position d r ≡ d
 not_placed d (Ok p) e = cc
 not_placed d (Err fault) e = refl

@@ -11,7 +11,7 @@ use Rattle.peer_words.specs.declared.kinds.GoKind.{GoKind}
 use Rattle.game_record.specs.declared.game.TheConstants.{MOST_PLIES}
 use Rattle.game_record.specs.declared.ending.GameEnd.{GameEnd}
 use Rattle.game_record.specs.declared.ending.GameEnd.TheVariants as ends
-use Rattle.game_record.specs.Game.{Game, ply_of, game_from, with_ply, now_of}
+use Rattle.game_record.specs.Game.{Game, ply_of, game_from, with_ply, current_position}
 use Rattle.game_record.specs.Ending.{has_legal, ended_of}
 use Rattle.clock_map.specs.Clocks.{first_clocks}
 use Rattle.think_text.specs.Kept.{nothing_seen}
@@ -44,7 +44,7 @@ opening_desk = record {
   name = shown_name [];
   due = false;
   early = [];
-  seen = nothing_seen;
+  search_info = nothing_seen;
 }
 
 -- the options that count as declared: none before `uciok`
@@ -61,12 +61,12 @@ plays m = false
 
 -- THE GAME
 
-abbrev pub other : Side → Side
-other White = Black
-other Black = White
+abbrev pub opponent_of : Side → Side
+opponent_of White = Black
+opponent_of Black = White
 
 abbrev pub on_move : Game → Side
-on_move g = (now_of g).side
+on_move g = (current_position g).side
 
 abbrev pub plies : Game → ℕ
 plies g = length g.moves
@@ -75,8 +75,8 @@ plies g = length g.moves
 abbrev pub is_full : Game → Bool
 is_full g = nat_le MOST_PLIES (plies g)
 
-abbrev pub played : Game → Move → Game
-played g m = with_ply g (ply_of m)
+abbrev pub game_played : Game → Move → Game
+game_played g m = with_ply g (ply_of m)
 
 abbrev pub has_ended : Game → Bool
 has_ended g = is_some (ended_of g)
@@ -98,7 +98,7 @@ analyse_name = codes "UCI_AnalyseMode"
 -- the hint is pondered on, if the game after it has not ended
 abbrev pub call_for_hint : Game → Option Move → Call
 call_for_hint g None = calls.Nothing
-call_for_hint g (Some h) = if has_ended (played g h) then calls.Nothing else calls.Ponder h
+call_for_hint g (Some h) = if has_ended (game_played g h) then calls.Nothing else calls.Ponder h
 
 abbrev pub call_while_waiting : Desk → Call
 call_while_waiting d =
@@ -106,15 +106,15 @@ call_while_waiting d =
     else calls.Nothing
 
 abbrev pub call_in : Desk → Mode → Call
-call_in d modes.Analyse = if has_legal (now_of d.game) then calls.Analyse else calls.Nothing
+call_in d modes.Analyse = if has_legal (current_position d.game) then calls.Analyse else calls.Nothing
 call_in d (modes.Plays s) =
     if has_ended d.game then calls.Nothing
     else (if same_side s (on_move d.game) then calls.Move else call_while_waiting d)
 call_in d m = calls.Nothing
 
 -- what the desk calls for, by whether the session is closed and whether the engine is Gone
-unfoldable pub call_of : Bool → Bool → Desk → Call
-call_of closed gone d = if closed || gone || is_full d.game then calls.Nothing else call_in d d.mode
+unfoldable pub call_of_desk : Bool → Bool → Desk → Call
+call_of_desk closed gone d = if closed || gone || is_full d.game then calls.Nothing else call_in d d.mode
 
 -- HERE
 
@@ -161,7 +161,7 @@ current (states.Search k false stopped) = Some k
 current e = None
 
 abbrev pub call_before : Situation → Call
-call_before h = call_of h.closed (is_gone h.engine) h.desk
+call_before h = call_of_desk h.closed (is_gone h.engine) h.desk
 
 abbrev pub owed_at : Bool → Call → Call
 owed_at spent call = if spent then calls.Nothing else call

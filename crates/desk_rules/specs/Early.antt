@@ -3,7 +3,7 @@ use Rattle.std.specs.Prelude.{◌≡◌, ℕ, List, [], ◌∷◌, ◌++◌, ◌
 use Rattle.std.specs.Prelude.{length, Bool, true, false, ◌&&◌, nat_le}
 use Rattle.std.specs.List.{flat_map, AllByRecursion}
 use Rattle.line_io.specs.Event.{is_line}
-use Rattle.line_io.specs.Lines.{parts, line_feed}
+use Rattle.line_io.specs.Lines.{parts_by_feed, line_feed}
 use Rattle.line_io.specs.Out.{Text}
 use Rattle.cecp_lines.specs.Messages.{IfaceMsg}
 use Rattle.cecp_lines.specs.Messages as says
@@ -28,13 +28,13 @@ may_wait early line =
     && nat_le (length (lines_with_feeds (early ++ line ∷ []))) EARLY_BYTES
 
 -- what holds of the lines that wait
-pub record AreEarly (early : List (List ℕ)) : Type 0 where
+pub record EarlyLinesAreFew (early : List (List ℕ)) : Type 0 where
   pub lines : AllByRecursion (λ line. is_line line ≡ true) early
   pub few : length early ≤ MOST_EARLY
   pub short : length (lines_with_feeds early) ≤ EARLY_BYTES
 
 -- what holds of the text of the lines, and of their number
-pub record IsKept (texts : Text) (n : ℕ) : Type 0 where
-  pub closed : texts.text ≡ lines_with_feeds (parts texts.text)
-  pub count : n ≡ length (parts texts.text)
+pub record EarlyLinesAreKept (texts : Text) (n : ℕ) : Type 0 where
+  pub closed : texts.text ≡ lines_with_feeds (parts_by_feed texts.text)
+  pub count : n ≡ length (parts_by_feed texts.text)
   pub room : texts.room ≡ EARLY_BYTES

@@ -19,14 +19,14 @@ use Rattle.cecp_lines.specs.declared.reply.Reason.{Reason}
 use Rattle.cecp_lines.specs.declared.reply.Reason.TheVariants as reasons
 use Rattle.uci_lines.specs.Orders.{Order}
 use Rattle.uci_lines.specs.Orders as orders
-use Rattle.game_record.specs.Game.{Game, game_from, now_of, without_last}
+use Rattle.game_record.specs.Game.{Game, game_from, current_position, without_last}
 use Rattle.clock_map.specs.Clocks.{after_message, after_new}
 use Rattle.option_map.specs.declared.fault.OptionFault.{OptionFault}
 use Rattle.option_map.specs.declared.fault.OptionFault.TheVariants.{UnknownOption, BadValue}
 use Rattle.option_map.specs.Settings.{OptionSetting}
 use Rattle.option_map.specs.Shown.{check_named}
 use Rattle.option_map.specs.Asked.{asked}
-use Rattle.option_map.specs.Held.{can_join}
+use Rattle.option_map.specs.Held.{held_order_can_join}
 use Rattle.option_map.specs.Due.{due_after}
 use Rattle.policy_rules.specs.declared.settings.Settings.{Settings}
 use Rattle.desk_rules.specs.declared.mode.Mode.{Mode}
@@ -36,7 +36,7 @@ use Rattle.desk_rules.specs.declared.effect.Refusal.TheVariants as refusals
 use Rattle.desk_rules.specs.declared.desk.Desk.{Desk}
 use Rattle.desk_rules.specs.Early.{is_setting, may_wait}
 use Rattle.desk_rules.specs.Desk.{Situation, table, analyses, is_full, is_boot, is_gone, on_move}
-use Rattle.desk_rules.specs.Desk.{other, played, plies, owes_move, ponder_name, analyse_name}
+use Rattle.desk_rules.specs.Desk.{opponent_of, game_played, plies, owes_move, ponder_name, analyse_name}
 use Rattle.desk_rules.specs.declared.pings.TheConstants.{MOST_PINGS}
 
 -- WHAT A LINE ASKS
@@ -49,18 +49,18 @@ abbrev pub switches : Bool → List ℕ → Order
 switches on name = orders.SetOption name (Some (switch_text on))
 
 -- the order that sets a check option, if it is declared
-abbrev pub tells : List OptionSetting → List ℕ → Bool → Option Order
-tells os name on = option_map (switches on) (check_named name os)
+abbrev pub check_order : List OptionSetting → List ℕ → Bool → Option Order
+check_order os name on = option_map (switches on) (check_named name os)
 
 -- a line by which the mode enters or leaves Analyse asks for UCI_AnalyseMode
 abbrev pub asks_for_mode : List OptionSetting → Bool → Bool → Option Order
-asks_for_mode os false true = tells os analyse_name true
-asks_for_mode os true false = tells os analyse_name false
+asks_for_mode os false true = check_order os analyse_name true
+asks_for_mode os true false = check_order os analyse_name false
 asks_for_mode os before after = None
 
-abbrev pub asked_by : Answer (Option Order) OptionFault → Option Order
-asked_by (Ok order) = order
-asked_by (Err fault) = None
+abbrev pub order_asked_by : Answer (Option Order) OptionFault → Option Order
+order_asked_by (Ok order) = order
+order_asked_by (Err fault) = None
 
 abbrev pub asks_of : Desk → IfaceMsg → Option Order
 asks_of d says.New = Some orders.NewGame
@@ -70,9 +70,9 @@ asks_of d says.PlayOther = asks_for_mode (table d) (analyses d.mode) false
 asks_of d says.Analyze = asks_for_mode (table d) (analyses d.mode) true
 asks_of d says.Exit = asks_for_mode (table d) (analyses d.mode) false
 asks_of d says.Result = asks_for_mode (table d) (analyses d.mode) false
-asks_of d says.Hard = tells (table d) ponder_name true
-asks_of d says.Easy = tells (table d) ponder_name false
-asks_of d m = asked_by (asked (table d) m)
+asks_of d says.Hard = check_order (table d) ponder_name true
+asks_of d says.Easy = check_order (table d) ponder_name false
+asks_of d m = order_asked_by (asked (table d) m)
 
 -- while the engine is Gone no line asks for anything
 unfoldable pub asks : Bool → Desk → IfaceMsg → Option Order
@@ -88,8 +88,8 @@ abbrev pub or_else : Option Refusal → Option Refusal → Option Refusal
 or_else None b = b
 or_else (Some r) b = Some r
 
-abbrev pub where_true : Bool → Reason → Option Refusal
-where_true b r = if b then because r else None
+abbrev pub reason_where : Bool → Reason → Option Refusal
+reason_where b r = if b then because r else None
 
 -- An engine that resigns when it is gone may still be told whom it plays.
 abbrev pub needs_engine : Settings → IfaceMsg → Bool
@@ -110,7 +110,7 @@ lacks_moves g m = false
 
 abbrev pub illegal_move : Game → IfaceMsg → Option Refusal
 illegal_move g (says.UserMove m) =
-    if legal (now_of g) m then None else Some (refusals.IllegalMove m)
+    if legal (current_position g) m then None else Some (refusals.IllegalMove m)
 illegal_move g m = None
 
 abbrev pub move_too_many : Game → IfaceMsg → Option Refusal
@@ -133,7 +133,7 @@ refused_option (Err BadValue) = because reasons.BadValue
 -- beside the held orders
 abbrev pub does_not_fit : List Order → Option Order → Bool
 does_not_fit held None = false
-does_not_fit held (Some order) = not (can_join held order)
+does_not_fit held (Some order) = not (held_order_can_join held order)
 
 abbrev pub pings_too_often : Situation → IfaceMsg → Bool
 pings_too_often h (says.Ping n) = owes_move h && nat_le MOST_PINGS (length h.desk.pings)
@@ -142,16 +142,16 @@ pings_too_often h m = false
 -- why a message is refused, if it is: the first that applies
 unfoldable pub refusal : Situation → List Order → IfaceMsg → Option Refusal
 refusal h held m =
-    or_else (where_true (needs_engine h.settings m && is_gone h.engine) reasons.EngineEnded)
-    (or_else (where_true (needs_analysis m && not (analyses h.desk.mode)) reasons.NotAnalyzing)
-    (or_else (where_true (lacks_moves h.desk.game m) reasons.NoMoveToUndo)
+    or_else (reason_where (needs_engine h.settings m && is_gone h.engine) reasons.EngineEnded)
+    (or_else (reason_where (needs_analysis m && not (analyses h.desk.mode)) reasons.NotAnalyzing)
+    (or_else (reason_where (lacks_moves h.desk.game m) reasons.NoMoveToUndo)
     (or_else (illegal_move h.desk.game m)
     (or_else (move_too_many h.desk.game m)
     (or_else (illegal_position m)
     (or_else (refused_option (asked (table h.desk) m))
     (or_else
-    (where_true (does_not_fit held (asks (is_gone h.engine) h.desk m)) reasons.TooManySettings)
-    (where_true (pings_too_often h m) reasons.TooManyPings))))))))
+    (reason_where (does_not_fit held (asks (is_gone h.engine) h.desk m)) reasons.TooManySettings)
+    (reason_where (pings_too_often h m) reasons.TooManyPings))))))))
 
 -- A line is early if it sets an option while the engine is in Boot, where no option counts yet, and
 -- the settings say that such lines wait.
@@ -173,10 +173,10 @@ abbrev pub early_verdict : Bool → Verdict
 early_verdict fits = if fits then Early else Refused (refusals.Because reasons.TooManySettings)
 
 -- of a line, by what is read of it
-unfoldable pub verdict : Situation → List Order → List ℕ → Answer IfaceMsg IfaceFault → Verdict
-verdict h held line (Err faults.UnknownCommand) = Refused (refusals.Because reasons.UnknownCommand)
-verdict h held line (Err faults.BadArgument) = Refused (refusals.Because reasons.BadArgument)
-verdict h held line (Ok m) =
+unfoldable pub line_verdict : Situation → List Order → List ℕ → Answer IfaceMsg IfaceFault → Verdict
+line_verdict h held line (Err faults.UnknownCommand) = Refused (refusals.Because reasons.UnknownCommand)
+line_verdict h held line (Err faults.BadArgument) = Refused (refusals.Because reasons.BadArgument)
+line_verdict h held line (Ok m) =
     if is_early h m then early_verdict (may_wait h.desk.early line)
     else verdict_on m (refusal h held m)
 
@@ -214,14 +214,14 @@ is_epoch_line owes asked m = false
 
 -- CHANGES
 
-abbrev pub spelled : Answer Position FenFault → Option Position
-spelled (Ok p) = Some p
-spelled (Err fault) = None
+abbrev pub spelled_position : Answer Position FenFault → Option Position
+spelled_position (Ok p) = Some p
+spelled_position (Err fault) = None
 
 -- the position that a message sets up, if it sets one up
-abbrev pub set_up : IfaceMsg → Option Position
-set_up (says.SetBoard text) = spelled (position_of text)
-set_up m = None
+abbrev pub position_set_up : IfaceMsg → Option Position
+position_set_up (says.SetBoard text) = spelled_position (position_of text)
+position_set_up m = None
 
 abbrev pub new_mode : Mode → Mode
 new_mode modes.Analyse = modes.Analyse
@@ -231,9 +231,9 @@ new_mode m = modes.Plays Black
 abbrev pub with_game : Desk → Game → Desk
 with_game d g = record d { game = g; hint = None }
 
-abbrev pub at_position : Desk → Answer Position FenFault → Desk
-at_position d (Ok p) = with_game d (game_from p)
-at_position d (Err fault) = d
+abbrev pub desk_at_position : Desk → Answer Position FenFault → Desk
+desk_at_position d (Ok p) = with_game d (game_from p)
+desk_at_position d (Err fault) = d
 
 unfoldable pub change : Bool → Desk → IfaceMsg → Desk
 change boot d (says.Protover n) = record d { due = due_after boot d.due }
@@ -245,11 +245,11 @@ change boot d says.New = record d {
 }
 change boot d says.Force = record d { mode = modes.Force }
 change boot d says.Go = record d { mode = modes.Plays (on_move d.game) }
-change boot d says.PlayOther = record d { mode = modes.Plays (other (on_move d.game)) }
-change boot d (says.UserMove m) = with_game d (played d.game m)
+change boot d says.PlayOther = record d { mode = modes.Plays (opponent_of (on_move d.game)) }
+change boot d (says.UserMove m) = with_game d (game_played d.game m)
 change boot d says.Undo = with_game d (without_last d.game 1)
 change boot d says.Remove = with_game d (without_last d.game 2)
-change boot d (says.SetBoard text) = at_position d (position_of text)
+change boot d (says.SetBoard text) = desk_at_position d (position_of text)
 change boot d says.Analyze = record d { mode = modes.Analyse }
 change boot d says.Exit = record d { mode = modes.Force }
 change boot d says.Result = record d { mode = modes.Over }

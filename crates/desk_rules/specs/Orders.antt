@@ -12,11 +12,13 @@ use Rattle.uci_lines.specs.declared.orders.GoControl.{GoControl}
 use Rattle.uci_lines.specs.declared.orders.GoControl.TheVariants.{Infinite}
 use Rattle.uci_lines.specs.Orders.{Order}
 use Rattle.uci_lines.specs.Orders as orders
-use Rattle.uci_lines.specs.OrderReading.{is_order}
+use Rattle.uci_lines.specs.OrderReading.{is_writable_order}
 use Rattle.game_record.specs.Game.{Game}
 use Rattle.game_record.specs.Line.{ply_text, is_standard}
+use Rattle.clock_map.specs.declared.request.SearchRequest.{SearchRequest}
 use Rattle.clock_map.specs.Search.{search_order}
-use Rattle.option_map.specs.Held.{with_order, with_orders, can_join}
+use Rattle.policy_rules.specs.declared.settings.Settings.{Settings}
+use Rattle.option_map.specs.Held.{held_list_with, with_orders, held_order_can_join}
 use Rattle.option_map.specs.Data.{setup_seen}
 use Rattle.search_epochs.specs.declared.words.Call.{Call}
 use Rattle.search_epochs.specs.declared.words.Call.TheVariants as calls
@@ -28,9 +30,9 @@ use Rattle.desk_rules.specs.declared.effect.AskedOrders.{AskedOrders}
 use Rattle.desk_rules.specs.declared.effect.AskedOrders.TheVariants as asks
 use Rattle.desk_rules.specs.declared.desk.Desk.{Desk}
 use Rattle.desk_rules.specs.Desk.{Situation, is_gone, analyses, on_move}
-use Rattle.desk_rules.specs.Desk.{plies, played, ponder_name, analyse_name}
+use Rattle.desk_rules.specs.Desk.{plies, game_played, ponder_name, analyse_name}
 use Rattle.option_map.specs.Settings.{OptionSetting}
-use Rattle.desk_rules.specs.Lines.{tells, asks as asked_of, asked_by, early_answer}
+use Rattle.desk_rules.specs.Lines.{check_order, asks as asked_of, order_asked_by, early_answer}
 use Rattle.desk_rules.specs.Steps.{Effect, Accepts, Boots}
 use Rattle.peer_words.specs.Bytes.{blank}
 
@@ -38,14 +40,14 @@ use Rattle.peer_words.specs.Bytes.{blank}
 
 -- what is set when Boot is left: pondering, and analysis if the desk analyses
 abbrev pub ponder_at_boot : Desk → Option Order
-ponder_at_boot d = tells d.options ponder_name d.pondering
+ponder_at_boot d = check_order d.options ponder_name d.pondering
 
 abbrev pub analysis_at_boot : Desk → Option Order
-analysis_at_boot d = if analyses d.mode then tells d.options analyse_name true else None
+analysis_at_boot d = if analyses d.mode then check_order d.options analyse_name true else None
 
 -- the order that an early line asks for, if it asks for one
 abbrev pub early_order : List OptionSetting → List ℕ → List Order
-early_order os line = option_to_list (asked_by (early_answer os line))
+early_order os line = option_to_list (order_asked_by (early_answer os line))
 
 -- the orders that early lines ask for, in turn
 abbrev pub early_orders : List OptionSetting → List (List ℕ) → List Order
@@ -75,12 +77,12 @@ orders_waiting h held d = with_orders held (asked_by_effect h d)
 -- the orders may join one after the other
 abbrev pub AllJoin : List Order → List Order → Type 0
 AllJoin held [] = Unit {0}
-AllJoin held (order ∷ later) = (can_join held order ≡ true) × AllJoin (with_order held order) later
+AllJoin held (order ∷ later) = (held_order_can_join held order ≡ true) × AllJoin (held_list_with held order) later
 
 -- the order may be written, and is a new game or sets an option
 abbrev pub IsHeld : Order → Type 0
 IsHeld orders.NewGame = Unit {0}
-IsHeld (orders.SetOption name value) = is_order (orders.SetOption name value) ≡ true
+IsHeld (orders.SetOption name value) = is_writable_order (orders.SetOption name value) ≡ true
 IsHeld order = ⊥
 
 abbrev pub AreHeld : List Order → Type 0
@@ -103,40 +105,47 @@ pondered c = None
 
 -- the game whose position is searched: for pondering the hint is its last move
 abbrev pub searched : Game → Call → Game
-searched g (calls.Ponder h) = played g h
+searched g (calls.Ponder h) = game_played g h
 searched g c = g
 
+-- what a search is made from
+abbrev pub search_request : Settings → Game → Call → SearchRequest
+search_request o g c = record {
+  settings = o;
+  side = on_move (searched g c);
+  plies = plies (searched g c);
+  kind = kind_of c;
+}
+
 -- `position` and `go` for what is owed
-abbrev pub search_orders : Desk → Call → List Order
-search_orders d c =
-    position_order (searched d.game c)
-    ∷ search_order d.clocks (on_move (searched d.game c)) (plies (searched d.game c)) (kind_of c)
-    ∷ []
+abbrev pub search_orders : Settings → Desk → Call → List Order
+search_orders o d c =
+    position_order (searched d.game c) ∷ search_order (search_request o d.game c) d.clocks ∷ []
 
 -- the orders that were chosen
-abbrev pub order_list : List Order → Desk → Orders → List Order
-order_list ws d chosen.None = []
-order_list ws d chosen.Batch = ws ++ orders.IsReady ∷ []
-order_list ws d (chosen.Begin c) = search_orders d c
-order_list ws d chosen.Hit = orders.PonderHit ∷ []
-order_list ws d chosen.Stop = orders.Stop ∷ []
+abbrev pub order_list : Settings → List Order → Desk → Orders → List Order
+order_list o ws d chosen.None = []
+order_list o ws d chosen.Batch = ws ++ orders.IsReady ∷ []
+order_list o ws d (chosen.Begin c) = search_orders o d c
+order_list o ws d chosen.Hit = orders.PonderHit ∷ []
+order_list o ws d chosen.Stop = orders.Stop ∷ []
 
 -- WORDS
 
 -- the kind of search that a `go` names
-abbrev pub kind_named : Bool → GoControl → GoKind
-kind_named true control = kinds.Ponder
-kind_named false Infinite = kinds.Analyse
-kind_named false control = kinds.Move
+abbrev pub go_kind_named : Bool → GoControl → GoKind
+go_kind_named true control = kinds.Ponder
+go_kind_named false Infinite = kinds.Analyse
+go_kind_named false control = kinds.Move
 
 -- what an order is to the dialogue
-abbrev pub word_of : Order → Word
-word_of orders.Uci = word.Uci
-word_of orders.IsReady = word.IsReady
-word_of orders.NewGame = word.Setup
-word_of orders.Stop = word.Stop
-word_of orders.PonderHit = word.PonderHit
-word_of orders.Quit = word.Quit
-word_of (orders.SetOption name value) = word.Setup
-word_of (orders.Position fen moves) = word.Position
-word_of (orders.Go ponder control depth) = word.Go (kind_named ponder control)
+abbrev pub dialogue_word_of : Order → Word
+dialogue_word_of orders.Uci = word.Uci
+dialogue_word_of orders.IsReady = word.IsReady
+dialogue_word_of orders.NewGame = word.Setup
+dialogue_word_of orders.Stop = word.Stop
+dialogue_word_of orders.PonderHit = word.PonderHit
+dialogue_word_of orders.Quit = word.Quit
+dialogue_word_of (orders.SetOption name value) = word.Setup
+dialogue_word_of (orders.Position fen moves) = word.Position
+dialogue_word_of (orders.Go ponder control depth) = word.Go (go_kind_named ponder control)

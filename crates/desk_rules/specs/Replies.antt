@@ -12,30 +12,30 @@ use Rattle.peer_words.specs.Tokens.{trimmed}
 use Rattle.cecp_lines.specs.Messages.{IfaceMsg}
 use Rattle.cecp_lines.specs.Messages as says
 use Rattle.cecp_lines.specs.Replies.{Reply}
-use Rattle.cecp_lines.specs.Replies as told
+use Rattle.cecp_lines.specs.Replies as cecp
 use Rattle.cecp_lines.specs.declared.reply.Spelling.{Spelling}
 use Rattle.cecp_lines.specs.declared.reply.Spelling.TheVariants.{Coordinates, San}
 use Rattle.cecp_lines.specs.declared.reply.Reason.TheVariants as reasons
-use Rattle.cecp_lines.specs.declared.reply.UserError.TheVariants as tell
+use Rattle.cecp_lines.specs.declared.reply.UserError.TheVariants as user_error
 use Rattle.cecp_lines.specs.declared.reply.Outcome.{Outcome}
 use Rattle.cecp_lines.specs.declared.reply.Outcome.TheVariants as outcomes
 use Rattle.uci_lines.specs.Info.{Info}
 use Rattle.game_record.specs.declared.ending.GameEnd.{GameEnd}
 use Rattle.game_record.specs.declared.ending.GameEnd.TheVariants as ends
-use Rattle.game_record.specs.Game.{Game, now_of}
+use Rattle.game_record.specs.Game.{Game, current_position}
 use Rattle.game_record.specs.Ending.{ended_of}
 use Rattle.policy_rules.specs.declared.settings.Settings.{Settings}
 use Rattle.think_text.specs.declared.line.Pondered.{Pondered}
 use Rattle.think_text.specs.Line.{thinking_line}
 use Rattle.think_text.specs.Kept.{stat01_of}
-use Rattle.option_map.specs.declared.talk.ProtoverAnswer.{ProtoverAnswer}
-use Rattle.option_map.specs.declared.talk.ProtoverAnswer.TheVariants as say
-use Rattle.option_map.specs.Due.{answer}
+use Rattle.option_map.specs.declared.negotiation.ProtoverAnswer.{ProtoverAnswer}
+use Rattle.option_map.specs.declared.negotiation.ProtoverAnswer.TheVariants as say
+use Rattle.option_map.specs.Due.{protover_answer}
 use Rattle.option_map.specs.Features.{feature_list}
 use Rattle.desk_rules.specs.declared.effect.Refusal.{Refusal}
 use Rattle.desk_rules.specs.declared.effect.Refusal.TheVariants as refusals
 use Rattle.desk_rules.specs.declared.desk.Desk.{Desk}
-use Rattle.desk_rules.specs.Desk.{Situation, table, plays, is_boot, on_move, played, has_ended}
+use Rattle.desk_rules.specs.Desk.{Situation, table, plays, is_boot, on_move, game_played, has_ended}
 use Rattle.option_map.specs.Settings.{OptionSetting}
 use Rattle.desk_rules.specs.Lines.{change, refused_option, early_answer}
 use Rattle.desk_rules.specs.Steps.{Effect, LongLine, Refuses, Accepts, Boots, Thinks}
@@ -48,10 +48,10 @@ dots = codes "..."
 
 -- the text of a refused line
 abbrev pub refused : Refusal → List ℕ → Reply
-refused (refusals.Because reason) line = told.Error reason (trimmed line)
-refused (refusals.IllegalMove m) line = told.Illegal m
-refused (refusals.GameTooLong m) line = told.IllegalLong m
-refused refusals.IllegalPosition line = told.TellError tell.Position
+refused (refusals.Because reason) line = cecp.Error reason (trimmed line)
+refused (refusals.IllegalMove m) line = cecp.Illegal m
+refused (refusals.GameTooLong m) line = cecp.IllegalLong m
+refused refusals.IllegalPosition line = cecp.TellError user_error.Position
 
 -- who is on move when the game is over by mate has lost it
 abbrev pub outcome_of : Side → GameEnd → Outcome
@@ -62,20 +62,20 @@ outcome_of s ends.Dead = outcomes.Dead
 outcome_of s ends.Repetition = outcomes.Repetition
 outcome_of s ends.Fifty = outcomes.Fifty
 
-abbrev pub result_by : Side → Option GameEnd → List Reply
-result_by s None = []
-result_by s (Some end) = told.Result (outcome_of s end) ∷ []
+abbrev pub result_reply_by : Side → Option GameEnd → List Reply
+result_reply_by s None = []
+result_reply_by s (Some end) = cecp.Result (outcome_of s end) ∷ []
 
 -- the result, if the game has ended
-abbrev pub result_of : Game → List Reply
-result_of g = result_by (on_move g) (ended_of g)
+abbrev pub result_reply_of : Game → List Reply
+result_reply_of g = result_reply_by (on_move g) (ended_of g)
 
 -- the result, if the desk plays
 abbrev pub result_at : Desk → List Reply
-result_at d = if plays d.mode then result_of d.game else []
+result_at d = if plays d.mode then result_reply_of d.game else []
 
 abbrev pub not_yet : Reply
-not_yet = told.Feature (codes "done") (codes "0")
+not_yet = cecp.Feature (codes "done") (codes "0")
 
 -- `protover` is answered by `done=0` in Boot, and later by the list
 abbrev pub protover_row : ProtoverAnswer → Desk → List Reply
@@ -83,7 +83,7 @@ protover_row say.Wait d = not_yet ∷ []
 protover_row say.List d = feature_list (table d) d.name
 
 abbrev pub offer_where : Bool → List Reply
-offer_where b = if b then told.OfferDraw ∷ [] else []
+offer_where b = if b then cecp.OfferDraw ∷ [] else []
 
 -- a draw is offered back if draws are handled, the desk plays a game that has not
 -- ended and the policy accepts
@@ -94,24 +94,24 @@ draw_row h =
 
 abbrev pub hint_row : Option Move → List Reply
 hint_row None = []
-hint_row (Some m) = told.Hint m ∷ []
+hint_row (Some m) = cecp.Hint m ∷ []
 
 unfoldable pub row_accepted : Situation → IfaceMsg → List Reply
-row_accepted h (says.Protover n) = protover_row (answer (is_boot h.engine)) h.desk
+row_accepted h (says.Protover n) = protover_row (protover_answer (is_boot h.engine)) h.desk
 row_accepted h (says.UserMove m) = result_at (change false h.desk (says.UserMove m))
 row_accepted h says.Go = result_at (change false h.desk says.Go)
 row_accepted h says.PlayOther = result_at (change false h.desk says.PlayOther)
 row_accepted h says.Draw = draw_row h
 row_accepted h says.Hint = hint_row h.desk.hint
-row_accepted h says.Dot = stat01_of h.desk.seen (now_of h.desk.game) ∷ []
+row_accepted h says.Dot = stat01_of h.desk.search_info (current_position h.desk.game) ∷ []
 row_accepted h m = []
 
 -- of these lines, what is said of the desk before the line, and of the desk after it
 abbrev pub row_before : Situation → IfaceMsg → List Reply
-row_before h (says.Protover n) = protover_row (answer (is_boot h.engine)) h.desk
+row_before h (says.Protover n) = protover_row (protover_answer (is_boot h.engine)) h.desk
 row_before h says.Draw = draw_row h
 row_before h says.Hint = hint_row h.desk.hint
-row_before h says.Dot = stat01_of h.desk.seen (now_of h.desk.game) ∷ []
+row_before h says.Dot = stat01_of h.desk.search_info (current_position h.desk.game) ∷ []
 row_before h m = []
 
 abbrev pub row_after : Desk → IfaceMsg → List Reply
@@ -121,10 +121,10 @@ row_after d says.PlayOther = result_at d
 row_after d m = []
 
 -- whether thinking lines of a search are written
-abbrev pub is_told : Situation → GoKind → Bool
-is_told h kinds.Analyse = true
-is_told h kinds.Move = h.desk.post
-is_told h kinds.Ponder = h.desk.post && h.settings.show_ponder
+abbrev pub shows_thinking : Situation → GoKind → Bool
+shows_thinking h kinds.Analyse = true
+shows_thinking h kinds.Move = h.desk.post
+shows_thinking h kinds.Ponder = h.desk.post && h.settings.show_ponder
 
 -- how the moves of thinking lines are written
 abbrev pub spelling_of : Settings → Spelling
@@ -132,33 +132,33 @@ spelling_of o = if o.show_san then San else Coordinates
 
 -- a thinking line of a Ponder search names the hint, which would be played in the present position
 abbrev pub named_hint : GoKind → Game → Option Move → Option Pondered
-named_hint kinds.Ponder g (Some hint) = Some (record { before = now_of g; hint = hint })
+named_hint kinds.Ponder g (Some hint) = Some (record { before = current_position g; hint = hint })
 named_hint k g hint = None
 
 abbrev pub list_where : Bool → Desk → List Reply
 list_where b d = if b then feature_list (table d) d.name else []
 
 abbrev pub resign_where : Bool → List Reply
-resign_where b = if b then told.Resign ∷ [] else []
+resign_where b = if b then cecp.Resign ∷ [] else []
 
 -- a thinking line, if it is shown
 abbrev pub thinking_replies : Situation → GoKind → Info → List Reply
 thinking_replies h k facts =
-    if is_told h k then
+    if shows_thinking h k then
     option_to_list
-    (thinking_line (spelling_of h.settings) facts (now_of (searched_by k h.desk.game h.desk.hint))
+    (thinking_line (spelling_of h.settings) facts (current_position (searched_by k h.desk.game h.desk.hint))
     (named_hint k h.desk.game h.desk.hint))
     else []
 
 -- a move that is shown
 abbrev pub shown_row : Situation → Move → List Reply
 shown_row h best =
-    told.Move best ∷ (result_of (played h.desk.game best) ++ resign_where (resigns_after h best))
+    cecp.Move best ∷ (result_reply_of (game_played h.desk.game best) ++ resign_where (resigns_after h best))
 
 -- the end of the engine
 abbrev pub end_row : Situation → List Reply
 end_row h =
-    list_where h.desk.due h.desk ++ (told.TellError tell.Ended ∷ resign_where (resigns_at_end h))
+    list_where h.desk.due h.desk ++ (cecp.TellError user_error.Ended ∷ resign_where (resigns_at_end h))
 
 -- what an early line is refused by, if it is
 abbrev pub early_refusal : Option Refusal → List ℕ → List Reply
@@ -175,23 +175,23 @@ abbrev pub boot_row : Desk → List Reply
 boot_row d = list_where d.due (record d { booted = true }) ++ early_refusals d.options d.early
 
 -- the lines of what comes of an event, except pongs
-unfoldable pub row : Situation → Effect → List Reply
-row h (Refuses refusal line) = refused refusal line ∷ []
-row h LongLine = told.Error reasons.LineTooLong dots ∷ []
-row h (Accepts m) = row_accepted h m
-row h Boots = boot_row h.desk
-row h (Thinks k facts) = thinking_replies h k facts
-row h (Shows best hint) = shown_row h best
-row h Forfeits = told.TellError tell.Move ∷ told.Resign ∷ []
-row h Dies = end_row h
-row h d = []
+unfoldable pub reply_row : Situation → Effect → List Reply
+reply_row h (Refuses refusal line) = refused refusal line ∷ []
+reply_row h LongLine = cecp.Error reasons.LineTooLong dots ∷ []
+reply_row h (Accepts m) = row_accepted h m
+reply_row h Boots = boot_row h.desk
+reply_row h (Thinks k facts) = thinking_replies h k facts
+reply_row h (Shows best hint) = shown_row h best
+reply_row h Forfeits = cecp.TellError user_error.Move ∷ cecp.Resign ∷ []
+reply_row h Dies = end_row h
+reply_row h d = []
 
 -- all lines of a step: its row, `resign` for an engine that is gone, then the pongs
 abbrev pub replies_of : Bool → Bool → Situation → Effect → List Reply
 replies_of closed owes h d =
     if closed then []
-    else row h d ++ resign_where (resigns_when_gone closed h d)
-    ++ (if owes then [] else map told.Pong (desk_after_effect h d).pings)
+    else reply_row h d ++ resign_where (resigns_when_gone closed h d)
+    ++ (if owes then [] else map cecp.Pong (desk_after_effect h d).pings)
 
 abbrev pub pongs : Bool → List ℕ → List Reply
-pongs b pings = if b then map told.Pong pings else []
+pongs b pings = if b then map cecp.Pong pings else []

@@ -1,4 +1,4 @@
--- What comes of an event, and what follows for the desk and the dialogue.
+-- The effect of an event, and its consequences for the desk and the dialogue.
 use Rattle.std.specs.Prelude.{ℕ, List, Bool, true, false, not, if◌then◌else◌}
 use Rattle.std.specs.Prelude.{◌&&◌, ◌||◌, [], ◌∷◌, ◌++◌, Option, Some, None}
 use Rattle.line_io.specs.Event.{Event}
@@ -11,13 +11,13 @@ use Rattle.peer_words.specs.declared.kinds.GoKind.TheVariants as kinds
 use Rattle.cecp_lines.specs.Messages.{IfaceMsg, message_of}
 use Rattle.cecp_lines.specs.Messages as says
 use Rattle.cecp_lines.specs.Reading.{message_or_fault}
-use Rattle.cecp_lines.specs.Quit.{is_quit}
+use Rattle.peer_words.specs.Quit.{is_quit}
 use Rattle.uci_lines.specs.Orders.{Order}
 use Rattle.uci_lines.specs.Info.{Info, info_of}
 use Rattle.uci_lines.specs.Messages.{EngineMsg, OptionKind, option_kind_of}
 use Rattle.uci_lines.specs.Messages as hears
 use Rattle.uci_lines.specs.Engine.{engine_message}
-use Rattle.game_record.specs.Game.{Game, now_of}
+use Rattle.game_record.specs.Game.{Game, current_position}
 use Rattle.think_text.specs.Kept.{nothing_seen, after_info}
 use Rattle.option_map.specs.Settings.{after_declared}
 use Rattle.option_map.specs.Features.{shown_name}
@@ -36,9 +36,9 @@ use Rattle.desk_rules.specs.declared.effect.Effect as code
 use Rattle.desk_rules.specs.declared.effect.Effect.TheVariants as effects
 use Rattle.desk_rules.specs.declared.desk.Desk.{Desk}
 use Rattle.desk_rules.specs.Desk.{Situation, is_gone, is_boot, is_getting}
-use Rattle.desk_rules.specs.Desk.{current, call_of, owes_move, played, has_ended}
-use Rattle.desk_rules.specs.Lines.{Verdict, Refused, Accepted, Early, verdict, asks}
-use Rattle.desk_rules.specs.Lines.{is_epoch_line, set_up, change, clears_scores}
+use Rattle.desk_rules.specs.Desk.{current, call_of_desk, owes_move, game_played, has_ended}
+use Rattle.desk_rules.specs.Lines.{Verdict, Refused, Accepted, Early, line_verdict, asks}
+use Rattle.desk_rules.specs.Lines.{is_epoch_line, position_set_up, change, clears_scores}
 
 -- what comes of an event, whatever memory its line lies in
 pub data Effect : Type 0 where
@@ -83,14 +83,14 @@ line_effect (Accepted m) line = Accepts m
 line_effect Early line = Defers line
 
 -- a current search reports on itself
-abbrev pub thinks : Option GoKind → Info → Effect
-thinks (Some k) facts = Thinks k facts
-thinks None facts = Nothing
+abbrev pub search_reports : Option GoKind → Info → Effect
+search_reports (Some k) facts = Thinks k facts
+search_reports None facts = Nothing
 
 -- a current search for a Move is answered
 abbrev pub shows : Game → Option Move → Option Move → Effect
 shows g None hint = Forfeits
-shows g (Some m) hint = if legal (now_of g) m then Shows m hint else Forfeits
+shows g (Some m) hint = if legal (current_position g) m then Shows m hint else Forfeits
 
 abbrev pub answers : EngineState → Game → Option Move → Option Move → Effect
 answers (states.Search kinds.Move false stopped) g best hint = shows g best hint
@@ -103,7 +103,7 @@ engine_says h (hears.OptionLine name shape) =
     if is_boot h.engine then Declares name shape else Nothing
 engine_says h hears.UciOk = if is_boot h.engine then Boots else Nothing
 engine_says h hears.ReadyOk = if is_getting h.engine then Readies else Nothing
-engine_says h (hears.Info facts) = thinks (current h.engine) facts
+engine_says h (hears.Info facts) = search_reports (current h.engine) facts
 engine_says h (hears.Best best hint) = answers h.engine h.desk.game best hint
 engine_says h hears.Nothing = Nothing
 
@@ -114,7 +114,7 @@ dies e = if is_gone e then Nothing else Dies
 unfoldable pub classify : Situation → List Order → Event → Effect
 classify h held events.Open = Opens
 classify h held (events.Iface line) =
-    if h.closed then Nothing else line_effect (verdict h held line (message_or_fault line)) line
+    if h.closed then Nothing else line_effect (line_verdict h held line (message_or_fault line)) line
 classify h held events.IfaceLong = if h.closed then Nothing else LongLine
 classify h held events.IfaceEnd = Nothing
 classify h held events.IfaceLost = Nothing
@@ -148,7 +148,7 @@ what_of d = Quiet
 
 -- the position that an accepted line sets up, if it sets one up
 abbrev pub starts_from : Effect → Option Position
-starts_from (Accepts m) = set_up m
+starts_from (Accepts m) = position_set_up m
 starts_from d = None
 
 -- the epoch rises with each accepted epoch line and each shown move
@@ -162,16 +162,16 @@ begins_epoch h d = false
 -- the hint of a shown move counts if it is legal after that move
 abbrev pub hint_after : Game → Option Move → Option Move
 hint_after g None = None
-hint_after g (Some m) = if legal (now_of g) m then Some m else None
+hint_after g (Some m) = if legal (current_position g) m then Some m else None
 
 -- the game whose position an open search of this kind searches
 abbrev pub searched_by : GoKind → Game → Option Move → Game
-searched_by kinds.Ponder g (Some m) = played g m
+searched_by kinds.Ponder g (Some m) = game_played g m
 searched_by k g hint = g
 
 -- `resign` follows the shown move
 abbrev pub resigns_after : Situation → Move → Bool
-resigns_after h m = h.resigns && not (has_ended (played h.desk.game m))
+resigns_after h m = h.resigns && not (has_ended (game_played h.desk.game m))
 
 -- `resign` is written when the engine ends
 abbrev pub resigns_at_end : Situation → Bool
@@ -182,8 +182,8 @@ over_where b m = if b then modes.Over else m
 
 abbrev pub desk_with_move : Situation → Move → Option Move → Desk
 desk_with_move h m hint = record h.desk {
-  game = played h.desk.game m;
-  hint = hint_after (played h.desk.game m) hint;
+  game = game_played h.desk.game m;
+  hint = hint_after (game_played h.desk.game m) hint;
   mode = over_where (resigns_after h m) h.desk.mode;
 }
 
@@ -197,7 +197,7 @@ desk_after_effect h (Declares name shape) = record h.desk {
 }
 desk_after_effect h Boots = record h.desk { booted = true; due = false; early = [] }
 desk_after_effect h (Thinks k facts) = record h.desk {
-  seen = after_info h.desk.seen facts (now_of (searched_by k h.desk.game h.desk.hint));
+  search_info = after_info h.desk.search_info facts (current_position (searched_by k h.desk.game h.desk.hint));
 }
 desk_after_effect h (Shows best hint) = desk_with_move h best hint
 desk_after_effect h Forfeits = record h.desk { mode = modes.Over }
@@ -218,11 +218,11 @@ is_boots d = false
 
 -- the call after an event
 abbrev pub call_after : Bool → Situation → Effect → Call
-call_after closed h d = call_of closed (is_gone h.engine || is_death d) (desk_after_effect h d)
+call_after closed h d = call_of_desk closed (is_gone h.engine || is_death d) (desk_after_effect h d)
 
 -- The engine is gone, and the desk would call for a Move if it were there.
 abbrev pub owes_when_gone : Bool → Bool → Desk → Bool
-owes_when_gone closed gone d = gone && is_move (call_of closed false d)
+owes_when_gone closed gone d = gone && is_move (call_of_desk closed false d)
 
 -- An engine that is gone resigns the game in which it owes a move, if the settings say so: by the
 -- desk that the event leaves.
@@ -245,14 +245,14 @@ desk_after closed owes hits h d = record (desk_after_effect h d) {
   mode = over_where (resigns_when_gone closed h d) (desk_after_effect h d).mode;
   pings = (if answers_pings closed owes then [] else (desk_after_effect h d).pings);
   early = (if closed then [] else (desk_after_effect h d).early);
-  seen =
-      (if clears_seen (begins_epoch h d) hits then nothing_seen else (desk_after_effect h d).seen);
+  search_info =
+      (if clears_seen (begins_epoch h d) hits then nothing_seen else (desk_after_effect h d).search_info);
 }
 
 -- the scores of shown moves, the newest first
 abbrev pub scores_after : Situation → Effect → List Score → List Score
 scores_after h (Accepts m) scores = if clears_scores m then [] else scores
-scores_after h (Shows best hint) scores = h.desk.seen.score ∷ scores
+scores_after h (Shows best hint) scores = h.desk.search_info.score ∷ scores
 scores_after h d scores = scores
 
 -- what is counted of them after an effect

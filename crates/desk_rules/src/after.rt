@@ -6,16 +6,16 @@ ghost use Rattle.cecp_lines.specs.Reading.{CanBeRead};
 ghost use Rattle.uci_lines.specs.Info.{info_of};
 ghost use Rattle.uci_lines.specs.Messages.{Info as Heard};
 ghost use Rattle.game_record.specs.declared.game.TheConstants.{MOST_PLIES};
-ghost use Rattle.game_record.specs.Game.{ply_of, now_of, with_ply, IsPlayable};
-ghost use Rattle.think_text.specs.Line.{IsHeard};
+ghost use Rattle.game_record.specs.Game.{ply_of, current_position, with_ply, IsPlayablePly};
+ghost use Rattle.think_text.specs.Line.{InfoIsHeard};
 ghost use Rattle.think_text.specs.Kept.{after_info, nothing_seen};
 ghost use Rattle.option_map.specs.Features.{reply_lines};
 ghost use Rattle.desk_rules.specs.Desk.{at, is_boot};
-ghost use Rattle.desk_rules.specs.Lines.{set_up, change};
+ghost use Rattle.desk_rules.specs.Lines.{position_set_up, change};
 ghost use Rattle.desk_rules.specs.Steps.{effect_of, starts_from, hint_after, searched_by, resigns_at_end, owes_when_gone, over_where, desk_with_move, desk_after_effect, answers_pings};
-ghost use Rattle.desk_rules.specs.Replies.{row_accepted, resign_where, thinking_replies, shown_row, boot_row, end_row, row, pongs};
-ghost use Rattle.desk_rules.specs.Early.{AreEarly};
-ghost use Rattle.desk_rules.specs.Fits.{IsHintPlayable, IsSound, IsFit, IsServed, IsSaid, CanChange};
+ghost use Rattle.desk_rules.specs.Replies.{row_accepted, resign_where, thinking_replies, shown_row, boot_row, end_row, reply_row, pongs};
+ghost use Rattle.desk_rules.specs.Early.{EarlyLinesAreFew};
+ghost use Rattle.desk_rules.specs.Fits.{IsHintPlayable, DeskInvariant, IsFit, IsServed, IsSaid, CanChange};
 ghost use Rattle.desk_rules.specs.declared.sizes.TheConstants.{BOOT_REPLIES, ENGINE_END, FEATURE_LIST, OBEYED, SHORT_REPLY, STEP_REPLIES, SHOWN_MOVE, THINKING_LINE};
 ghost use Rattle.desk_rules.specs.declared.pings.TheConstants.{MOST_PINGS};
 
@@ -24,15 +24,15 @@ use crate::answers::{
     put_thinking, spelling_of,
 };
 use crate::call::{has_ended, is_boot};
-use crate::{Context, Desk, Effect, Mode, Ruling};
+use crate::{Context, Desk, Effect, EventEffect, Mode};
 use cecp_lines::{IfaceMsg, Reason};
 use chess_board::{Move, Position};
 use game_record::Game;
 use line_io::Out;
-use option_map::FeatureTalk;
+use option_map::FeatureNegotiation;
 use peer_words::GoKind;
 use policy_rules::Settings;
-use think_text::SeenThinking;
+use think_text::SearchInfo;
 use uci_lines::Info;
 
 // The hint of a shown move counts if it is legal after that move.
@@ -53,14 +53,14 @@ fn over_where(over: bool, mode: Mode) -> Mode
 
 // The position after a move that can be played.
 pub(crate) fn position_after(game: &Game, m: Move) -> Position
-    requires { IsPlayable (now_of game.now) (ply_of m) }
-    ensures { result ≡ now_of (with_ply game.now (ply_of m)) }
+    requires { IsPlayablePly (current_position game.now) (ply_of m) }
+    ensures { result ≡ current_position (with_ply game.now (ply_of m)) }
 {
     game.now().play(m)
 }
 
 // In a closed session it stays as it is.
-fn leave_boot(due: &mut FeatureTalk, closed: bool)
+fn leave_boot(due: &mut FeatureNegotiation, closed: bool)
     ensures { due.new ≡ (due.old && closed) }
 {
     if !closed {
@@ -72,7 +72,7 @@ impl Desk {
     // The position that an open search of this kind searches.
     pub(crate) fn searched(&self, kind: GoKind) -> Position
         requires { IsHintPlayable self.now }
-        ensures { result ≡ now_of (searched_by kind self.now.game self.now.hint) }
+        ensures { result ≡ current_position (searched_by kind self.now.game self.now.hint) }
     {
         match (kind, self.hint) {
             (GoKind::Ponder, Some(hint)) => position_after(&self.game, hint),
@@ -80,7 +80,7 @@ impl Desk {
         }
     }
 
-    // Whether `resign` is written when the engine ends.
+    // True if `resign` is written when the engine ends.
     pub(crate) fn resigns_at_end(&self, context: Context) -> bool
         ensures { result ≡ resigns_at_end (at context self.now) }
     {
@@ -89,8 +89,8 @@ impl Desk {
 
     // Obeys a line; `start` is the position that it sets up.
     fn obey(&mut self, context: Context, message: &IfaceMsg, start: Option<Position>, out: &mut Out)
-        requires start { start ≡ set_up (message_of message.now) }
-        requires sound { IsSound self.old }
+        requires start { start ≡ position_set_up (message_of message.now) }
+        requires sound { DeskInvariant self.old }
         requires change { CanChange self.old (message_of message.now) }
         requires read { CanBeRead (message_of message.now) }
         requires room { length out.old.text + OBEYED ≤ out.old.room }
@@ -109,7 +109,7 @@ impl Desk {
 
     // Has the engine leave Boot.
     fn boot(&mut self, out: &mut Out)
-        requires early { AreEarly self.old.early }
+        requires early { EarlyLinesAreFew self.old.early }
         requires room { length out.old.text + BOOT_REPLIES ≤ out.old.room }
         ensures desk { self.new ≡ record self.old { booted = true; due = false; early = [] } }
         ensures lines { out.new ≡ with out.old (reply_lines (boot_row self.old)) }
@@ -124,14 +124,14 @@ impl Desk {
 
     // Hears a current search.
     fn think(&mut self, context: Context, kind: GoKind, info: &Info, out: &mut Out)
-        requires sound { IsSound self.old }
-        requires heard { IsHeard (info_of info.now) }
+        requires sound { DeskInvariant self.old }
+        requires heard { InfoIsHeard (info_of info.now) }
         requires said { IsSaid (Heard (info_of info.now)) }
         requires room { length out.old.text + THINKING_LINE ≤ out.old.room }
         ensures desk { self.new
             ≡ record self.old {
-              seen = after_info self.old.seen (info_of info.now)
-                  (now_of (searched_by kind self.old.game self.old.hint));
+              search_info = after_info self.old.search_info (info_of info.now)
+                  (current_position (searched_by kind self.old.game self.old.hint));
             } }
         ensures lines { out.new
             ≡ with out.old (reply_lines
@@ -141,16 +141,16 @@ impl Desk {
             ≤ THINKING_LINE }
     {
         let position = self.searched(kind);
-        if self.is_told(context, kind) {
+        if self.shows_thinking(context, kind) {
             let hint = named_hint(kind, &self.game, self.hint);
             put_thinking(spelling_of(context.settings), info, &position, hint, out);
         }
-        self.seen.hear(info, &position);
+        self.search_info.hear(info, &position);
     }
 
     // Shows a move, and plays it.
     fn show(&mut self, context: Context, best: Move, hint: Option<Move>, out: &mut Out)
-        requires legal { IsPlayable (now_of self.old.game) (ply_of best) }
+        requires legal { IsPlayablePly (current_position self.old.game) (ply_of best) }
         requires moves { length self.old.game.moves < MOST_PLIES }
         requires room { length out.old.text + SHOWN_MOVE ≤ out.old.room }
         ensures desk { self.new ≡ desk_with_move (at context self.old) best hint }
@@ -185,18 +185,19 @@ impl Desk {
     }
 
     // Writes the lines of an effect, except pongs, and changes the desk.
-    #[tactic(auto, unfolding(crate::specs::Steps::desk_after_effect, crate::specs::Replies::row))]
+    #[tactic(auto, unfolding(crate::specs::Steps::desk_after_effect, crate::specs::Replies::reply_row))]
     fn follow(&mut self, context: Context, effect: &Effect, start: Option<Position>, out: &mut Out)
         requires start { start ≡ starts_from (effect_of effect.now) }
-        requires sound { IsSound self.old }
+        requires sound { DeskInvariant self.old }
         requires fits { IsFit (at context self.old) (effect_of effect.now) }
         requires served { IsServed (at context self.old) }
         requires pings { length self.old.pings ≤ MOST_PINGS }
         requires room { length out.old.text + STEP_REPLIES ≤ out.old.room }
         ensures desk { self.new ≡ desk_after_effect (at context self.old) (effect_of effect.now) }
         ensures lines { out.new
-            ≡ with out.old (reply_lines (row (at context self.old) (effect_of effect.now))) }
-        ensures short { length (reply_lines (row (at context self.old) (effect_of effect.now)))
+            ≡ with out.old (reply_lines (reply_row (at context self.old) (effect_of effect.now))) }
+        ensures short { length (reply_lines (reply_row (at context self.old) (effect_of
+            effect.now)))
             ≤ STEP_REPLIES }
     {
         match effect {
@@ -221,24 +222,31 @@ impl Desk {
         }
     }
 
-    /// Writes the lines of the effect of a ruling, except pongs, none if the session is closed then, and changes the desk.
-    pub fn commit(&mut self, context: Context, ruling: &Ruling, closed: bool, out: &mut Out)
-        requires sound { IsSound self.old }
-        requires start { ruling.now.start ≡ starts_from (effect_of ruling.now.effect) }
-        requires fits { IsFit (at context self.old) (effect_of ruling.now.effect) }
+    /// Writes the lines of a decided effect, except pongs, none if the session is closed then, and changes the desk.
+    pub fn commit(
+        &mut self,
+        context: Context,
+        event_effect: &EventEffect,
+        closed: bool,
+        out: &mut Out,
+    )
+        requires sound { DeskInvariant self.old }
+        requires start { event_effect.now.start ≡ starts_from (effect_of event_effect.now.effect) }
+        requires fits { IsFit (at context self.old) (effect_of event_effect.now.effect) }
         requires served { IsServed (at context self.old) }
         requires pings { length self.old.pings ≤ MOST_PINGS }
         requires empty { out.old ≡ empty out.old.room }
         requires room { STEP_REPLIES ≤ out.old.room }
         ensures desk { self.new
-            ≡ desk_after_effect (at context self.old) (effect_of ruling.now.effect) }
+            ≡ desk_after_effect (at context self.old) (effect_of event_effect.now.effect) }
         ensures lines { out.new
             ≡ with out.old
             (reply_lines
-            (cond closed [] (row (at context self.old) (effect_of ruling.now.effect)))) }
+            (cond closed [] (reply_row (at context self.old) (effect_of
+            event_effect.now.effect)))) }
         ensures short { length out.new.text ≤ STEP_REPLIES }
     {
-        self.follow(context, &ruling.effect, ruling.start, out);
+        self.follow(context, &event_effect.effect, event_effect.start, out);
         if closed {
             out.clear();
         }
@@ -274,11 +282,11 @@ impl Desk {
             ≡ record self.old {
               pings = cond (answers_pings closed owes) [] self.old.pings;
               early = cond closed [] self.old.early;
-              seen = cond clears nothing_seen self.old.seen;
+              search_info = cond clears nothing_seen self.old.search_info;
             } }
     {
         if clears {
-            self.seen = SeenThinking::new();
+            self.search_info = SearchInfo::new();
         }
         if closed {
             self.early.clear();

@@ -3,18 +3,18 @@ ghost use Rattle.std.specs.Prelude.{◌≡◌, ◌+◌, ◌*◌, ◌≤◌, ◌�
 ghost use Rattle.std.specs.Option.{option_to_list};
 ghost use Rattle.line_io.specs.Out.{with};
 ghost use Rattle.cecp_lines.specs.Messages.{message_of};
-ghost use Rattle.cecp_lines.specs.Replies.{reply_of, HasWritableMoves, IsWritable, borrowed_length, Fits as HasNumbers};
-ghost use Rattle.cecp_lines.specs.Replies as told;
-ghost use Rattle.cecp_lines.specs.declared.reply.UserError.TheVariants as tell;
+ghost use Rattle.cecp_lines.specs.Replies.{reply_of, HasWritableMoves, IsWritable, borrowed_length, HasFieldRanges as HasNumbers};
+ghost use Rattle.cecp_lines.specs.Replies as cecp;
+ghost use Rattle.cecp_lines.specs.declared.reply.UserError.TheVariants as user_error;
 ghost use Rattle.uci_lines.specs.Info.{info_of};
 ghost use Rattle.uci_lines.specs.Messages.{Info as SaysInfo};
-ghost use Rattle.think_text.specs.Line.{thinking_line, IsPlayable as CanBePlayed};
+ghost use Rattle.think_text.specs.Line.{thinking_line, IsPlayableAsHint as CanBePlayed};
 ghost use Rattle.think_text.specs.Kept.{stat01_of};
-ghost use Rattle.option_map.specs.Due.{answer};
+ghost use Rattle.option_map.specs.Due.{protover_answer};
 ghost use Rattle.option_map.specs.Features.{feature_list, reply_line, reply_lines};
 ghost use Rattle.desk_rules.specs.Desk.{at, table};
-ghost use Rattle.desk_rules.specs.Replies.{refused, outcome_of, result_by, result_of, protover_row, offer_where, draw_row, hint_row, row_before, row_after, is_told, named_hint, spelling_of, list_where, resign_where};
-ghost use Rattle.desk_rules.specs.Fits.{IsSound, IsSaid, IsTellable};
+ghost use Rattle.desk_rules.specs.Replies.{refused, outcome_of, result_reply_by, result_reply_of, protover_row, offer_where, draw_row, hint_row, row_before, row_after, shows_thinking, named_hint, spelling_of, list_where, resign_where};
+ghost use Rattle.desk_rules.specs.Fits.{DeskInvariant, IsSaid, IsMoveWritable};
 ghost use Rattle.line_io.specs.declared.limits.TheConstants.{PEER_LINE};
 ghost use Rattle.desk_rules.specs.declared.sizes.TheConstants.{ENGINE_END, ERROR_REPLY, FEATURE_LIST, SHORT_REPLY, SHOWN_MOVE, THINKING_LINE};
 
@@ -27,7 +27,7 @@ use line_io::Out;
 use option_map::{write_bare_list, write_list};
 use peer_words::{GoKind, trim};
 use policy_rules::Settings;
-use think_text::{Pondered, SeenThinking, stat01, thinking};
+use think_text::{Pondered, SearchInfo, stat01, thinking};
 use uci_lines::Info;
 
 // Puts a reply and its line feed.
@@ -54,9 +54,9 @@ fn put_short(reply: &Reply, out: &mut Out)
 
 // Puts an error, for which there may be no more room than it takes.
 pub(crate) fn put_error_line(reason: Reason, line: &[u8], out: &mut Out)
-    requires { length out.old.text + length (reply_lines (told.Error reason line.now ∷ []))
+    requires { length out.old.text + length (reply_lines (cecp.Error reason line.now ∷ []))
         ≤ out.old.room }
-    ensures { out.new ≡ with out.old (reply_lines (told.Error reason line.now ∷ [])) }
+    ensures { out.new ≡ with out.old (reply_lines (cecp.Error reason line.now ∷ [])) }
 {
     put_reply(&Reply::Error { reason, line }, out);
 }
@@ -64,15 +64,15 @@ pub(crate) fn put_error_line(reason: Reason, line: &[u8], out: &mut Out)
 pub(crate) fn put_error(reason: Reason, line: &[u8], out: &mut Out)
     requires line { length line.now ≤ PEER_LINE }
     requires room { length out.old.text + ERROR_REPLY ≤ out.old.room }
-    ensures line { out.new ≡ with out.old (reply_lines (told.Error reason line.now ∷ [])) }
-    ensures short { length (reply_lines (told.Error reason line.now ∷ [])) ≤ ERROR_REPLY }
+    ensures line { out.new ≡ with out.old (reply_lines (cecp.Error reason line.now ∷ [])) }
+    ensures short { length (reply_lines (cecp.Error reason line.now ∷ [])) ≤ ERROR_REPLY }
 {
     put_reply(&Reply::Error { reason, line }, out);
 }
 
 // Refuses a line.
 pub(crate) fn put_refused(refusal: Refusal, line: &[u8], out: &mut Out)
-    requires moves { IsTellable refusal }
+    requires moves { IsMoveWritable refusal }
     requires line { length line.now ≤ PEER_LINE }
     requires room { length out.old.text + ERROR_REPLY ≤ out.old.room }
     ensures line { out.new ≡ with out.old (reply_lines (refused refusal line.now ∷ [])) }
@@ -101,8 +101,8 @@ fn outcome_of(side: Side, end: GameEnd) -> Outcome
 
 fn put_result(side: Side, end: Option<GameEnd>, out: &mut Out)
     requires { length out.old.text + SHORT_REPLY ≤ out.old.room }
-    ensures line { out.new ≡ with out.old (reply_lines (result_by side end)) }
-    ensures short { length (reply_lines (result_by side end)) ≤ SHORT_REPLY }
+    ensures line { out.new ≡ with out.old (reply_lines (result_reply_by side end)) }
+    ensures short { length (reply_lines (result_reply_by side end)) ≤ SHORT_REPLY }
 {
     if let Some(end) = end {
         put_short(&Reply::Result(outcome_of(side, end)), out);
@@ -112,8 +112,8 @@ fn put_result(side: Side, end: Option<GameEnd>, out: &mut Out)
 // Puts the result that a game has.
 pub(crate) fn put_result_of(game: &Game, out: &mut Out)
     requires { length out.old.text + SHORT_REPLY ≤ out.old.room }
-    ensures line { out.new ≡ with out.old (reply_lines (result_of game.now)) }
-    ensures short { length (reply_lines (result_of game.now)) ≤ SHORT_REPLY }
+    ensures line { out.new ≡ with out.old (reply_lines (result_reply_of game.now)) }
+    ensures short { length (reply_lines (result_reply_of game.now)) ≤ SHORT_REPLY }
 {
     put_result(on_move(game), game.ended(), out);
 }
@@ -149,18 +149,18 @@ fn put_hint(hint: Option<Move>, out: &mut Out)
     }
 }
 
-fn put_stat(seen: &SeenThinking, at: &Position, out: &mut Out)
-    requires current { IfSome seen.now.current IsWritable }
+fn put_stat(search_info: &SearchInfo, at: &Position, out: &mut Out)
+    requires current { IfSome search_info.now.current IsWritable }
     requires room { length out.old.text + SHORT_REPLY ≤ out.old.room }
-    ensures line { out.new ≡ with out.old (reply_lines (stat01_of seen.now at.now ∷ [])) }
-    ensures short { length (reply_lines (stat01_of seen.now at.now ∷ [])) ≤ SHORT_REPLY }
+    ensures line { out.new ≡ with out.old (reply_lines (stat01_of search_info.now at.now ∷ [])) }
+    ensures short { length (reply_lines (stat01_of search_info.now at.now ∷ [])) ≤ SHORT_REPLY }
 {
     // Read for the proof alone: each number fits its type, so the line is short.
-    let _depth = seen.depth;
-    let _time = seen.time;
-    let _nodes = seen.nodes;
-    let _number = seen.number;
-    stat01(seen, at, out);
+    let _depth = search_info.depth;
+    let _time = search_info.time;
+    let _nodes = search_info.nodes;
+    let _number = search_info.number;
+    stat01(search_info, at, out);
     out.put(b"\n");
 }
 
@@ -186,7 +186,7 @@ pub(crate) fn put_thinking(
     }
 }
 
-// How the moves of thinking lines are written.
+// The spelling of the moves of thinking lines.
 pub(crate) fn spelling_of(settings: Settings) -> Spelling
     ensures { result ≡ spelling_of settings }
 {
@@ -244,8 +244,10 @@ impl Desk {
 
     fn put_protover(&self, boot: bool, out: &mut Out)
         requires { length out.old.text + FEATURE_LIST ≤ out.old.room }
-        ensures lines { out.new ≡ with out.old (reply_lines (protover_row (answer boot) self.now)) }
-        ensures short { length (reply_lines (protover_row (answer boot) self.now)) ≤ FEATURE_LIST }
+        ensures lines { out.new ≡ with out.old (reply_lines (protover_row (protover_answer boot)
+            self.now)) }
+        ensures short { length (reply_lines (protover_row (protover_answer boot) self.now)) ≤
+            FEATURE_LIST }
     {
         if boot {
             put_reply(
@@ -262,7 +264,7 @@ impl Desk {
 
     // Puts the lines of an accepted message that report on the desk before it.
     pub(crate) fn put_before(&self, context: Context, message: &IfaceMsg, out: &mut Out)
-        requires sound { IsSound self.now }
+        requires sound { DeskInvariant self.now }
         requires room { length out.old.text + FEATURE_LIST ≤ out.old.room }
         ensures lines { out.new
             ≡ with out.old
@@ -280,7 +282,7 @@ impl Desk {
                 out,
             ),
             IfaceMsg::Hint => put_hint(self.hint, out),
-            IfaceMsg::Dot => put_stat(&self.seen, self.game.now(), out),
+            IfaceMsg::Dot => put_stat(&self.search_info, self.game.now(), out),
             _ => {}
         }
     }
@@ -303,9 +305,9 @@ impl Desk {
         }
     }
 
-    // Whether thinking lines of a search are written.
-    pub(crate) fn is_told(&self, context: Context, kind: GoKind) -> bool
-        ensures { result ≡ is_told (at context self.now) kind }
+    // True if thinking lines of a search are written.
+    pub(crate) fn shows_thinking(&self, context: Context, kind: GoKind) -> bool
+        ensures { result ≡ shows_thinking (at context self.now) kind }
     {
         match kind {
             GoKind::Analyse => true,
@@ -320,9 +322,9 @@ impl Desk {
         ensures lines { out.new
             ≡ with out.old
             (reply_lines (list_where self.now.due self.now
-            ++ (told.TellError tell.Ended ∷ resign_where resigns))) }
+            ++ (cecp.TellError user_error.Ended ∷ resign_where resigns))) }
         ensures short { length (reply_lines (list_where self.now.due self.now
-            ++ (told.TellError tell.Ended ∷ resign_where resigns))) ≤ ENGINE_END }
+            ++ (cecp.TellError user_error.Ended ∷ resign_where resigns))) ≤ ENGINE_END }
     {
         self.put_due_list(self.booted, out);
         put_short(&Reply::TellError(UserError::Ended), out);
@@ -336,9 +338,9 @@ pub(crate) fn put_shown(best: Move, game: &Game, resigns: bool, out: &mut Out)
     requires room { length out.old.text + SHOWN_MOVE ≤ out.old.room }
     ensures lines { out.new
         ≡ with out.old
-        (reply_lines (told.Move best ∷ (result_of game.now ++ resign_where resigns))) }
-    ensures short { length (reply_lines (told.Move best
-        ∷ (result_of game.now ++ resign_where resigns))) ≤ SHOWN_MOVE }
+        (reply_lines (cecp.Move best ∷ (result_reply_of game.now ++ resign_where resigns))) }
+    ensures short { length (reply_lines (cecp.Move best
+        ∷ (result_reply_of game.now ++ resign_where resigns))) ≤ SHOWN_MOVE }
 {
     put_short(&Reply::Move(best), out);
     put_result_of(game, out);
@@ -349,8 +351,8 @@ pub(crate) fn put_shown(best: Move, game: &Game, resigns: bool, out: &mut Out)
 pub(crate) fn put_forfeit(out: &mut Out)
     requires { length out.old.text + SHOWN_MOVE ≤ out.old.room }
     ensures lines { out.new
-        ≡ with out.old (reply_lines (told.TellError tell.Move ∷ told.Resign ∷ [])) }
-    ensures short { length (reply_lines (told.TellError tell.Move ∷ told.Resign ∷ []))
+        ≡ with out.old (reply_lines (cecp.TellError user_error.Move ∷ cecp.Resign ∷ [])) }
+    ensures short { length (reply_lines (cecp.TellError user_error.Move ∷ cecp.Resign ∷ []))
         ≤ SHOWN_MOVE }
 {
     put_short(&Reply::TellError(UserError::Move), out);
@@ -359,8 +361,8 @@ pub(crate) fn put_forfeit(out: &mut Out)
 
 fn put_pong(number: u32, out: &mut Out)
     requires { length out.old.text + 16 ≤ out.old.room }
-    ensures line { out.new ≡ with out.old (reply_line (told.Pong number)) }
-    ensures short { length (reply_line (told.Pong number)) ≤ 16 }
+    ensures line { out.new ≡ with out.old (reply_line (cecp.Pong number)) }
+    ensures short { length (reply_line (cecp.Pong number)) ≤ 16 }
 {
     put_reply(&Reply::Pong(number), out);
 }
@@ -368,7 +370,7 @@ fn put_pong(number: u32, out: &mut Out)
 /// Puts a pong for each ping.
 pub fn put_pongs(numbers: &[u32], out: &mut Out)
     requires { length out.old.text + 16 * length numbers.now ≤ out.old.room }
-    ensures lines { out.new ≡ with out.old (reply_lines (map told.Pong numbers.now)) }
+    ensures lines { out.new ≡ with out.old (reply_lines (map cecp.Pong numbers.now)) }
     ensures room { length out.new.text ≤ length out.old.text + 16 * length numbers.now }
 {
     for number in numbers {

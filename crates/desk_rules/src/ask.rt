@@ -6,7 +6,7 @@ ghost use Rattle.uci_lines.specs.Orders.{optional_now};
 ghost use Rattle.option_map.specs.Asked.{asked};
 ghost use Rattle.option_map.specs.Data.{order_seen, setup_seen, answer_seen};
 ghost use Rattle.desk_rules.specs.Desk.{table, analyses};
-ghost use Rattle.desk_rules.specs.Lines.{switch_text, switches, tells, asks_for_mode, asked_by, asks};
+ghost use Rattle.desk_rules.specs.Lines.{switch_text, switches, check_order, asks_for_mode, order_asked_by, asks};
 ghost use Rattle.desk_rules.specs.Orders.{ponder_at_boot, analysis_at_boot};
 
 use crate::Desk;
@@ -33,7 +33,7 @@ fn switch(spelled: Option<&[u8]>, on: bool) -> Option<SetupOrder<'_>>
     }
 }
 
-// What sets an option if none is declared.
+// The options' answer to a message if none is declared.
 fn no_options(message: &IfaceMsg) -> Result<Option<AskedOption<'static>>, OptionFault>
     ensures { answer_seen result ≡ asked [] (message_of message.now) }
 {
@@ -45,7 +45,7 @@ fn no_options(message: &IfaceMsg) -> Result<Option<AskedOption<'static>>, Option
 
 // The order that sets an option, or none if it is not set.
 pub(crate) fn set(answer: Result<Option<AskedOption<'_>>, OptionFault>) -> Option<SetupOrder<'_>>
-    ensures { option_map setup_seen result ≡ asked_by (answer_seen answer.entry) }
+    ensures { option_map setup_seen result ≡ order_asked_by (answer_seen answer.entry) }
 {
     match answer {
         Ok(Some(asked)) => Some(SetupOrder::Set(asked)),
@@ -55,8 +55,8 @@ pub(crate) fn set(answer: Result<Option<AskedOption<'_>>, OptionFault>) -> Optio
 
 impl Desk {
     // The order that sets a check option, if that counts as declared.
-    fn tells(&self, name: &'static [u8], on: bool) -> Option<SetupOrder<'_>>
-        ensures { option_map setup_seen result ≡ tells (table self.now) name.now on }
+    fn check_order(&self, name: &'static [u8], on: bool) -> Option<SetupOrder<'_>>
+        ensures { option_map setup_seen result ≡ check_order (table self.now) name.now on }
     {
         switch(self.spelled(name), on)
     }
@@ -68,7 +68,7 @@ impl Desk {
         if analyses(self.mode) == to {
             None
         } else {
-            self.tells(b"UCI_AnalyseMode", to)
+            self.check_order(b"UCI_AnalyseMode", to)
         }
     }
 
@@ -108,8 +108,8 @@ impl Desk {
             | IfaceMsg::Exit
             | IfaceMsg::Result => self.asks_for_mode(false),
             IfaceMsg::Analyze => self.asks_for_mode(true),
-            IfaceMsg::Hard => self.tells(b"Ponder", true),
-            IfaceMsg::Easy => self.tells(b"Ponder", false),
+            IfaceMsg::Hard => self.check_order(b"Ponder", true),
+            IfaceMsg::Easy => self.check_order(b"Ponder", false),
             _ => set(answer),
         }
     }

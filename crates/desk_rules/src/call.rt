@@ -1,13 +1,13 @@
-// What the desk calls for.
+// The calls of the desk.
 ghost use Rattle.std.specs.Prelude.{◌≡◌};
 ghost use Rattle.std.specs.Option.{is_some};
 ghost use Rattle.chess_board.specs.Board.{same_side};
-ghost use Rattle.game_record.specs.Game.{now_of};
+ghost use Rattle.game_record.specs.Game.{current_position};
 ghost use Rattle.game_record.specs.Ending.{has_legal, ended_of};
 ghost use Rattle.option_map.specs.Shown.{check_named};
 ghost use Rattle.uci_lines.specs.Orders.{optional_now};
 ghost use Rattle.search_epochs.specs.Tickets.{is_move};
-ghost use Rattle.desk_rules.specs.Desk.{at, table, analyses, plays, is_full, has_ended, is_moveless, on_move, is_gone, is_boot, call_for_hint, call_while_waiting, call_in, call_of, owes_move};
+ghost use Rattle.desk_rules.specs.Desk.{at, table, analyses, plays, is_full, has_ended, is_moveless, on_move, is_gone, is_boot, call_for_hint, call_while_waiting, call_in, call_of_desk, owes_move};
 ghost use Rattle.desk_rules.specs.Fits.{IsHintPlayable};
 
 use crate::{Context, Desk, Mode};
@@ -15,7 +15,7 @@ use chess_board::Side;
 use game_record::{Game, GameEnd, MOST_PLIES};
 use search_epochs::{Call, EngineState};
 
-/// Whether the engine is Gone.
+/// True if the engine is Gone.
 pub fn is_gone(engine: EngineState) -> bool
     ensures { result ≡ is_gone engine }
 {
@@ -86,9 +86,9 @@ fn is_moveless(end: Option<GameEnd>) -> bool
     }
 }
 
-// Whether the side on move has a legal move: the game has not ended for lack of one.
+// True if the side on move has a legal move: the game has not ended for lack of one.
 fn has_legal(game: &Game) -> bool
-    ensures { result ≡ has_legal (now_of game.now) }
+    ensures { result ≡ has_legal (current_position game.now) }
 {
     !is_moveless(game.ended())
 }
@@ -156,11 +156,11 @@ impl Desk {
         }
     }
 
-    /// What the desk calls for; `closed` says whether the session is closed, `gone` whether the engine is Gone.
-    #[tactic(auto, unfolding(crate::specs::Desk::call_of))]
+    /// The call of the desk; `closed` says whether the session is closed, `gone` whether the engine is Gone.
+    #[tactic(auto, unfolding(crate::specs::Desk::call_of_desk))]
     pub fn call(&self, closed: bool, gone: bool) -> Call
         requires { IsHintPlayable self.now }
-        ensures { result ≡ call_of closed gone self.now }
+        ensures { result ≡ call_of_desk closed gone self.now }
     {
         if closed || gone || is_full(&self.game) {
             Call::Nothing
@@ -169,7 +169,7 @@ impl Desk {
         }
     }
 
-    // Whether a Move is called for in a mode.
+    // True if a Move is called for in a mode.
     fn calls_move_in(&self, mode: Mode) -> bool
         ensures { result ≡ is_move (call_in self.now mode) }
     {
@@ -181,15 +181,15 @@ impl Desk {
         }
     }
 
-    /// Whether the desk calls for a Move: `call` tells it too, but plays the hint to see whether the game goes on.
-    #[tactic(auto, unfolding(crate::specs::Desk::call_of))]
+    /// True if the desk calls for a Move: `call` tells it too, but plays the hint to see whether the game goes on.
+    #[tactic(auto, unfolding(crate::specs::Desk::call_of_desk))]
     pub fn calls_move(&self, closed: bool, gone: bool) -> bool
-        ensures { result ≡ is_move (call_of closed gone self.now) }
+        ensures { result ≡ is_move (call_of_desk closed gone self.now) }
     {
         !closed && !gone && !is_full(&self.game) && self.calls_move_in(self.mode)
     }
 
-    /// Whether a Move is owed when an event comes.
+    /// True if a Move is owed when an event comes.
     pub fn owes_move(&self, context: Context) -> bool
         ensures { result ≡ owes_move (at context self.now) }
     {

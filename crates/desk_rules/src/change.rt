@@ -1,12 +1,12 @@
-// What accepted lines of the interface change.
+// The changes that accepted lines of the interface make.
 ghost use Rattle.std.specs.Prelude.{◌≡◌, ◌<◌, ◌≤◌, length, None};
 ghost use Rattle.chess_board.specs.Play.{start_position};
 ghost use Rattle.cecp_lines.specs.Messages.{message_of};
 ghost use Rattle.cecp_lines.specs.Reading.{CanBeRead};
-ghost use Rattle.game_record.specs.Game.{ply_of, game_from, with_ply, without_last, now_of, IsPlayable};
+ghost use Rattle.game_record.specs.Game.{ply_of, game_from, with_ply, without_last, current_position, IsPlayablePly};
 ghost use Rattle.clock_map.specs.Clocks.{after_new};
-ghost use Rattle.desk_rules.specs.Desk.{other};
-ghost use Rattle.desk_rules.specs.Lines.{new_mode, with_game, set_up, change, clears_scores};
+ghost use Rattle.desk_rules.specs.Desk.{opponent_of};
+ghost use Rattle.desk_rules.specs.Lines.{new_mode, with_game, position_set_up, change, clears_scores};
 ghost use Rattle.desk_rules.specs.Fits.{CanChange};
 ghost use Rattle.game_record.specs.declared.game.TheConstants.{MOST_PLIES};
 
@@ -16,7 +16,7 @@ use cecp_lines::IfaceMsg;
 use chess_board::{Move, Position, Side};
 use game_record::Game;
 
-/// Whether an accepted line clears the scores of shown moves.
+/// True if an accepted line clears the scores of shown moves.
 pub(crate) fn clears_scores(message: &IfaceMsg) -> bool
     ensures { result ≡ clears_scores (message_of message.now) }
 {
@@ -32,7 +32,7 @@ pub(crate) fn clears_scores(message: &IfaceMsg) -> bool
 }
 
 fn other(side: Side) -> Side
-    ensures { result ≡ other side }
+    ensures { result ≡ opponent_of side }
 {
     match side {
         Side::White => Side::Black,
@@ -59,7 +59,7 @@ fn take_back(game: &mut Game, n: u32)
 
 impl Desk {
     fn enter(&mut self, m: Move)
-        requires legal { IsPlayable (now_of self.old.game) (ply_of m) }
+        requires legal { IsPlayablePly (current_position self.old.game) (ply_of m) }
         requires room { length self.old.game.moves < MOST_PLIES }
         ensures { self.new ≡ with_game self.old (with_ply self.old.game (ply_of m)) }
     {
@@ -100,7 +100,7 @@ impl Desk {
     // Changes the desk as an accepted line commands; `start` is the position that it sets up.
     #[tactic(auto, unfolding(crate::specs::Lines::change), using(crate::proofs::Starts::placed, crate::proofs::Starts::not_placed))]
     pub(crate) fn change(&mut self, boot: bool, message: &IfaceMsg, start: Option<Position>)
-        requires start { start ≡ set_up (message_of message.now) }
+        requires start { start ≡ position_set_up (message_of message.now) }
         requires change { CanChange self.old (message_of message.now) }
         requires read { CanBeRead (message_of message.now) }
         ensures { self.new ≡ change boot self.old (message_of message.now) }

@@ -7,11 +7,11 @@ use chess_board::{Move, Side};
 use clock_map::Clocks;
 use game_record::Game;
 use line_io::NoMemory;
-use option_map::{FeatureTalk, Options};
+use option_map::{FeatureNegotiation, Options};
 use std::alloc::Global;
-use think_text::SeenThinking;
+use think_text::SearchInfo;
 
-/// What the interface commanded and the engine answered.
+/// The commands of the interface and the answers of the engine.
 #[derive(Drop)]
 pub struct Desk {
     pub game: Game,
@@ -27,12 +27,12 @@ pub struct Desk {
     /// `uciok` was heard, so the options count as declared.
     pub booted: bool,
     pub name: EngineName,
-    /// Whether the feature list is due.
-    pub due: FeatureTalk,
+    /// True if the feature list is due.
+    pub due: FeatureNegotiation,
     /// The settings that came before the options are known.
     pub early: Early,
-    /// What the open search reported.
-    pub seen: SeenThinking,
+    /// The reports of the open search.
+    pub search_info: SearchInfo,
 }
 
 impl Desk {
@@ -55,9 +55,9 @@ impl Desk {
             options,
             booted: false,
             name: EngineName::new(),
-            due: FeatureTalk::new(),
+            due: FeatureNegotiation::new(),
             early,
-            seen: SeenThinking::new(),
+            search_info: SearchInfo::new(),
         })
     }
 }

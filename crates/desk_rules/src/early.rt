@@ -2,7 +2,7 @@
 ghost use Rattle.std.specs.Prelude.{◌≡◌, ◌≤◌, ◌+◌, ◌∷◌, [], length, MatchOption, position, true};
 ghost use Rattle.std.specs.List.{before_first, after_first};
 ghost use Rattle.line_io.specs.Event.{is_line};
-ghost use Rattle.line_io.specs.Lines.{parts, is_feed};
+ghost use Rattle.line_io.specs.Lines.{parts_by_feed, is_feed};
 ghost use Rattle.line_io.specs.Out.{with};
 ghost use Rattle.option_map.specs.Data.{answer_seen};
 ghost use Rattle.option_map.specs.Held.{with_orders};
@@ -22,10 +22,10 @@ use peer_words::trim;
 use std::alloc::Global;
 use std::marker::Model;
 
-/// How many early lines wait at most.
+/// The greatest number of early lines that wait.
 pub const MOST_EARLY: usize = 250;
 
-/// How many bytes they have at most, with a line feed each.
+/// The greatest number of their bytes, with a line feed each.
 pub const EARLY_BYTES: usize = 32_768;
 
 /// The settings that came before the engine's options are known, as they came, the oldest first: at most `MOST_EARLY` lines, and
@@ -33,20 +33,20 @@ pub const EARLY_BYTES: usize = 32_768;
 #[derive(Drop)]
 pub struct Early {
     texts: Out,
-    /// How many lines there are.
+    /// The number of lines.
     count: usize,
 }
 
 impl Model for Early {
     ghost use Rattle.std.specs.Prelude.{ℕ, List};
-    ghost use Rattle.line_io.specs.Lines.{parts};
-    ghost use Rattle.desk_rules.specs.Early.{IsKept};
+    ghost use Rattle.line_io.specs.Lines.{parts_by_feed};
+    ghost use Rattle.desk_rules.specs.Early.{EarlyLinesAreKept};
 
     ghost Value = { List (List ℕ) };
 
-    ghost view = { λ e. parts e.texts.text };
+    ghost view = { λ e. parts_by_feed e.texts.text };
 
-    ghost invariant = { λ e. IsKept e.texts e.count };
+    ghost invariant = { λ e. EarlyLinesAreKept e.texts e.count };
 }
 
 fn feed_at(text: &[u8]) -> Option<usize>
@@ -55,7 +55,7 @@ fn feed_at(text: &[u8]) -> Option<usize>
     text.iter().position(|b| *b == b'\n')
 }
 
-// What is before the first line feed, and what follows it.
+// The text before the first line feed, and the text behind it.
 fn split_at_feed(text: &[u8]) -> (&[u8], &[u8])
     ensures line { result.0.now ≡ before_first is_feed text.now }
     ensures others { result.1.now ≡ after_first is_feed text.now }
@@ -68,8 +68,8 @@ fn split_at_feed(text: &[u8]) -> (&[u8], &[u8])
 
 // The first line of a text, and the text of the others.
 fn next_line(text: &[u8]) -> Option<(&[u8], &[u8])>
-    ensures first { MatchOption result (parts text.now ≡ []) (λ p. parts text.now
-        ≡ p.0.now ∷ parts p.1.now) }
+    ensures first { MatchOption result (parts_by_feed text.now ≡ []) (λ p. parts_by_feed text.now
+        ≡ p.0.now ∷ parts_by_feed p.1.now) }
 {
     if text.is_empty() {
         None
@@ -78,7 +78,7 @@ fn next_line(text: &[u8]) -> Option<(&[u8], &[u8])>
     }
 }
 
-// What the options answer to an early line.
+// The options' answer to an early line.
 fn early_answer<'a>(
     options: &'a Options,
     line: &'a [u8],
@@ -93,8 +93,8 @@ fn early_answer<'a>(
 
 // Holds what the lines of a text ask for, in turn.
 fn hold_lines(text: &[u8], options: &Options, held: &mut HeldOrders)
-    requires { AllJoin held.old (early_orders options.now (parts text.now)) }
-    ensures { held.new ≡ with_orders held.old (early_orders options.now (parts text.now)) }
+    requires { AllJoin held.old (early_orders options.now (parts_by_feed text.now)) }
+    ensures { held.new ≡ with_orders held.old (early_orders options.now (parts_by_feed text.now)) }
 {
     let mut others = text;
     while let Some((line, after)) = next_line(others) {
@@ -123,8 +123,10 @@ fn put_refusal(line: &[u8], options: &Options, out: &mut Out)
 // Puts the refusals of the lines of a text, in turn.
 fn put_lines(text: &[u8], options: &Options, out: &mut Out)
     requires { length out.old.text
-        + length (reply_lines (early_refusals options.now (parts text.now))) ≤ out.old.room }
-    ensures { out.new ≡ with out.old (reply_lines (early_refusals options.now (parts text.now))) }
+        + length (reply_lines (early_refusals options.now (parts_by_feed text.now))) ≤
+        out.old.room }
+    ensures { out.new ≡ with out.old (reply_lines (early_refusals options.now (parts_by_feed
+        text.now))) }
 {
     let mut others = text;
     while let Some((line, after)) = next_line(others) {
@@ -145,7 +147,7 @@ impl Early {
         Ok(Early { texts, count: 0 })
     }
 
-    /// Whether one more line may wait.
+    /// True if one more line may wait.
     pub fn fits(&self, line: &[u8]) -> bool
         ensures { result ≡ may_wait self.now line.now }
     {
@@ -165,7 +167,7 @@ impl Early {
         self.count += 1;
     }
 
-    /// Lets go of all lines.
+    /// Drops all lines.
     pub fn clear(&mut self)
         ensures { self.new ≡ [] }
     {

@@ -1,6 +1,6 @@
 // The situation when an event comes, and what comes of it.
 ghost use Rattle.std.specs.Prelude.{◌≡◌};
-ghost use Rattle.search_epochs.specs.Tickets.{is_hurry};
+ghost use Rattle.search_epochs.specs.Tickets.{is_move_now};
 ghost use Rattle.search_epochs.specs.Dialogue.{mid_dialogue, played_of};
 ghost use Rattle.desk_rules.specs.Steps.{effect_of, what_of, is_boots, is_death, counts_after};
 
@@ -14,17 +14,17 @@ use policy_rules::{Scores, Settings};
 use search_epochs::{Dialogue, EngineState, Said};
 use uci_lines::{Info, OptionMsg};
 
-/// What is seen beside the desk when an event comes.
+/// The context of the desk when an event comes.
 #[derive(Clone, Copy)]
 pub struct Context {
     pub settings: Settings,
     pub closed: bool,
     pub engine: EngineState,
-    /// Whether the call was answered in this epoch.
+    /// True if the call was answered in this epoch.
     pub spent: bool,
-    /// Whether the policy resigns once a move with the kept score is shown.
+    /// True if the policy resigns once a move with the kept score is shown.
     pub resigns: bool,
-    /// Whether the policy accepts a draw.
+    /// True if the policy accepts a draw.
     pub accepts: bool,
 }
 
@@ -40,7 +40,7 @@ pub enum Refusal {
     IllegalPosition,
 }
 
-/// What comes of an event.
+/// The effect of an event.
 #[derive(Clone, Copy)]
 pub enum Effect<'a> {
     Nothing,
@@ -73,15 +73,15 @@ pub enum Effect<'a> {
 /// The orders that an event asks for, in turn.
 #[derive(Clone, Copy)]
 pub enum AskedOrders<'a> {
-    /// What a line asks for, if it asks for anything.
+    /// The order of a line, if it asks for any.
     One(Option<SetupOrder<'a>>),
-    /// What is set when the engine leaves Boot: what the early lines of the desk ask for, and then pondering and analysis.
+    /// The orders as the engine leaves Boot: what the desk's early lines ask for, and then pondering and analysis.
     AtBoot(&'a Desk),
 }
 
-/// What is decided of an event, except what it asks for.
+/// The decision on an event, except what it asks for.
 #[derive(Clone, Copy)]
-pub struct Ruling<'a> {
+pub struct EventEffect<'a> {
     pub effect: Effect<'a>,
     /// The position that an accepted line sets up, if it sets one up.
     pub start: Option<Position>,
@@ -90,23 +90,23 @@ pub struct Ruling<'a> {
     pub quits: bool,
 }
 
-/// What is decided of an event, once. What it asks for borrows the options of the desk, so it joins the held orders
+/// The decision on an event, once. Its request borrows the options of the desk, so it joins the held orders
 /// before the desk changes.
 #[derive(Clone, Copy)]
 pub struct Decision<'l, 's> {
-    pub ruling: Ruling<'l>,
+    pub event_effect: EventEffect<'l>,
     pub asks: AskedOrders<'s>,
 }
 
 impl Effect<'_> {
-    /// Whether the engine leaves Boot.
+    /// True if the engine leaves Boot.
     pub fn is_boots(&self) -> bool
         ensures { result ≡ is_boots (effect_of self.now) }
     {
         matches!(self, Effect::Boots)
     }
 
-    /// Whether the engine becomes Gone.
+    /// True if the engine becomes Gone.
     pub fn is_death(&self) -> bool
         ensures { result ≡ is_death (effect_of self.now) }
     {
@@ -123,9 +123,9 @@ impl Effect<'_> {
         }
     }
 
-    /// Whether the user asks for the move now.
-    pub fn is_hurry(&self) -> bool
-        ensures { result ≡ is_hurry (what_of (effect_of self.now)) }
+    /// True if the user asks for the move now.
+    pub fn is_move_now(&self) -> bool
+        ensures { result ≡ is_move_now (what_of (effect_of self.now)) }
     {
         matches!(self, Effect::Accepts(IfaceMsg::MoveNow))
     }
@@ -144,7 +144,7 @@ impl Effect<'_> {
     }
 }
 
-impl Ruling<'_> {
+impl EventEffect<'_> {
     /// Has the dialogue hear it.
     pub fn hear(&self, dialogue: &mut Dialogue)
         ensures { dialogue.new

@@ -1,10 +1,11 @@
-// What comes of an event.
+// The effect of an event.
 ghost use Rattle.std.specs.Prelude.{◌≡◌, List, Ok};
 ghost use Rattle.std.specs.Option.{option_map};
 ghost use Rattle.line_io.specs.Event.{event_of};
 ghost use Rattle.cecp_lines.specs.Messages.{message_of};
 ghost use Rattle.cecp_lines.specs.Reading.{message_or_fault};
-ghost use Rattle.cecp_lines.specs.Quit.{is_quit, is_quit_message};
+ghost use Rattle.peer_words.specs.Quit.{is_quit};
+ghost use Rattle.cecp_lines.specs.Quit.{is_quit_message};
 ghost use Rattle.uci_lines.specs.Engine.{engine_message};
 ghost use Rattle.uci_lines.specs.Orders.{Order};
 ghost use Rattle.option_map.specs.Data.{setup_seen};
@@ -12,19 +13,19 @@ ghost use Rattle.desk_rules.specs.declared.effect.Refusal.TheVariants as refusal
 ghost use Rattle.desk_rules.specs.declared.effect.Context.{Context as AnyContext};
 ghost use Rattle.desk_rules.specs.Desk.{at, is_getting, current, owes_move};
 ghost use Rattle.desk_rules.specs.Early.{is_setting, may_wait};
-ghost use Rattle.desk_rules.specs.Lines.{is_early, early_verdict, verdict_on, refusal, verdict, is_epoch_line};
+ghost use Rattle.desk_rules.specs.Lines.{is_early, early_verdict, verdict_on, refusal, line_verdict, is_epoch_line};
 ghost use Rattle.desk_rules.specs.Steps.{Refuses, effect_of, line_effect, starts_from, shows, answers, engine_says, dies, classify, begins_epoch as epoch_begun, quits as event_quits};
 ghost use Rattle.desk_rules.specs.Orders.{orders_asked, asked_by_effect};
 ghost use Rattle.desk_rules.specs.Fits.{IsNoLine, IsNoIfaceLine};
 
 use crate::call::{is_boot, is_gone};
-use crate::{AskedOrders, Context, Decision, Desk, Effect, Refusal, Ruling};
-use cecp_lines::{IfaceFault, IfaceMsg, Reason, is_quit, read_iface};
+use crate::{AskedOrders, Context, Decision, Desk, Effect, EventEffect, Refusal};
+use cecp_lines::{IfaceFault, IfaceMsg, Reason, read_iface};
 use chess_board::Move;
 use game_record::Game;
 use line_io::Event;
 use option_map::{HeldOrders, SetupOrder};
-use peer_words::GoKind;
+use peer_words::{GoKind, is_quit};
 use search_epochs::EngineState;
 use uci_lines::{EngineMsg, read_engine};
 
@@ -121,7 +122,7 @@ fn answers(
 }
 
 impl Desk {
-    // What comes of a message of the engine in an open session.
+    // The effect of a message of the engine in an open session.
     fn engine_says<'a>(&self, context: Context, line: &'a [u8]) -> Effect<'a>
         ensures effect { effect_of result
             ≡ engine_says (at context self.now) (engine_message line.now) }
@@ -141,7 +142,7 @@ impl Desk {
         }
     }
 
-    // Whether an accepted line begins an epoch; `asks` is what it asks for.
+    // True if an accepted line begins an epoch; `asks` is what it asks for.
     #[tactic(auto, unfolding(crate::specs::Lines::is_epoch_line))]
     fn begins_epoch(&self, context: Context, message: &IfaceMsg, asks: &Option<SetupOrder>) -> bool
         ensures { result
@@ -169,7 +170,7 @@ impl Desk {
         }
     }
 
-    // Whether a line sets an option while no option counts, and such lines are to wait.
+    // True if a line sets an option while no option counts, and such lines are to wait.
     fn is_early(&self, context: Context, message: &IfaceMsg) -> bool
         ensures { result ≡ is_early (at context self.now) (message_of message.now) }
     {
@@ -193,45 +194,46 @@ impl Desk {
     #[tactic(auto, unfolding(crate::specs::Orders::asked_by_effect))]
     fn decision<'l, 's>(&'s self, effect: Effect<'l>, quits: bool) -> Decision<'l, 's>
         requires { IsNoLine (effect_of effect) }
-        ensures effect { effect_of result.ruling.effect ≡ effect_of effect.entry }
-        ensures start { result.ruling.start ≡ starts_from (effect_of effect.entry) }
+        ensures effect { effect_of result.event_effect.effect ≡ effect_of effect.entry }
+        ensures start { result.event_effect.start ≡ starts_from (effect_of effect.entry) }
         ensures asks { (s : AnyContext) → orders_asked result.asks
             ≡ asked_by_effect (at s self.now) (effect_of effect.entry) }
-        ensures epoch { (s : AnyContext) → result.ruling.begins_epoch
+        ensures epoch { (s : AnyContext) → result.event_effect.begins_epoch
             ≡ epoch_begun (at s self.now) (effect_of effect.entry) }
-        ensures quits { result.ruling.quits ≡ quits }
+        ensures quits { result.event_effect.quits ≡ quits }
     {
         let asks = match effect {
             Effect::Boots => AskedOrders::AtBoot(self),
             _ => AskedOrders::One(None),
         };
-        let ruling = Ruling {
+        let event_effect = EventEffect {
             effect,
             start: None,
             begins_epoch: matches!(effect, Effect::Shows { best: _, hint: _ }),
             quits,
         };
-        Decision { ruling, asks }
+        Decision { event_effect, asks }
     }
 
     // Decides what comes of a line of the interface in an open session.
-    #[tactic(auto, unfolding(crate::specs::Lines::verdict))]
+    #[tactic(auto, unfolding(crate::specs::Lines::line_verdict), using(cecp_lines::proofs::Quits::quit_first))]
     fn decide_line<'l: 's, 's>(
         &'s self,
         context: Context,
         held: &HeldOrders,
         line: &'l [u8],
     ) -> Decision<'l, 's>
-        ensures effect { effect_of result.ruling.effect
-            ≡ line_effect (verdict (at context self.now) held.now line.now
+        ensures effect { effect_of result.event_effect.effect
+            ≡ line_effect (line_verdict (at context self.now) held.now line.now
             (message_or_fault line.now))
             line.now }
-        ensures start { result.ruling.start ≡ starts_from (effect_of result.ruling.effect) }
+        ensures start { result.event_effect.start ≡ starts_from (effect_of
+            result.event_effect.effect) }
         ensures asks { orders_asked result.asks
-            ≡ asked_by_effect (at context self.now) (effect_of result.ruling.effect) }
-        ensures epoch { result.ruling.begins_epoch
-            ≡ epoch_begun (at context self.now) (effect_of result.ruling.effect) }
-        ensures quits { result.ruling.quits ≡ is_quit line.now }
+            ≡ asked_by_effect (at context self.now) (effect_of result.event_effect.effect) }
+        ensures epoch { result.event_effect.begins_epoch
+            ≡ epoch_begun (at context self.now) (effect_of result.event_effect.effect) }
+        ensures quits { result.event_effect.quits ≡ is_quit line.now }
     {
         let message = match read_iface(line) {
             Ok(message) => message,
@@ -257,32 +259,34 @@ impl Desk {
         message: IfaceMsg<'l>,
         line: &'l [u8],
     ) -> Decision<'l, 's>
-        ensures effect { effect_of result.ruling.effect
+        ensures effect { effect_of result.event_effect.effect
             ≡ line_effect (verdict_on (message_of message.entry)
             (refusal (at context self.now) held.now (message_of message.entry))) line.now }
-        ensures start { result.ruling.start ≡ starts_from (effect_of result.ruling.effect) }
+        ensures start { result.event_effect.start ≡ starts_from (effect_of
+            result.event_effect.effect) }
         ensures asks { orders_asked result.asks
-            ≡ asked_by_effect (at context self.now) (effect_of result.ruling.effect) }
-        ensures epoch { result.ruling.begins_epoch
-            ≡ epoch_begun (at context self.now) (effect_of result.ruling.effect) }
-        ensures quits { result.ruling.quits ≡ is_quit_message (Ok (message_of message.entry)) }
+            ≡ asked_by_effect (at context self.now) (effect_of result.event_effect.effect) }
+        ensures epoch { result.event_effect.begins_epoch
+            ≡ epoch_begun (at context self.now) (effect_of result.event_effect.effect) }
+        ensures quits { result.event_effect.quits ≡ is_quit_message (Ok (message_of
+            message.entry)) }
     {
         let quits = matches!(message, IfaceMsg::Quit);
-        let wish = self.wish(context.engine, &message);
-        if let Some(refusal) = self.refusal(context, held, &message, &wish) {
+        let message_needs = self.message_needs(context.engine, &message);
+        if let Some(refusal) = self.refusal(context, held, &message, &message_needs) {
             return self.decision(Effect::Refuses { refusal, line }, quits);
         }
-        let ruling = Ruling {
+        let event_effect = EventEffect {
             effect: Effect::Accepts(message),
-            start: wish.start,
-            begins_epoch: self.begins_epoch(context, &message, &wish.asks),
+            start: message_needs.start,
+            begins_epoch: self.begins_epoch(context, &message, &message_needs.asks),
             quits,
         };
-        let asks = AskedOrders::One(wish.asks);
-        Decision { ruling, asks }
+        let asks = AskedOrders::One(message_needs.asks);
+        Decision { event_effect, asks }
     }
 
-    // What comes of an event that is no line of the interface.
+    // The effect of an event that is no line of the interface.
     #[tactic(auto, unfolding(crate::specs::Steps::classify))]
     fn classify<'a>(&self, context: Context, event: &Event<'a>) -> Effect<'a>
         requires { IsNoIfaceLine (event_of event.now) }
@@ -307,14 +311,15 @@ impl Desk {
         held: &HeldOrders,
         event: &Event<'l>,
     ) -> Decision<'l, 's>
-        ensures effect { effect_of result.ruling.effect
+        ensures effect { effect_of result.event_effect.effect
             ≡ classify (at context self.now) held.now (event_of event.now) }
-        ensures start { result.ruling.start ≡ starts_from (effect_of result.ruling.effect) }
+        ensures start { result.event_effect.start ≡ starts_from (effect_of
+            result.event_effect.effect) }
         ensures asks { orders_asked result.asks
-            ≡ asked_by_effect (at context self.now) (effect_of result.ruling.effect) }
-        ensures epoch { result.ruling.begins_epoch
-            ≡ epoch_begun (at context self.now) (effect_of result.ruling.effect) }
-        ensures quits { result.ruling.quits ≡ event_quits (event_of event.now) }
+            ≡ asked_by_effect (at context self.now) (effect_of result.event_effect.effect) }
+        ensures epoch { result.event_effect.begins_epoch
+            ≡ epoch_begun (at context self.now) (effect_of result.event_effect.effect) }
+        ensures quits { result.event_effect.quits ≡ event_quits (event_of event.now) }
     {
         match event {
             Event::Iface(line) => {

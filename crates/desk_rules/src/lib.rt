@@ -21,7 +21,7 @@ pub use answers::put_pongs;
 pub use call::is_gone;
 pub use desk::Desk;
 pub use early::{EARLY_BYTES, Early, MOST_EARLY};
-pub use effect::{AskedOrders, Context, Decision, Effect, Refusal, Ruling};
+pub use effect::{AskedOrders, Context, Decision, Effect, EventEffect, Refusal};
 pub use mode::Mode;
 pub use name::EngineName;
 pub use orders::{put_chosen, put_order};

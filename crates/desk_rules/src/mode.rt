@@ -1,7 +1,7 @@
-// What the interface has the engine do.
+// The task that the interface gives to the engine.
 use chess_board::Side;
 
-/// What the interface has the engine do (CECP version 2: `force`, `go`, `playother`, `analyze`, `result`).
+/// The task that the interface gives to the engine (CECP version 2: `force`, `go`, `playother`, `analyze`, `result`).
 #[derive(Clone, Copy, PartialEq, Eq)]
 pub enum Mode {
     /// Moves are only entered.

@@ -2,17 +2,17 @@
 ghost use Rattle.std.specs.Prelude.{◌≡◌, ◌+◌, ◌≤◌, ◌∷◌, ◌++◌, [], length, IfSome};
 ghost use Rattle.std.specs.Option.{option_map, option_to_list};
 ghost use Rattle.line_io.specs.Out.{with};
-ghost use Rattle.uci_lines.specs.Orders.{IsReady, order_of};
-ghost use Rattle.game_record.specs.Game.{ply_of, now_of, IsPlayable};
-ghost use Rattle.game_record.specs.Line.{position_text};
+ghost use Rattle.uci_lines.specs.Orders.{IsReady, uci_order_of};
+ghost use Rattle.game_record.specs.Game.{ply_of, current_position, IsPlayablePly};
+ghost use Rattle.game_record.specs.Line.{game_position_text};
 ghost use Rattle.clock_map.specs.Search.{search_order};
 ghost use Rattle.option_map.specs.Data.{setup_seen};
-ghost use Rattle.option_map.specs.Held.{with_orders, order_line};
+ghost use Rattle.option_map.specs.Held.{with_orders, held_order_line};
 ghost use Rattle.search_epochs.specs.Tickets.{kind_of};
 ghost use Rattle.desk_rules.specs.Desk.{on_move, plies};
-ghost use Rattle.desk_rules.specs.Orders.{AllJoin, asked_at_boot, position_order, pondered, searched, search_orders, order_list};
+ghost use Rattle.desk_rules.specs.Orders.{AllJoin, asked_at_boot, position_order, pondered, searched, search_request, search_orders, order_list};
 ghost use Rattle.desk_rules.specs.Texts.{order_lines};
-ghost use Rattle.desk_rules.specs.Fits.{IsSound, CanSearch, CanWrite};
+ghost use Rattle.desk_rules.specs.Fits.{DeskInvariant, CanSearch, ChosenOrdersCanBeWritten};
 ghost use Rattle.desk_rules.specs.declared.sizes.TheConstants.{GO_LINE, STEP_ORDERS, POSITION_LINE};
 ghost use Rattle.line_io.specs.Lines.{line_feed};
 
@@ -20,10 +20,12 @@ use crate::after::position_after;
 use crate::call::on_move;
 use crate::{AskedOrders, Desk};
 use chess_board::{Move, Side};
+use clock_map::SearchRequest;
 use game_record::Game;
 use line_io::Out;
 use option_map::{HeldOrders, SetupOrder};
 use peer_words::GoKind;
+use policy_rules::Settings;
 use search_epochs::{Call, Orders};
 use uci_lines::{Order, write_order};
 
@@ -86,11 +88,11 @@ impl AskedOrders<'_> {
 
 // Puts the position of a game, after a move that may follow.
 fn put_game(game: &Game, hint: Option<Move>, out: &mut Out)
-    requires hint { IfSome hint (λ m. IsPlayable (now_of game.now) (ply_of m)) }
+    requires hint { IfSome hint (λ m. IsPlayablePly (current_position game.now) (ply_of m)) }
     requires room { length out.old.text + POSITION_LINE ≤ out.old.room }
     ensures line { out.new
-        ≡ with out.old (position_text game.now (option_map ply_of hint) ++ line_feed ∷ []) }
-    ensures short { length (position_text game.now (option_map ply_of hint) ++ line_feed ∷ [])
+        ≡ with out.old (game_position_text game.now (option_map ply_of hint) ++ line_feed ∷ []) }
+    ensures short { length (game_position_text game.now (option_map ply_of hint) ++ line_feed ∷ [])
         ≤ POSITION_LINE }
 {
     game.facts();
@@ -102,8 +104,10 @@ fn put_game(game: &Game, hint: Option<Move>, out: &mut Out)
 fn put_position(game: &Game, call: Call, out: &mut Out)
     requires hint { CanSearch game.now call }
     requires room { length out.old.text + POSITION_LINE ≤ out.old.room }
-    ensures line { out.new ≡ with out.old (order_line (position_order (searched game.now call))) }
-    ensures short { length (order_line (position_order (searched game.now call))) ≤ POSITION_LINE }
+    ensures line { out.new ≡ with out.old (held_order_line (position_order (searched game.now
+        call))) }
+    ensures short { length (held_order_line (position_order (searched game.now call))) ≤
+        POSITION_LINE }
 {
     put_game(game, pondered(call), out);
 }
@@ -119,7 +123,7 @@ fn side_of(game: &Game, call: Call) -> Side
     }
 }
 
-// How many plies stand before the search.
+// The number of plies before the search.
 fn plies_of(game: &Game, call: Call) -> u32
     ensures { result ≡ plies (searched game.now call) }
 {
@@ -129,42 +133,51 @@ fn plies_of(game: &Game, call: Call) -> u32
     }
 }
 
+// What a search is made from.
+fn search_request(settings: Settings, game: &Game, call: Call) -> SearchRequest
+    requires { CanSearch game.now call }
+    ensures { result ≡ search_request settings game.now call }
+{
+    SearchRequest {
+        settings,
+        side: side_of(game, call),
+        plies: plies_of(game, call),
+        kind: kind_of(call),
+    }
+}
+
 impl Desk {
-    fn put_go(&self, call: Call, out: &mut Out)
-        requires sound { IsSound self.now }
-        requires hint { CanSearch self.now.game call }
+    fn put_go(&self, request: SearchRequest, out: &mut Out)
+        requires sound { DeskInvariant self.now }
         requires room { length out.old.text + GO_LINE ≤ out.old.room }
-        ensures line { out.new
-            ≡ with out.old
-            (order_line (search_order self.now.clocks (on_move (searched self.now.game call))
-            (plies (searched self.now.game call)) (kind_of call))) }
-        ensures short { length (order_line (search_order self.now.clocks
-            (on_move (searched self.now.game call)) (plies (searched self.now.game call))
-            (kind_of call))) ≤ GO_LINE }
+        ensures line { out.new ≡ with out.old (held_order_line (search_order request
+            self.now.clocks)) }
+        ensures short { length (held_order_line (search_order request self.now.clocks)) ≤ GO_LINE }
     {
-        let side = side_of(&self.game, call);
-        let plies = plies_of(&self.game, call);
-        self.clocks.write_go(side, plies, kind_of(call), out);
+        self.clocks.write_go(request, out);
         out.put(b"\n");
     }
 
     /// Puts `position` and `go` for a call.
-    pub fn put_search(&self, call: Call, out: &mut Out)
-        requires sound { IsSound self.now }
+    pub fn put_search(&self, settings: Settings, call: Call, out: &mut Out)
+        requires sound { DeskInvariant self.now }
         requires hint { CanSearch self.now.game call }
         requires room { length out.old.text + STEP_ORDERS ≤ out.old.room }
-        ensures lines { out.new ≡ with out.old (order_lines (search_orders self.now call)) }
-        ensures short { length (order_lines (search_orders self.now call)) ≤ STEP_ORDERS }
+        ensures lines { out.new ≡ with out.old (order_lines (search_orders settings self.now
+            call)) }
+        ensures short { length (order_lines (search_orders settings self.now call)) ≤ STEP_ORDERS }
     {
         put_position(&self.game, call, out);
-        self.put_go(call, out);
+        let request = search_request(settings, &self.game, call);
+        self.put_go(request, out);
     }
 }
 
 /// Puts an order, with its line feed.
 pub fn put_order(order: &Order, out: &mut Out)
-    requires { length out.old.text + length (order_line (order_of order.now)) ≤ out.old.room }
-    ensures { out.new ≡ with out.old (order_line (order_of order.now)) }
+    requires { length out.old.text + length (held_order_line (uci_order_of order.now)) ≤
+        out.old.room }
+    ensures { out.new ≡ with out.old (held_order_line (uci_order_of order.now)) }
 {
     write_order(order, out);
     out.put(b"\n");
@@ -183,18 +196,20 @@ fn put_batch(held: &HeldOrders, out: &mut Out)
 }
 
 /// Puts the orders that were chosen, if these are held.
-#[tactic(auto, unfolding(uci_lines::specs::Orders::order_text))]
-pub fn put_chosen(held: &HeldOrders, desk: &Desk, orders: Orders, out: &mut Out)
-    requires sound { IsSound desk.now }
-    requires hint { CanWrite desk.now.game orders }
+#[tactic(auto, unfolding(uci_lines::specs::Orders::uci_order_text))]
+pub fn put_chosen(settings: Settings, held: &HeldOrders, desk: &Desk, orders: Orders, out: &mut Out)
+    requires sound { DeskInvariant desk.now }
+    requires hint { ChosenOrdersCanBeWritten desk.now.game orders }
     requires room { length out.old.text + STEP_ORDERS ≤ out.old.room }
-    ensures lines { out.new ≡ with out.old (order_lines (order_list held.now desk.now orders)) }
-    ensures short { length (order_lines (order_list held.now desk.now orders)) ≤ STEP_ORDERS }
+    ensures lines { out.new
+        ≡ with out.old (order_lines (order_list settings held.now desk.now orders)) }
+    ensures short { length (order_lines (order_list settings held.now desk.now orders))
+        ≤ STEP_ORDERS }
 {
     match orders {
         Orders::None => {}
         Orders::Batch => put_batch(held, out),
-        Orders::Begin(call) => desk.put_search(call, out),
+        Orders::Begin(call) => desk.put_search(settings, call, out),
         Orders::Hit => put_order(&Order::PonderHit, out),
         Orders::Stop => put_order(&Order::Stop, out),
     }

@@ -36,7 +36,7 @@ impl Pings {
         })
     }
 
-    /// How many pings are held.
+    /// The number of held pings.
     pub fn len(&self) -> usize
         ensures { result ≡ length self.now }
     {

@@ -1,11 +1,11 @@
-// Which lines of the interface are refused.
+// The lines of the interface that are refused.
 ghost use Rattle.std.specs.Prelude.{◌≡◌};
 ghost use Rattle.std.specs.Option.{option_map};
 ghost use Rattle.cecp_lines.specs.Messages.{message_of};
 ghost use Rattle.option_map.specs.Asked.{asked};
 ghost use Rattle.option_map.specs.Data.{setup_seen, answer_seen};
 ghost use Rattle.desk_rules.specs.Desk.{at, table, is_gone};
-ghost use Rattle.desk_rules.specs.Lines.{because, needs_engine, needs_analysis, lacks_moves, illegal_move, move_too_many, set_up, illegal_position, refused_option, does_not_fit, asks as asks_for, pings_too_often, refusal};
+ghost use Rattle.desk_rules.specs.Lines.{because, needs_engine, needs_analysis, lacks_moves, illegal_move, move_too_many, position_set_up, illegal_position, refused_option, does_not_fit, asks as asks_for, pings_too_often, refusal};
 
 use crate::call::{analyses, is_full, is_gone};
 use crate::pings::MOST_PINGS;
@@ -18,14 +18,14 @@ use option_map::{AskedOption, HeldOrders, OptionFault, SetupOrder};
 use policy_rules::Settings;
 use search_epochs::EngineState;
 
-/// What a message wants of the desk.
+/// A message's needs of the desk.
 #[derive(Clone, Copy)]
-pub(crate) struct Wish<'a> {
+pub(crate) struct MessageNeeds<'a> {
     /// The position that it sets up, if it sets one up.
     pub(crate) start: Option<Position>,
-    /// What sets an option by it.
+    /// The options' answer to it.
     pub(crate) answer: Result<Option<AskedOption<'a>>, OptionFault>,
-    /// What it asks of the engine.
+    /// Its request to the engine.
     pub(crate) asks: Option<SetupOrder<'a>>,
 }
 
@@ -93,7 +93,7 @@ fn move_too_many(game: &Game, message: &IfaceMsg) -> Option<Refusal>
 
 /// The position that a message sets up, if it sets one up.
 pub(crate) fn set_up(message: &IfaceMsg) -> Option<Position>
-    ensures { result ≡ set_up (message_of message.now) }
+    ensures { result ≡ position_set_up (message_of message.now) }
 {
     match message {
         IfaceMsg::SetBoard(text) => match read_fen(text) {
@@ -106,7 +106,7 @@ pub(crate) fn set_up(message: &IfaceMsg) -> Option<Position>
 
 #[tactic(auto, using(crate::proofs::Starts::no_start, crate::proofs::Starts::some_start))]
 fn illegal_position(message: &IfaceMsg, start: &Option<Position>) -> Option<Refusal>
-    requires { start.now ≡ set_up (message_of message.now) }
+    requires { start.now ≡ position_set_up (message_of message.now) }
     ensures { result ≡ illegal_position (message_of message.now) }
 {
     match (message, start) {
@@ -144,20 +144,20 @@ impl Desk {
         }
     }
 
-    // What a message wants.
-    pub(crate) fn wish<'l: 's, 's>(
+    // The needs of a message.
+    pub(crate) fn message_needs<'l: 's, 's>(
         &'s self,
         engine: EngineState,
         message: &IfaceMsg<'l>,
-    ) -> Wish<'s>
-        ensures start { result.start ≡ set_up (message_of message.now) }
+    ) -> MessageNeeds<'s>
+        ensures start { result.start ≡ position_set_up (message_of message.now) }
         ensures answer { answer_seen result.answer
             ≡ asked (table self.now) (message_of message.now) }
         ensures asks { option_map setup_seen result.asks
             ≡ asks_for (is_gone engine) self.now (message_of message.now) }
     {
         let answer = self.asked(message);
-        Wish {
+        MessageNeeds {
             start: set_up(message),
             answer,
             asks: self.asks(is_gone(engine), message, answer),
@@ -171,12 +171,12 @@ impl Desk {
         context: Context,
         held: &HeldOrders,
         message: &IfaceMsg,
-        wish: &Wish,
+        message_needs: &MessageNeeds,
     ) -> Option<Refusal>
-        requires start { wish.now.start ≡ set_up (message_of message.now) }
-        requires answer { answer_seen wish.now.answer
+        requires start { message_needs.now.start ≡ position_set_up (message_of message.now) }
+        requires answer { answer_seen message_needs.now.answer
             ≡ asked (table self.now) (message_of message.now) }
-        requires asks { option_map setup_seen wish.now.asks
+        requires asks { option_map setup_seen message_needs.now.asks
             ≡ asks_for (is_gone context.engine) self.now (message_of message.now) }
         ensures { result ≡ refusal (at context self.now) held.now (message_of message.now) }
     {
@@ -195,13 +195,13 @@ impl Desk {
         if let Some(refusal) = move_too_many(&self.game, message) {
             return Some(refusal);
         }
-        if let Some(refusal) = illegal_position(message, &wish.start) {
+        if let Some(refusal) = illegal_position(message, &message_needs.start) {
             return Some(refusal);
         }
-        if let Some(refusal) = refused_option(&wish.answer) {
+        if let Some(refusal) = refused_option(&message_needs.answer) {
             return Some(refusal);
         }
-        if does_not_fit(held, &wish.asks) {
+        if does_not_fit(held, &message_needs.asks) {
             return because(Reason::TooManySettings);
         }
         if self.pings_too_often(context, message) {

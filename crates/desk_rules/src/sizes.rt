@@ -1,4 +1,4 @@
-// How many bytes the lines of a step have at most, with their line feeds.
+// The greatest length of the lines of a step in bytes, with their line feeds.
 
 use crate::early::{EARLY_BYTES, MOST_EARLY};
 use game_record::POSITION_TEXT;

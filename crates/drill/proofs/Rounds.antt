@@ -3,11 +3,11 @@ use Rattle.std.proofs.Common.{◌≡◌, ℕ, suc, List, [], ◌++◌, false, if
 use Rattle.line_io.specs.Event.{Event}
 use Rattle.chess_board.specs.declared.board.Move.{Move}
 use Rattle.chess_board.specs.Play.{HasLegal}
-use Rattle.game_record.specs.Game.{Game, ply_of, now_of, with_ply}
+use Rattle.game_record.specs.Game.{Game, ply_of, current_position, with_ply}
 use Rattle.desk_rules.specs.Desk.{has_ended}
 use Rattle.drill.specs.declared.round.Drill.{Drill}
 use Rattle.drill.specs.Generator.{next}
-use Rattle.drill.specs.Rounds.{Drill as AnyDrill, Draws, Misses, Answers, Alone, WithHint, drill_after_move, drill_with_hint, ponders, renewal, unspent_drill, entry, answer, answer_with}
+use Rattle.drill.specs.Rounds.{Drill as AnyDrill, Draws, Misses, DrillAnswers, Alone, WithHint, drill_after_move, drill_with_hint, ponders, renewal, unspent_drill, entry, answer, answer_with}
 use Rattle.drill.specs.Sent.{DrillSession, Sent}
 use Rattle.drill.specs.Stood.{stand_of, UserMoves, HintDrawn, EngineMoves, RoundPlayed, RoundsPlayed}
 use Rattle.drill.proofs.Sending.{sent_both}
@@ -27,7 +27,7 @@ played old begun entered new sent stands user engine =
         missed = user.missed;
         misses = subst (λ (x : AnyDrill). Misses x.hint m user.missed) stands user.misses;
         answered = engine.answered;
-        answers = subst (λ (x : AnyDrill). Answers x engine.answered (stand_of new)) (user.stand ∙ ap (λ (x : AnyDrill). drill_after_move x m) stands) engine.answers;
+        answers = subst (λ (x : AnyDrill). DrillAnswers x engine.answered (stand_of new)) (user.stand ∙ ap (λ (x : AnyDrill). drill_after_move x m) stands) engine.answers;
         events_are = refl;
       };
       sent = sent_both old.session begun.session new.session (renewal s) es sent both;
@@ -87,13 +87,13 @@ user_moves old drawn new m entered answered d e enters missed f =
 
 -- the engine answers without a hint
 pub answers_alone : (old drawn played : Drill) (m : Move) (answered : DrillSession) → old.hint ≡ None → has_ended old.game ≡ false → Draws (stand_of old) m → drawn ≡ record old { seed = next old.seed }
-    → played ≡ record drawn { session = drawn.session; game = with_ply drawn.game (ply_of m) } → (HasLegal (now_of played.game) → ⊥) → Sent played.session answered (answer m)
+    → played ≡ record drawn { session = drawn.session; game = with_ply drawn.game (ply_of m) } → (HasLegal (current_position played.game) → ⊥) → Sent played.session answered (answer m)
     → EngineMoves old (record { session = answered; game = played.game; seed = played.seed; hint = played.hint })
 answers_alone old drawn played m answered none still d e f stuck sends =
     let p = move_played old drawn played m drawn.session e f in
     record {
       answered = answer m;
-      answers = Alone m still d (λ h. stuck (subst (λ (g : Game). HasLegal (now_of g)) (sym p.1) h)) refl (ap (λ (h : Option Move). stand played.seed played.game h) (p.2 ∙ none) ∙ stand_moved old m played.seed played.game p.0 p.1);
+      answers = Alone m still d (λ h. stuck (subst (λ (g : Game). HasLegal (current_position g)) (sym p.1) h)) refl (ap (λ (h : Option Move). stand played.seed played.game h) (p.2 ∙ none) ∙ stand_moved old m played.seed played.game p.0 p.1);
       sent = subst (λ (x : DrillSession). Sent x answered (answer m)) (p.3 ∙ ap (λ (x : Drill). x.session) e) sends;
     }
 

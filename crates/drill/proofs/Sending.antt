@@ -2,14 +2,14 @@
 use Rattle.std.proofs.Common.{◌≡◌, List, [], ◌∷◌, ◌++◌, refl, ap, sym, subst, ◌∙◌, append_assoc, append-nil}
 use Rattle.line_io.specs.Event.{Event}
 use Rattle.policy_rules.specs.Policy.{usual}
-use Rattle.adapter_core.specs.Trace.{Step, Lawful}
-use Rattle.adapter_core.specs.Stands.{Stands}
-use Rattle.session_script.specs.Script.{events}
+use Rattle.adapter_core.specs.Trace.{Step, LawfulTrace}
+use Rattle.adapter_core.specs.Represents.{Represents}
+use Rattle.trace_scripts.specs.Script.{events}
 use Rattle.drill.specs.declared.tally.Tally.{Tally}
 use Rattle.drill.specs.Tally.{tally_after, tally_of}
-use Rattle.drill.specs.Sent.{DrillSession, Sends, Sent}
+use Rattle.drill.specs.Sent.{DrillSession, DrillSends, Sent}
 
-pub sent_one : (a b : DrillSession) (e : Event) → Sends a b e → Sent a b (e ∷ [])
+pub sent_one : (a b : DrillSession) (e : Event) → DrillSends a b e → Sent a b (e ∷ [])
 sent_one a b e s = (b, s, refl)
 
 pub sent_both : (a b c : DrillSession) (es fs : List Event) → Sent a b es → Sent b c fs → Sent a c (es ++ fs)
@@ -19,12 +19,12 @@ sent_both a b c (e ∷ es) fs s t = (s.0, s.1, sent_both s.0 b c es fs s.2 t)
 -- a lawful trace of these events, for which the core stands, and its counts
 pub record Traced (p : DrillSession) (es : List Event) : Type 0 where
   pub trace : List Step
-  pub lawful : Lawful usual trace
-  pub stands : Stands usual p.core trace
+  pub lawful : LawfulTrace usual trace
+  pub stands : Represents usual p.core trace
   pub events_are : events trace ≡ es
   pub tally_is : p.tally ≡ tally_of trace
 
-one_more : (a b : DrillSession) (es : List Event) (e : Event) → Traced a es → Sends a b e → Traced b (es ++ e ∷ [])
+one_more : (a b : DrillSession) (es : List Event) (e : Event) → Traced a es → DrillSends a b e → Traced b (es ++ e ∷ [])
 one_more a b es e t s =
     let more = s.extends usual t.trace t.lawful t.stands in
     record {

@@ -1,22 +1,22 @@
--- A step that tells a move tells it first.
+-- A step that shows a move shows it first.
 use Rattle.std.proofs.Common.{◌≡◌, ℕ, zero, suc, ◌+◌, ◌/◌, ◌%◌, ◌<◌, ◌==◌, List, [], ◌∷◌, ◌++◌, length, Bool, true, false, cond, refl, ap, sym, subst, ◌∙◌, arith, eqb}
 use Rattle.std.proofs.lemmas.Bool.Decides.{nat_tests}
 use Rattle.std.specs.Fmt.{decimal, digits, digits_onto, digit_glyph}
 use Rattle.chess_board.specs.declared.board.Move.{Move as AnyMove}
-use Rattle.cecp_lines.specs.declared.reply.UserError.TheVariants as tells
+use Rattle.cecp_lines.specs.declared.reply.UserError.TheVariants as user_errors
 use Rattle.cecp_lines.specs.declared.reply.Outcome.TheVariants as outcomes
 use Rattle.cecp_lines.specs.Replies.{Reply}
-use Rattle.cecp_lines.specs.Replies as told
+use Rattle.cecp_lines.specs.Replies as cecp
 use Rattle.option_map.specs.Features.{reply_lines}
 use Rattle.policy_rules.specs.declared.settings.Settings.{Settings}
 use Rattle.search_epochs.specs.Tickets.{is_move}
 use Rattle.desk_rules.specs.Desk.{Situation}
 use Rattle.desk_rules.specs.Steps.{Effect, Shows}
-use Rattle.desk_rules.specs.Replies.{replies_of, row}
-use Rattle.adapter_core.specs.Shown.{moves_told}
-use Rattle.adapter_core.specs.Trace.{Step, Lawful, iface_text, engine_text, state, situation, effect, owed_after, closed_after}
+use Rattle.desk_rules.specs.Replies.{replies_of, reply_row}
+use Rattle.adapter_core.specs.Shown.{moves_shown}
+use Rattle.adapter_core.specs.Trace.{Step, LawfulTrace, iface_text, engine_text, state, situation_of_state, effect, owed_after, closed_after}
 use Rattle.adapter_core.proofs.Shown.{open_shows, shown_by}
-use Rattle.line_io.specs.Lines.{parts}
+use Rattle.line_io.specs.Lines.{parts_by_feed}
 use Rattle.drill.specs.declared.tally.Tally.{Tally}
 use Rattle.drill.specs.Tally.{tally_after}
 use Rattle.drill.specs.Sent.{counted_texts, shows_move}
@@ -55,37 +55,37 @@ thinking_begins : (depth : ℕ) (a b c d e f g : List ℕ) → Begins ((((((((de
 thinking_begins depth a b c d e f g =
     begins_more _ g (begins_more _ f (begins_more _ e (begins_more _ d (begins_more _ c (begins_more _ b (begins_more _ a (decimal_begins depth)))))))
 
--- lines that tell no move do not begin with one
-none_first : (rs : List Reply) → moves_told rs ≡ [] → shows_move (reply_lines rs) ≡ false
-none_first (told.Move m ∷ rs) e = cc
-none_first (told.Thinking depth score time nodes spelling hint pv ∷ rs) e =
-    none_shown (reply_lines (told.Thinking depth score time nodes spelling hint pv ∷ rs)) (begins_more _ (reply_lines rs) (thinking_begins depth (32 ∷ []) _ _ _ _ pv (10 ∷ [])))
-none_first (told.TellError tells.Position ∷ rs) e = refl
-none_first (told.Result outcomes.WhiteMates ∷ rs) e = refl
+-- lines that show no move do not begin with one
+none_first : (rs : List Reply) → moves_shown rs ≡ [] → shows_move (reply_lines rs) ≡ false
+none_first (cecp.Move m ∷ rs) e = cc
+none_first (cecp.Thinking depth score time nodes spelling hint pv ∷ rs) e =
+    none_shown (reply_lines (cecp.Thinking depth score time nodes spelling hint pv ∷ rs)) (begins_more _ (reply_lines rs) (thinking_begins depth (32 ∷ []) _ _ _ _ pv (10 ∷ [])))
+none_first (cecp.TellError user_errors.Position ∷ rs) e = refl
+none_first (cecp.Result outcomes.WhiteMates ∷ rs) e = refl
 none_first rs e = refl
 
 -- the count of moves of lines, by how they begin
-shown_next : (n : ℕ) (rs : List Reply) (ms : List AnyMove) → moves_told rs ≡ ms → ms ≡ [] → cond (shows_move (reply_lines rs)) (n + 1) n ≡ n + length (moves_told rs)
-shown_next n rs ms e z = ap (λ (b : Bool). cond b (n + 1) n) (none_first rs (e ∙ z)) ∙ (let q : n ≡ n + length (moves_told rs) = omega (arith, ap length (e ∙ z)) in q)
+shown_next : (n : ℕ) (rs : List Reply) (ms : List AnyMove) → moves_shown rs ≡ ms → ms ≡ [] → cond (shows_move (reply_lines rs)) (n + 1) n ≡ n + length (moves_shown rs)
+shown_next n rs ms e z = ap (λ (b : Bool). cond b (n + 1) n) (none_first rs (e ∙ z)) ∙ (let q : n ≡ n + length (moves_shown rs) = omega (arith, ap length (e ∙ z)) in q)
 
-one_next : (n : ℕ) (m : AnyMove) (rs : List Reply) → moves_told rs ≡ m ∷ [] → shows_move (reply_lines rs) ≡ true → cond (shows_move (reply_lines rs)) (n + 1) n ≡ n + length (moves_told rs)
-one_next n m rs e z = ap (λ (b : Bool). cond b (n + 1) n) z ∙ (let q : n + 1 ≡ n + length (moves_told rs) = omega (arith, ap length e) in q)
+one_next : (n : ℕ) (m : AnyMove) (rs : List Reply) → moves_shown rs ≡ m ∷ [] → shows_move (reply_lines rs) ≡ true → cond (shows_move (reply_lines rs)) (n + 1) n ≡ n + length (moves_shown rs)
+one_next n m rs e z = ap (λ (b : Bool). cond b (n + 1) n) z ∙ (let q : n + 1 ≡ n + length (moves_shown rs) = omega (arith, ap length e) in q)
 
-by_effect : (n : ℕ) (closed owes : Bool) (h : Situation) (d : Effect) → cond (shows_move (reply_lines (replies_of closed owes h d))) (n + 1) n ≡ n + length (moves_told (replies_of closed owes h d))
-unfolding row
+by_effect : (n : ℕ) (closed owes : Bool) (h : Situation) (d : Effect) → cond (shows_move (reply_lines (replies_of closed owes h d))) (n + 1) n ≡ n + length (moves_shown (replies_of closed owes h d))
+unfolding reply_row
 by_effect n true owes h d = omega arith
 by_effect n false owes h (Shows best hint) = one_next n best (replies_of false owes h (Shows best hint)) (open_shows owes h (Shows best hint)) refl
 by_effect n false owes h d = shown_next n (replies_of false owes h d) (shown_by d) (open_shows owes h d) refl
 
--- a lawful step tells a move exactly where what it wrote begins with one
-pub is_shown : (o : Settings) (step : Step) (t : List Step) (n : ℕ) → Lawful o (step ∷ t) → cond (shows_move (reply_lines step.replies)) (n + 1) n ≡ n + length (moves_told step.replies)
+-- a lawful step shows a move exactly where what it wrote begins with one
+pub is_shown : (o : Settings) (step : Step) (t : List Step) (n : ℕ) → LawfulTrace o (step ∷ t) → cond (shows_move (reply_lines step.replies)) (n + 1) n ≡ n + length (moves_shown step.replies)
 is_shown o step t n l =
     let s = state o t in
-    subst (λ (rs : List Reply). cond (shows_move (reply_lines rs)) (n + 1) n ≡ n + length (moves_told rs)) (sym l.1.replies) (by_effect n (closed_after s step.event) (is_move (owed_after s step.event)) (situation s) (effect s step.event))
+    subst (λ (rs : List Reply). cond (shows_move (reply_lines rs)) (n + 1) n ≡ n + length (moves_shown rs)) (sym l.1.replies) (by_effect n (closed_after s step.event) (is_move (owed_after s step.event)) (situation_of_state s) (effect s step.event))
 
 -- so what it wrote counts it
-pub counts_step : (o : Settings) (step : Step) (t : List Step) (tally : Tally) → Lawful o (step ∷ t) → counted_texts tally (iface_text step) (engine_text step) ≡ tally_after tally step
+pub counts_step : (o : Settings) (step : Step) (t : List Step) (tally : Tally) → LawfulTrace o (step ∷ t) → counted_texts tally (iface_text step) (engine_text step) ≡ tally_after tally step
 counts_step o step t tally l =
     ap with_shown (is_shown o step t tally.shown l) where
       with_shown : ℕ → Tally
-      with_shown n = record { steps = tally.steps + 1; to_iface = tally.to_iface + length (parts (iface_text step)); to_engine = tally.to_engine + length (parts (engine_text step)); shown = n }
+      with_shown n = record { steps = tally.steps + 1; to_iface = tally.to_iface + length (parts_by_feed (iface_text step)); to_engine = tally.to_engine + length (parts_by_feed (engine_text step)); shown = n }

@@ -2,21 +2,21 @@
 use Rattle.std.proofs.Common.{◌≡◌, ℕ, List, [], ◌∷◌, ◌++◌, refl, ap, subst, ◌∙◌}
 use Rattle.line_io.specs.Event.{Open}
 use Rattle.fen_text.specs.Written.{position_fen}
-use Rattle.game_record.specs.Game.{now_of}
+use Rattle.game_record.specs.Game.{current_position}
 use Rattle.policy_rules.specs.Policy.{usual}
-use Rattle.adapter_core.specs.Stands.{Stands}
+use Rattle.adapter_core.specs.Represents.{Represents}
 use Rattle.drill.specs.declared.round.Drill.{Drill}
 use Rattle.drill.specs.declared.tally.Tally.{Tally}
 use Rattle.drill.specs.Rounds.{Drill as AnyDrill, Rounds, first_drill, greeting_events, preparation, closing_events}
-use Rattle.drill.specs.Tally.{nothing, line_of}
+use Rattle.drill.specs.Tally.{nothing, drill_report_line}
 use Rattle.drill.specs.Played.{Drills}
 use Rattle.drill.specs.Sent.{DrillSession, Sent}
 use Rattle.drill.specs.Stood.{stand_of, RoundsPlayed}
 use Rattle.drill.proofs.Sending.{Traced, traced, sent_both}
 
-pub drilled : (number count : ℕ) (fresh greeted closed : DrillSession) (ready played : Drill) (line : List ℕ) → Stands usual fresh.core [] → fresh.tally ≡ nothing
+pub drilled : (number count : ℕ) (fresh greeted closed : DrillSession) (ready played : Drill) (line : List ℕ) → Represents usual fresh.core [] → fresh.tally ≡ nothing
     → Sent fresh greeted (Open ∷ greeting_events) → Sent greeted ready.session preparation → stand_of ready ≡ first_drill number → RoundsPlayed count ready played → Sent played.session closed closing_events
-    → line ≡ line_of number count closed.tally (position_fen (now_of played.game)) → Drills number count line
+    → line ≡ drill_report_line number count closed.tally (position_fen (current_position played.game)) → Drills number count line
 drilled number count fresh greeted closed ready played line stands none hello prepares stand r ends is =
     let rest = r.events ++ closing_events in
     let all = sent_both fresh greeted closed (Open ∷ greeting_events) (preparation ++ rest) hello (sent_both greeted ready.session closed preparation rest prepares (sent_both ready.session played.session closed r.events closing_events r.sent ends)) in
@@ -29,5 +29,5 @@ drilled number count fresh greeted closed ready played line stands none hello pr
       trace = t.trace;
       lawful = t.lawful;
       events_are = t.events_are;
-      line_is = is ∙ ap (λ (k : Tally). line_of number count k (position_fen (now_of played.game))) t.tally_is;
+      line_is = is ∙ ap (λ (k : Tally). drill_report_line number count k (position_fen (current_position played.game))) t.tally_is;
     }

@@ -1,14 +1,14 @@
--- What a drill comes to.
+-- The result of a drill.
 use Rattle.std.specs.Prelude.{◌≡◌, ℕ, List, ◌∷◌, ◌++◌}
 use Rattle.line_io.specs.Event.{Event, Open}
 use Rattle.fen_text.specs.Written.{position_fen}
-use Rattle.game_record.specs.Game.{now_of}
+use Rattle.game_record.specs.Game.{current_position}
 use Rattle.policy_rules.specs.Policy.{usual}
-use Rattle.adapter_core.specs.Trace.{Step, Lawful}
-use Rattle.session_script.specs.Script.{events}
+use Rattle.adapter_core.specs.Trace.{Step, LawfulTrace}
+use Rattle.trace_scripts.specs.Script.{events}
 use Rattle.drill.specs.Rounds.{Drill, Rounds, first_drill, greeting_events}
 use Rattle.drill.specs.Rounds.{preparation, closing_events}
-use Rattle.drill.specs.Tally.{tally_of, line_of}
+use Rattle.drill.specs.Tally.{tally_of, drill_report_line}
 
 -- The line gives the counts of the lawful trace of the drill's events with the usual settings, and
 -- the position of its game.
@@ -17,7 +17,7 @@ pub record Drills (number count : ℕ) (line : List ℕ) : Type 0 where
   pub last : Drill
   pub plays : Rounds count (first_drill number) rounds last
   pub trace : List Step
-  pub lawful : Lawful usual trace
+  pub lawful : LawfulTrace usual trace
   pub events_are : events trace
       ≡ Open ∷ (greeting_events ++ (preparation ++ (rounds ++ closing_events)))
-  pub line_is : line ≡ line_of number count (tally_of trace) (position_fen (now_of last.game))
+  pub line_is : line ≡ drill_report_line number count (tally_of trace) (position_fen (current_position last.game))

@@ -5,8 +5,8 @@ use Rattle.std.specs.Prelude.{if◌then◌else◌, nat_le, Option, Some, None, s
 use Rattle.line_io.specs.Event.{Event, Iface, Engine, EngineEnd}
 use Rattle.chess_board.specs.declared.board.Move.{Move}
 use Rattle.chess_board.specs.Play.{start_position, HasLegal}
-use Rattle.chess_board.specs.Text.{text_of, AreLegalMoves}
-use Rattle.game_record.specs.Game.{Game, ply_of, now_of, game_from, with_ply}
+use Rattle.chess_board.specs.Text.{text_of_move, AreLegalMoves}
+use Rattle.game_record.specs.Game.{Game, ply_of, current_position, game_from, with_ply}
 use Rattle.desk_rules.specs.Desk.{has_ended}
 use Rattle.drill.specs.Generator.{next, place_of}
 use Rattle.drill.specs.declared.round.TheConstants.{SPENT_PLIES}
@@ -24,7 +24,7 @@ first_drill number = record { seed = number; game = game_from start_position; hi
 -- a move is drawn from all legal ones, which stand in the order of their texts
 pub record Draws (s : Drill) (m : Move) : Type 0 where
   pub moves : List Move
-  pub legal : AreLegalMoves (now_of s.game) moves
+  pub legal : AreLegalMoves (current_position s.game) moves
   pub drawn : slice_get moves (place_of (next s.seed) (length moves)) ≡ Some m
 
 -- THE BEGINNING AND THE END
@@ -50,13 +50,13 @@ abbrev pub is_spent : Game → Bool
 is_spent g = has_ended g || nat_le SPENT_PLIES (length g.moves)
 
 -- an answer without a move
-abbrev pub no_move : Event
-no_move = Engine (codes "bestmove 0000")
+abbrev pub answer_without_move : Event
+answer_without_move = Engine (codes "bestmove 0000")
 
 -- the answer to a ponder search that is over
 abbrev pub late_answer : Option Move → List Event
 late_answer None = []
-late_answer (Some hint) = no_move ∷ []
+late_answer (Some hint) = answer_without_move ∷ []
 
 abbrev pub new_game : Option Move → List Event
 new_game hint = Iface (codes "new") ∷ (late_answer hint ++ Engine (codes "readyok") ∷ [])
@@ -72,7 +72,7 @@ unspent_drill s = if is_spent s.game then first_drill s.seed else s
 
 abbrev pub entry : Move → List Event
 entry m =
-    Iface (codes "time 30000") ∷ Iface (codes "otim 30000") ∷ Iface (codes "usermove " ++ text_of m)
+    Iface (codes "time 30000") ∷ Iface (codes "otim 30000") ∷ Iface (codes "usermove " ++ text_of_move m)
     ∷ []
 
 -- after a move that was drawn
@@ -82,19 +82,19 @@ drill_after_move s m = record { seed = next s.seed; game = with_ply s.game (ply_
 -- the ponder search of another move is over
 abbrev pub Misses : Option Move → Move → List Event → Type 0
 Misses None m es = es ≡ []
-Misses (Some hint) m es = ((hint ≡ m) × (es ≡ [])) ⊎ ((hint ≢ m) × (es ≡ no_move ∷ []))
+Misses (Some hint) m es = ((hint ≡ m) × (es ≡ [])) ⊎ ((hint ≢ m) × (es ≡ answer_without_move ∷ []))
 
 -- THE MOVE OF THE ENGINE
 
-abbrev pub thinks : Move → Event
-thinks m = Engine (codes "info depth 1 score cp 0 time 1 nodes 1 pv " ++ text_of m)
+abbrev pub thinking_event : Move → Event
+thinking_event m = Engine (codes "info depth 1 score cp 0 time 1 nodes 1 pv " ++ text_of_move m)
 
 abbrev pub answer : Move → List Event
-answer m = thinks m ∷ Engine (codes "bestmove " ++ text_of m) ∷ []
+answer m = thinking_event m ∷ Engine (codes "bestmove " ++ text_of_move m) ∷ []
 
 abbrev pub answer_with : Move → Move → List Event
 answer_with m hint =
-    thinks m ∷ Engine (codes "bestmove " ++ (text_of m ++ (codes " ponder " ++ text_of hint))) ∷ []
+    thinking_event m ∷ Engine (codes "bestmove " ++ (text_of_move m ++ (codes " ponder " ++ text_of_move hint))) ∷ []
 
 -- the engine ponders on the hint if the game has not ended, and would not have after the hint
 abbrev pub ponders : Game → Move → Bool
@@ -109,14 +109,14 @@ drill_with_hint s hint = record {
 
 -- what the engine answers, if the game has not ended: with a hint, if the side then
 -- on move has a legal move
-pub data Answers (s : Drill) (es : List Event) (s' : Drill) : Type 0 where
-  Nothing : has_ended s.game ≡ true → es ≡ [] → s' ≡ s → Answers s es s'
+pub data DrillAnswers (s : Drill) (es : List Event) (s' : Drill) : Type 0 where
+  Nothing : has_ended s.game ≡ true → es ≡ [] → s' ≡ s → DrillAnswers s es s'
   Alone : (m : Move) → has_ended s.game ≡ false → Draws s m
-      → ¬ HasLegal (now_of (drill_after_move s m).game) → es ≡ answer m → s' ≡ drill_after_move s m
-      → Answers s es s'
+      → ¬ HasLegal (current_position (drill_after_move s m).game) → es ≡ answer m → s' ≡ drill_after_move s m
+      → DrillAnswers s es s'
   WithHint : (m hint : Move) → has_ended s.game ≡ false → Draws s m
       → Draws (drill_after_move s m) hint → es ≡ answer_with m hint
-      → s' ≡ drill_with_hint (drill_after_move s m) hint → Answers s es s'
+      → s' ≡ drill_with_hint (drill_after_move s m) hint → DrillAnswers s es s'
 
 -- ROUNDS
 
@@ -127,7 +127,7 @@ pub record Round (s : Drill) (es : List Event) (s' : Drill) : Type 0 where
   pub missed : List Event
   pub misses : Misses (unspent_drill s).hint entered missed
   pub answered : List Event
-  pub answers : Answers (drill_after_move (unspent_drill s) entered) answered s'
+  pub answers : DrillAnswers (drill_after_move (unspent_drill s) entered) answered s'
   pub events_are : es ≡ renewal s ++ (entry entered ++ (missed ++ answered))
 
 -- so many rounds, one after the other

@@ -1,23 +1,23 @@
--- What was sent to the core.
+-- The input that was sent to the core.
 use Rattle.std.specs.Prelude.{◌≡◌, ℕ, ◌+◌, ◌*◌, ◌≤◌, List, [], ◌∷◌, Bool}
 use Rattle.std.specs.Prelude.{true, false, if◌then◌else◌, codes, length, eqb}
 use Rattle.std.specs.List.{starts_with}
 use Rattle.line_io.specs.Event.{Event, is_line}
-use Rattle.line_io.specs.Lines.{parts}
+use Rattle.line_io.specs.Lines.{parts_by_feed}
 use Rattle.policy_rules.specs.declared.settings.Settings.{Settings}
 use Rattle.policy_rules.specs.Policy.{usual}
 use Rattle.adapter_core.specs.declared.ends.Ends.{Ends}
-use Rattle.cecp_lines.specs.Quit.{is_quit}
-use Rattle.adapter_core.specs.Trace.{Step, Lawful}
+use Rattle.peer_words.specs.Quit.{is_quit}
+use Rattle.adapter_core.specs.Trace.{Step, LawfulTrace}
 use Rattle.adapter_core.specs.Parts.{CoreParts}
-use Rattle.adapter_core.specs.Stands.{Stands}
+use Rattle.adapter_core.specs.Represents.{Represents}
 use Rattle.drill.specs.declared.tally.Tally.{Tally}
 use Rattle.drill.specs.Tally.{tally_after}
 use Rattle.line_io.specs.declared.limits.TheConstants.{SCRIPT_LINE}
 use Rattle.drill.specs.declared.tally.TheConstants.{MOST_STEPS}
 
 -- the counts are small beside the number of steps
-pub record AreFew (t : Tally) : Type 0 where
+pub record CountsAreFew (t : Tally) : Type 0 where
   pub to_iface : t.to_iface ≤ SCRIPT_LINE * t.steps
   pub to_engine : t.to_engine ≤ SCRIPT_LINE * t.steps
   pub shown : t.shown ≤ t.steps
@@ -28,11 +28,11 @@ pub record DrillSession : Type 0 where
   pub tally : Tally
 
 -- a step of this event extends each lawful trace for which the core stood, and is counted
-pub record Sends (old new : DrillSession) (e : Event) : Type 0 where
+pub record DrillSends (old new : DrillSession) (e : Event) : Type 0 where
   pub step : Step
   pub event : step.event ≡ e
-  pub extends : (o : Settings) (t : List Step) → Lawful o t → Stands o old.core t
-      → Lawful o (step ∷ t) × Stands o new.core (step ∷ t)
+  pub extends : (o : Settings) (t : List Step) → LawfulTrace o t → Represents o old.core t
+      → LawfulTrace o (step ∷ t) × Represents o new.core (step ∷ t)
   pub tally_is : new.tally ≡ tally_after old.tally step
 
 -- the text begins with a move
@@ -43,25 +43,25 @@ shows_move text = starts_with eqb text (codes "move ")
 abbrev pub counted_texts : Tally → List ℕ → List ℕ → Tally
 counted_texts t iface engine = record {
   steps = t.steps + 1;
-  to_iface = t.to_iface + length (parts iface);
-  to_engine = t.to_engine + length (parts engine);
+  to_iface = t.to_iface + length (parts_by_feed iface);
+  to_engine = t.to_engine + length (parts_by_feed engine);
   shown = (if shows_move iface then t.shown + 1 else t.shown);
 }
 
 -- a step of this event was taken; if it is lawful, it was counted
-pub record Steps (old new : CoreParts) (e : Event) (tally_old tally_new : Tally) : Type 0 where
+pub record DrillSteps (old new : CoreParts) (e : Event) (tally_old tally_new : Tally) : Type 0 where
   pub step : Step
   pub event : step.event ≡ e
-  pub extends : (o : Settings) (t : List Step) → Lawful o t → Stands o old t
-      → Lawful o (step ∷ t) × Stands o new (step ∷ t)
-  pub tally_is : (o : Settings) (t : List Step) → Lawful o (step ∷ t)
+  pub extends : (o : Settings) (t : List Step) → LawfulTrace o t → Represents o old t
+      → LawfulTrace o (step ∷ t) × Represents o new (step ∷ t)
+  pub tally_is : (o : Settings) (t : List Step) → LawfulTrace o (step ∷ t)
       → tally_new ≡ tally_after tally_old step
-  pub few : AreFew tally_new
+  pub few : CountsAreFew tally_new
 
 -- the events were sent, the first one first
 abbrev pub Sent : DrillSession → DrillSession → List Event → Type 0
 Sent old new [] = new ≡ old
-Sent old new (e ∷ es) = (between : DrillSession) × Sends old between e × Sent between new es
+Sent old new (e ∷ es) = (between : DrillSession) × DrillSends old between e × Sent between new es
 
 -- both sides talk
 abbrev pub both_sides_open : Ends
@@ -75,16 +75,16 @@ both_sides_open = record {
 }
 
 -- so many steps more may be counted
-abbrev pub HasRoom : ℕ → DrillSession → Type 0
-HasRoom n p = p.tally.steps + n ≤ MOST_STEPS
+abbrev pub DrillHasRoom : ℕ → DrillSession → Type 0
+DrillHasRoom n p = p.tally.steps + n ≤ MOST_STEPS
 
 -- a line of the interface that does not end the session
 abbrev pub IsSpeech : List ℕ → Type 0
 IsSpeech line = (is_line line ≡ true) × (is_quit line ≡ false)
 
 -- the core stands for a lawful trace, and the counts are small
-pub record IsSteady (p : DrillSession) : Type 0 where
+pub record DrillInvariant (p : DrillSession) : Type 0 where
   pub trace : List Step
-  pub lawful : Lawful usual trace
-  pub stands : Stands usual p.core trace
-  pub few : AreFew p.tally
+  pub lawful : LawfulTrace usual trace
+  pub stands : Represents usual p.core trace
+  pub few : CountsAreFew p.tally

@@ -1,9 +1,9 @@
--- What the parts of a round do.
+-- The effects of the parts of a round.
 use Rattle.std.specs.Prelude.{◌≡◌, ℕ, List, ◌++◌}
 use Rattle.line_io.specs.Event.{Event}
 use Rattle.chess_board.specs.declared.board.Move.{Move}
 use Rattle.drill.specs.declared.round.Drill.{Drill}
-use Rattle.drill.specs.Rounds.{Drill as AnyDrill, Draws, Misses, Answers, Round, Rounds}
+use Rattle.drill.specs.Rounds.{Drill as AnyDrill, Draws, Misses, DrillAnswers, Round, Rounds}
 use Rattle.drill.specs.Rounds.{entry, answer_with, drill_after_move, drill_with_hint}
 use Rattle.drill.specs.Sent.{Sent}
 
@@ -29,7 +29,7 @@ pub record HintDrawn (old new : Drill) (m : Move) : Type 0 where
 -- the engine answered, if the game had not ended
 pub record EngineMoves (old new : Drill) : Type 0 where
   pub answered : List Event
-  pub answers : Answers (stand_of old) answered (stand_of new)
+  pub answers : DrillAnswers (stand_of old) answered (stand_of new)
   pub sent : Sent old.session new.session answered
 
 -- a round was played

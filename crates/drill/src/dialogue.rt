@@ -1,10 +1,10 @@
-// What is said in a session.
+// The dialogue of a session.
 ghost use Rattle.std.specs.Prelude.{◌≡◌, ◌≤◌, ◌+◌, ◌∷◌, List};
 ghost use Rattle.line_io.specs.Event.{Event as AnyEvent, Open};
 ghost use Rattle.chess_board.specs.Text.{IsOfficer};
 ghost use Rattle.adapter_core.specs.Ends.{at_start};
-ghost use Rattle.drill.specs.Rounds.{Misses, answer, answer_with, closing_events, entry, greeting_events, late_answer, new_game, preparation, thinks};
-ghost use Rattle.drill.specs.Sent.{HasRoom, Sends, Sent, both_sides_open};
+ghost use Rattle.drill.specs.Rounds.{Misses, answer, answer_with, closing_events, entry, greeting_events, late_answer, new_game, preparation, thinking_event};
+ghost use Rattle.drill.specs.Sent.{DrillHasRoom, DrillSends, Sent, both_sides_open};
 
 use crate::lines::{answer_with, line_with};
 use crate::session::DrillSession;
@@ -17,7 +17,7 @@ impl DrillSession {
     /// Opens the session, up to the engine's first `readyok`.
     pub fn greet(&mut self)
         requires start { self.old.core.ends ≡ at_start }
-        requires room { HasRoom 7 self.old }
+        requires room { DrillHasRoom 7 self.old }
         ensures sent { Sent self.old self.new (Open ∷ greeting_events) }
         ensures talking { self.new.core.ends ≡ both_sides_open }
         ensures few { self.new.tally.steps ≤ self.old.tally.steps + 7 }
@@ -34,7 +34,7 @@ impl DrillSession {
     /// Begins the first game, with thinking shown and the engine pondering.
     pub fn prepare(&mut self)
         requires talking { self.old.core.ends ≡ both_sides_open }
-        requires room { HasRoom 5 self.old }
+        requires room { DrillHasRoom 5 self.old }
         ensures sent { Sent self.old self.new preparation }
         ensures talking { self.new.core.ends ≡ both_sides_open }
         ensures few { self.new.tally.steps ≤ self.old.tally.steps + 5 }
@@ -49,7 +49,7 @@ impl DrillSession {
     // Answers a ponder search that is over.
     fn lapse(&mut self, hint: Option<Move>)
         requires talking { self.old.core.ends ≡ both_sides_open }
-        requires room { HasRoom 1 self.old }
+        requires room { DrillHasRoom 1 self.old }
         ensures sent { Sent self.old self.new (late_answer hint) }
         ensures talking { self.new.core.ends ≡ both_sides_open }
         ensures few { self.new.tally.steps ≤ self.old.tally.steps + 1 }
@@ -63,7 +63,7 @@ impl DrillSession {
     /// Begins a new game; the engine may ponder on a hint.
     pub fn begin_game(&mut self, hint: Option<Move>)
         requires talking { self.old.core.ends ≡ both_sides_open }
-        requires room { HasRoom 3 self.old }
+        requires room { DrillHasRoom 3 self.old }
         ensures sent { Sent self.old self.new (new_game hint) }
         ensures talking { self.new.core.ends ≡ both_sides_open }
         ensures few { self.new.tally.steps ≤ self.old.tally.steps + 3 }
@@ -77,7 +77,7 @@ impl DrillSession {
     pub fn enter(&mut self, m: Move)
         requires officer { IsOfficer m.promotion }
         requires talking { self.old.core.ends ≡ both_sides_open }
-        requires room { HasRoom 3 self.old }
+        requires room { DrillHasRoom 3 self.old }
         ensures sent { Sent self.old self.new (entry m) }
         ensures talking { self.new.core.ends ≡ both_sides_open }
         ensures few { self.new.tally.steps ≤ self.old.tally.steps + 3 }
@@ -90,7 +90,7 @@ impl DrillSession {
     /// Answers the ponder search of another move than the one that was entered.
     pub fn miss(&mut self, hint: Option<Move>, m: Move)
         requires talking { self.old.core.ends ≡ both_sides_open }
-        requires room { HasRoom 1 self.old }
+        requires room { DrillHasRoom 1 self.old }
         ensures sent { (es : List AnyEvent) × Misses hint m es × Sent self.old self.new es }
         ensures talking { self.new.core.ends ≡ both_sides_open }
         ensures few { self.new.tally.steps ≤ self.old.tally.steps + 1 }
@@ -106,8 +106,8 @@ impl DrillSession {
     fn think(&mut self, m: Move)
         requires officer { IsOfficer m.promotion }
         requires talking { self.old.core.ends ≡ both_sides_open }
-        requires room { HasRoom 1 self.old }
-        ensures sends { Sends self.old self.new (thinks m) }
+        requires room { DrillHasRoom 1 self.old }
+        ensures sends { DrillSends self.old self.new (thinking_event m) }
         ensures talking { self.new.core.ends ≡ both_sides_open }
         ensures few { self.new.tally.steps ≤ self.old.tally.steps + 1 }
     {
@@ -118,7 +118,7 @@ impl DrillSession {
     pub fn answer(&mut self, m: Move)
         requires officer { IsOfficer m.promotion }
         requires talking { self.old.core.ends ≡ both_sides_open }
-        requires room { HasRoom 2 self.old }
+        requires room { DrillHasRoom 2 self.old }
         ensures sent { Sent self.old self.new (answer m) }
         ensures talking { self.new.core.ends ≡ both_sides_open }
         ensures few { self.new.tally.steps ≤ self.old.tally.steps + 2 }
@@ -132,7 +132,7 @@ impl DrillSession {
         requires officer { IsOfficer m.promotion }
         requires hint { IsOfficer hint.promotion }
         requires talking { self.old.core.ends ≡ both_sides_open }
-        requires room { HasRoom 2 self.old }
+        requires room { DrillHasRoom 2 self.old }
         ensures sent { Sent self.old self.new (answer_with m hint) }
         ensures talking { self.new.core.ends ≡ both_sides_open }
         ensures few { self.new.tally.steps ≤ self.old.tally.steps + 2 }
@@ -144,7 +144,7 @@ impl DrillSession {
     /// Ends the session.
     pub fn close(&mut self)
         requires talking { self.old.core.ends ≡ both_sides_open }
-        requires room { HasRoom 2 self.old }
+        requires room { DrillHasRoom 2 self.old }
         ensures sent { Sent self.old self.new closing_events }
     {
         self.send(&Event::Iface(b"quit"));

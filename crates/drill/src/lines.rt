@@ -1,6 +1,6 @@
 // Lines with moves.
 ghost use Rattle.std.specs.Prelude.{◌≡◌, ◌++◌, ◌+◌, ◌≤◌, length, codes};
-ghost use Rattle.chess_board.specs.Text.{IsOfficer, text_of};
+ghost use Rattle.chess_board.specs.Text.{IsOfficer, text_of_move};
 
 use arrayvec::ArrayVec;
 use chess_board::{Move, move_texts_are_short, write_move};
@@ -12,7 +12,7 @@ pub type Line = ArrayVec<u8, 72>;
 pub fn line_with(words: &[u8], m: Move) -> Line
     requires officer { IsOfficer m.promotion }
     requires short { length words.now ≤ 48 }
-    ensures text { result.items ≡ words.now ++ text_of m }
+    ensures text { result.items ≡ words.now ++ text_of_move m }
     ensures short { length result.items ≤ length words.now + 5 }
 {
     move_texts_are_short(m);
@@ -27,7 +27,7 @@ pub fn answer_with(best: Move, hint: Move) -> Line
     requires best { IsOfficer best.promotion }
     requires hint { IsOfficer hint.promotion }
     ensures { result.items
-        ≡ codes "bestmove " ++ (text_of best ++ (codes " ponder " ++ text_of hint)) }
+        ≡ codes "bestmove " ++ (text_of_move best ++ (codes " ponder " ++ text_of_move hint)) }
 {
     let mut line = line_with(b"bestmove ", best);
     let behind = line_with(b" ponder ", hint);

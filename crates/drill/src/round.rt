@@ -3,14 +3,14 @@ ghost use Rattle.std.specs.Prelude.{◌≡◌, ◌≤◌, ◌<◌, ◌+◌, ◌*
 ghost use Rattle.chess_board.specs.Laws.{IsLegal};
 ghost use Rattle.chess_board.specs.Play.{HasLegal};
 ghost use Rattle.chess_board.specs.Text.{IsOfficer};
-ghost use Rattle.game_record.specs.Game.{now_of, ply_of, with_ply};
+ghost use Rattle.game_record.specs.Game.{current_position, ply_of, with_ply};
 ghost use Rattle.policy_rules.specs.Policy.{usual};
 ghost use Rattle.adapter_core.specs.Ends.{at_start};
-ghost use Rattle.adapter_core.specs.Stands.{Stands};
+ghost use Rattle.adapter_core.specs.Represents.{Represents};
 ghost use Rattle.desk_rules.specs.Desk.{has_ended};
 ghost use Rattle.drill.specs.Generator.{next};
 ghost use Rattle.drill.specs.Rounds.{Draws, is_spent, new_game, renewal, unspent_drill, first_drill, ponders};
-ghost use Rattle.drill.specs.Sent.{HasRoom, Sent, both_sides_open};
+ghost use Rattle.drill.specs.Sent.{DrillHasRoom, Sent, both_sides_open};
 ghost use Rattle.drill.specs.Tally.{nothing};
 ghost use Rattle.drill.specs.Stood.{stand_of, EngineMoves, HintDrawn, RoundPlayed, RoundsPlayed, UserMoves};
 ghost use Rattle.game_record.specs.declared.game.TheConstants.{MOST_PLIES};
@@ -42,9 +42,9 @@ fn has_ended(game: &Game) -> bool
     game.ended().is_some()
 }
 
-// Whether the side on move has a legal move.
+// True if the side on move has a legal move.
 fn can_move(game: &Game) -> bool
-    ensures { IsTrue result ↔ HasLegal (now_of game.now) }
+    ensures { IsTrue result ↔ HasLegal (current_position game.now) }
 {
     !matches!(game.now().state(), State::Mate | State::Stale)
 }
@@ -53,7 +53,7 @@ impl Drill {
     /// A drill before its first event. It takes all memory that it ever uses.
     pub fn make(alloc: Global, number: u32) -> Result<Drill, NoMemory>
         ensures stand { IfOk result (λ drill. stand_of drill ≡ first_drill number) }
-        ensures core { IfOk result (λ drill. Stands usual drill.session.core []) }
+        ensures core { IfOk result (λ drill. Represents usual drill.session.core []) }
         ensures ends { IfOk result (λ drill. drill.session.core.ends ≡ at_start) }
         ensures tally { IfOk result (λ drill. drill.session.tally ≡ nothing) }
     {
@@ -76,7 +76,7 @@ impl Drill {
     // Begins a new game if one is due.
     fn renew(&mut self)
         requires talking { self.old.session.core.ends ≡ both_sides_open }
-        requires room { HasRoom 3 self.old.session }
+        requires room { DrillHasRoom 3 self.old.session }
         ensures sent { Sent self.old.session self.new.session (renewal (stand_of self.old)) }
         ensures stand { stand_of self.new ≡ unspent_drill (stand_of self.old) }
         ensures open { is_spent self.new.game ≡ false }
@@ -91,7 +91,7 @@ impl Drill {
 
     fn begin_anew(&mut self)
         requires talking { self.old.session.core.ends ≡ both_sides_open }
-        requires room { HasRoom 3 self.old.session }
+        requires room { DrillHasRoom 3 self.old.session }
         ensures sent { Sent self.old.session self.new.session (new_game self.old.hint) }
         ensures stand { stand_of self.new ≡ first_drill self.old.seed }
         ensures talking { self.new.session.core.ends ≡ both_sides_open }
@@ -104,10 +104,10 @@ impl Drill {
 
     // Draws a legal move.
     fn draw(&mut self) -> Move
-        requires { HasLegal (now_of self.old.game) }
+        requires { HasLegal (current_position self.old.game) }
         ensures drawn { Draws (stand_of self.old) result }
         ensures legal { IsLegal
-            (now_of self.old.game) result.from.index result.to.index result.promotion }
+            (current_position self.old.game) result.from.index result.to.index result.promotion }
         ensures officer { IsOfficer result.promotion }
         ensures after { self.new ≡ record self.old { seed = next self.old.seed } }
     {
@@ -118,7 +118,8 @@ impl Drill {
 
     // Plays a move in the game of the drill.
     fn play(&mut self, m: Move)
-        requires legal { IsLegal (now_of self.old.game) m.from.index m.to.index m.promotion }
+        requires legal { IsLegal (current_position self.old.game) m.from.index m.to.index
+            m.promotion }
         requires plies { length self.old.game.moves < MOST_PLIES }
         ensures { self.new ≡ record self.old { game = with_ply self.old.game (ply_of m) } }
     {
@@ -130,7 +131,7 @@ impl Drill {
         requires open { has_ended self.old.game ≡ false }
         requires plies { length self.old.game.moves < SPENT_PLIES }
         requires talking { self.old.session.core.ends ≡ both_sides_open }
-        requires room { HasRoom 4 self.old.session }
+        requires room { DrillHasRoom 4 self.old.session }
         ensures moves { UserMoves self.old self.new }
         ensures quiet { self.new.hint ≡ None }
         ensures plies { length self.new.game.moves < SPENT_PLIES + 1 }
@@ -149,7 +150,7 @@ impl Drill {
         requires quiet { self.old.hint ≡ None }
         requires plies { length self.old.game.moves < SPENT_PLIES + 1 }
         requires talking { self.old.session.core.ends ≡ both_sides_open }
-        requires room { HasRoom 2 self.old.session }
+        requires room { DrillHasRoom 2 self.old.session }
         ensures moves { EngineMoves self.old self.new }
         ensures talking { self.new.session.core.ends ≡ both_sides_open }
         ensures few { self.new.session.tally.steps ≤ self.old.session.tally.steps + 2 }
@@ -169,9 +170,9 @@ impl Drill {
     // Answers with a move that was played, and draws a hint.
     fn answer_with_hint(&mut self, m: Move)
         requires officer { IsOfficer m.promotion }
-        requires legal { HasLegal (now_of self.old.game) }
+        requires legal { HasLegal (current_position self.old.game) }
         requires talking { self.old.session.core.ends ≡ both_sides_open }
-        requires room { HasRoom 2 self.old.session }
+        requires room { DrillHasRoom 2 self.old.session }
         ensures moves { HintDrawn self.old self.new m }
         ensures talking { self.new.session.core.ends ≡ both_sides_open }
         ensures few { self.new.session.tally.steps ≤ self.old.session.tally.steps + 2 }
@@ -184,7 +185,7 @@ impl Drill {
     // One round.
     fn round(&mut self)
         requires talking { self.old.session.core.ends ≡ both_sides_open }
-        requires room { HasRoom 9 self.old.session }
+        requires room { DrillHasRoom 9 self.old.session }
         ensures round { RoundPlayed self.old self.new }
         ensures talking { self.new.session.core.ends ≡ both_sides_open }
         ensures few { self.new.session.tally.steps ≤ self.old.session.tally.steps + 9 }
@@ -197,7 +198,7 @@ impl Drill {
     /// So many rounds.
     pub fn play_rounds(&mut self, count: u32)
         requires talking { self.old.session.core.ends ≡ both_sides_open }
-        requires room { HasRoom (9 * count) self.old.session }
+        requires room { DrillHasRoom (9 * count) self.old.session }
         ensures rounds { RoundsPlayed count self.old self.new }
         ensures talking { self.new.session.core.ends ≡ both_sides_open }
         ensures few { self.new.session.tally.steps ≤ self.old.session.tally.steps + 9 * count }
@@ -208,9 +209,9 @@ impl Drill {
     }
 }
 
-// Whether the engine ponders on a hint.
+// True if the engine ponders on a hint.
 fn ponders(game: &Game, hint: Move) -> bool
-    requires { IsLegal (now_of game.now) hint.from.index hint.to.index hint.promotion }
+    requires { IsLegal (current_position game.now) hint.from.index hint.to.index hint.promotion }
     ensures { result ≡ ponders game.now hint }
 {
     game.ended().is_none() && game.ended_after(hint).is_none()
@@ -218,7 +219,7 @@ fn ponders(game: &Game, hint: Move) -> bool
 
 // The hint, if the engine ponders on it.
 fn kept(game: &Game, hint: Move) -> Option<Move>
-    requires { IsLegal (now_of game.now) hint.from.index hint.to.index hint.promotion }
+    requires { IsLegal (current_position game.now) hint.from.index hint.to.index hint.promotion }
     ensures { result ≡ (if ponders game.now hint then Some hint else None) }
 {
     if ponders(game, hint) {

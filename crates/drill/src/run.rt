@@ -3,7 +3,7 @@ ghost use Rattle.std.specs.Prelude.{◌≡◌, ◌≤◌, ◌+◌, decimal, leng
 ghost use Rattle.line_io.specs.Out.{with, empty};
 ghost use Rattle.fen_text.specs.Written.{position_fen};
 ghost use Rattle.drill.specs.Played.{Drills};
-ghost use Rattle.drill.specs.Tally.{line_of};
+ghost use Rattle.drill.specs.Tally.{drill_report_line};
 ghost use Rattle.drill.specs.declared.run.TheConstants.{LINE_ROOM, MOST_ROUNDS};
 
 use crate::round::Drill;
@@ -33,7 +33,7 @@ fn put_number(number: u64, words: &[u8], out: &mut Out)
 // Puts the line of a drill.
 fn put_line(number: u32, count: u32, tally: Tally, position: &Position, out: &mut Out)
     requires { out.old ≡ empty LINE_ROOM }
-    ensures { out.new.text ≡ line_of number count tally (position_fen position.now) }
+    ensures { out.new.text ≡ drill_report_line number count tally (position_fen position.now) }
 {
     out.put(b"drill ");
     put_number(u64::from(number), b" ", out);

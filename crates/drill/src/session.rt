@@ -3,8 +3,8 @@ ghost use Rattle.std.specs.Prelude.{◌≡◌, ◌≤◌, ◌+◌, [], IfOk, tru
 ghost use Rattle.line_io.specs.Event.{event_of, is_line, Iface as FromIface, Engine as FromEngine};
 ghost use Rattle.policy_rules.specs.Policy.{usual};
 ghost use Rattle.adapter_core.specs.Ends.{at_start, ends_after, may};
-ghost use Rattle.adapter_core.specs.Stands.{Stands};
-ghost use Rattle.drill.specs.Sent.{AreFew, HasRoom, IsSpeech, Sends, Steps, both_sides_open};
+ghost use Rattle.adapter_core.specs.Represents.{Represents};
+ghost use Rattle.drill.specs.Sent.{CountsAreFew, DrillHasRoom, IsSpeech, DrillSends, DrillSteps, both_sides_open};
 ghost use Rattle.drill.specs.Tally.{nothing};
 ghost use Rattle.drill.specs.declared.tally.TheConstants.{MOST_STEPS};
 
@@ -23,20 +23,20 @@ pub struct DrillSession {
 }
 
 impl Model for DrillSession {
-    ghost use Rattle.drill.specs.Sent.{DrillSession as AnySession, IsSteady};
+    ghost use Rattle.drill.specs.Sent.{DrillSession as AnySession, DrillInvariant};
 
     ghost Value = { AnySession };
 
     ghost view = { λ s. record { core = s.core; tally = s.tally } };
 
-    ghost invariant = { λ s. IsSteady (record { core = s.core; tally = s.tally }) };
+    ghost invariant = { λ s. DrillInvariant (record { core = s.core; tally = s.tally }) };
 }
 
 // One step of the core, counted.
 fn step(core: &mut Core, event: &Event, tally: &mut Tally)
     requires may { may core.old.ends (event_of event.now) ≡ true }
-    requires few { (tally.old.steps ≤ MOST_STEPS) × AreFew tally.old }
-    ensures { Steps core.old core.new (event_of event.now) tally.old tally.new }
+    requires few { (tally.old.steps ≤ MOST_STEPS) × CountsAreFew tally.old }
+    ensures { DrillSteps core.old core.new (event_of event.now) tally.old tally.new }
 {
     let lines = core.step(event);
     tally.count(lines.iface, lines.engine);
@@ -45,7 +45,7 @@ fn step(core: &mut Core, event: &Event, tally: &mut Tally)
 impl DrillSession {
     /// A session before its first step.
     pub fn make(alloc: Global) -> Result<DrillSession, NoMemory>
-        ensures core { IfOk result (λ session. Stands usual session.core []) }
+        ensures core { IfOk result (λ session. Represents usual session.core []) }
         ensures ends { IfOk result (λ session. session.core.ends ≡ at_start) }
         ensures tally { IfOk result (λ session. session.tally ≡ nothing) }
     {
@@ -55,7 +55,7 @@ impl DrillSession {
         })
     }
 
-    /// What was counted so far.
+    /// The counts so far.
     pub fn tally(&self) -> Tally
         ensures { result ≡ self.now.tally }
     {
@@ -65,8 +65,8 @@ impl DrillSession {
     /// Sends an event.
     pub fn send(&mut self, event: &Event)
         requires may { may self.old.core.ends (event_of event.now) ≡ true }
-        requires room { HasRoom 1 self.old }
-        ensures sends { Sends self.old self.new (event_of event.now) }
+        requires room { DrillHasRoom 1 self.old }
+        ensures sends { DrillSends self.old self.new (event_of event.now) }
         ensures ends { self.new.core.ends ≡ ends_after self.old.core.ends (event_of event.now) }
         ensures few { self.new.tally.steps ≤ self.old.tally.steps + 1 }
     {
@@ -77,8 +77,8 @@ impl DrillSession {
     pub fn iface(&mut self, line: &[u8])
         requires talking { self.old.core.ends ≡ both_sides_open }
         requires speech { IsSpeech line.now }
-        requires room { HasRoom 1 self.old }
-        ensures sends { Sends self.old self.new (FromIface line.now) }
+        requires room { DrillHasRoom 1 self.old }
+        ensures sends { DrillSends self.old self.new (FromIface line.now) }
         ensures talking { self.new.core.ends ≡ both_sides_open }
         ensures few { self.new.tally.steps ≤ self.old.tally.steps + 1 }
     {
@@ -89,8 +89,8 @@ impl DrillSession {
     pub fn engine(&mut self, line: &[u8])
         requires talking { self.old.core.ends ≡ both_sides_open }
         requires line { is_line line.now ≡ true }
-        requires room { HasRoom 1 self.old }
-        ensures sends { Sends self.old self.new (FromEngine line.now) }
+        requires room { DrillHasRoom 1 self.old }
+        ensures sends { DrillSends self.old self.new (FromEngine line.now) }
         ensures talking { self.new.core.ends ≡ both_sides_open }
         ensures few { self.new.tally.steps ≤ self.old.tally.steps + 1 }
     {

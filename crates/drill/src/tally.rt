@@ -1,13 +1,13 @@
-// What a drill counts.
+// The counts of a drill.
 ghost use Rattle.std.specs.Prelude.{◌≡◌, ◌≤◌, ◌<◌, ◌+◌, ◌^◌, length};
-ghost use Rattle.line_io.specs.Lines.{parts};
+ghost use Rattle.line_io.specs.Lines.{parts_by_feed};
 ghost use Rattle.drill.specs.Tally.{nothing};
 ghost use Rattle.drill.specs.Sent.{counted_texts, shows_move};
 ghost use Rattle.line_io.specs.declared.limits.TheConstants.{SCRIPT_LINE};
 
 use line_io::split_line;
 
-// How many steps are counted at most.
+// The greatest number of steps that is counted.
 const MOST_STEPS: u64 = 1_000_000;
 
 /// Steps, lines to both peers, and moves that were shown.
@@ -21,7 +21,7 @@ pub struct Tally {
 
 fn count_lines(text: &[u8]) -> u64
     requires { length text.now ≤ SCRIPT_LINE }
-    ensures value { result ≡ length (parts text.now) }
+    ensures value { result ≡ length (parts_by_feed text.now) }
     ensures few { result ≤ SCRIPT_LINE }
 {
     let mut rest = text;

@@ -2,8 +2,8 @@
 #![tactic(auto)]
 
 use driver_runner::{drive_main, refuse_for_memory};
-use host_run::ProgramStart;
-use program_edges::{About, NO_MEMORY, WORDS_ROOM, answer_about, words_of};
+use program_command_line::{ARGUMENTS_ROOM, About, NO_MEMORY, answer_about, arguments_of};
+use program_lifecycle::ProgramStart;
 use std::process::ExitCode;
 
 const ABOUT: About = About {
@@ -21,10 +21,10 @@ fn main(rt: HostRuntime) -> ExitCode {
         return ExitCode::from(NO_MEMORY);
     };
     let (mut interface, mut host, mut diag) = (start.interface, start.host, start.diag);
-    let status = match words_of(&rt, rt.alloc(), WORDS_ROOM) {
-        Ok(words) => match answer_about(
+    let status = match arguments_of(&rt, rt.alloc(), ARGUMENTS_ROOM) {
+        Ok(arguments) => match answer_about(
             rt.alloc(),
-            words.as_slice(),
+            arguments.as_slice(),
             &ABOUT,
             &mut interface.output,
         ) {
@@ -32,7 +32,7 @@ fn main(rt: HostRuntime) -> ExitCode {
             None => drive_main(
                 &rt,
                 rt.alloc(),
-                words.as_slice(),
+                arguments.as_slice(),
                 &mut interface,
                 &mut host,
                 &mut diag,

@@ -1,5 +1,5 @@
 mod Drives
 mod Gone
 mod Records
-mod Told
+mod HeardEvents
 mod Refused

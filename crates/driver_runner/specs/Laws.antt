@@ -1,16 +1,16 @@
--- What no whole run leaves, over a host that tells its bytes.
+-- Results that no whole run leaves, over a host that reports its bytes.
 use Rattle.std.specs.Prelude.{◌≡◌, ℕ, List, [], ◌∷◌, ◌++◌, Some}
-use Rattle.host_run.specs.Outside.{Outside}
+use Rattle.program_lifecycle.specs.Outside.{Outside}
 use Rattle.cecp_driver.specs.Script.{script_text}
-use Rattle.driver_runner.specs.Recorded.{IsWhole}
+use Rattle.driver_runner.specs.Recorded.{DriverRunIsWhole}
 
 -- an empty log
-abbrev pub HasNoEmptyLog : Type 0
-HasNoEmptyLog = (bytes : List ℕ) (before after : Outside) → IsWhole bytes before after
-    → after.books.logs ≡ Some [] ∷ [] → ⊥
+abbrev pub DriverLogIsNotEmpty : Type 0
+DriverLogIsNotEmpty = (bytes : List ℕ) (before after : Outside) → DriverRunIsWhole bytes before after
+    → after.ledger.logs ≡ Some [] ∷ [] → ⊥
 
 -- a log with a byte after its script
-abbrev pub HasNoLongerLog : Type 0
-HasNoLongerLog = (bytes : List ℕ) (before after : Outside)
-    (run : IsWhole bytes before after) (byte : ℕ) (more : List ℕ)
-    → after.books.logs ≡ Some (script_text run.events run.states ++ byte ∷ more) ∷ [] → ⊥
+abbrev pub DriverLogIsNotLonger : Type 0
+DriverLogIsNotLonger = (bytes : List ℕ) (before after : Outside)
+    (run : DriverRunIsWhole bytes before after) (byte : ℕ) (more : List ℕ)
+    → after.ledger.logs ≡ Some (script_text run.events run.states ++ byte ∷ more) ∷ [] → ⊥

@@ -1,4 +1,4 @@
-pub mod Told
+pub mod HeardEvents
 pub mod Drives
 pub mod Recorded
 pub mod Driven

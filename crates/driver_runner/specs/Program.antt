@@ -1,4 +1,4 @@
--- What the program does.
+-- The behaviour of the program.
 use Rattle.std.specs.Prelude.{ℕ, List, codes}
 
 -- the name of the program, which stands in a diagnostic

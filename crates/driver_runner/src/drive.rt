@@ -1,16 +1,16 @@
 // One run of the driver over a host.
 ghost use Rattle.std.specs.Prelude.{◌<◌, length, map, string_bytes};
-ghost use Rattle.child_engine.specs.Hosts.{IsUnused};
-ghost use Rattle.host_run.specs.Asked.{AsksFor};
-ghost use Rattle.host_run.specs.Outside.{outside_of};
-ghost use Rattle.driver_runner.specs.Driven.{Leaves};
+ghost use Rattle.child_engine.specs.Hosts.{HostIsUnused};
+ghost use Rattle.program_lifecycle.specs.Asked.{AsksFor};
+ghost use Rattle.program_lifecycle.specs.Outside.{outside_of};
+ghost use Rattle.driver_runner.specs.Driven.{DriverLeaves};
 
 use crate::Driving;
 use cecp_driver::Driver;
 use child_engine::Host;
-use host_run::{Failures, Interface, only_memory};
 use line_io::{Sink, Source};
 use mediator::{RunRequest, run_mediator};
+use program_lifecycle::{Failures, Interface, only_memory};
 use std::alloc::Global;
 use std::sync::Wait;
 use std::thread::Threads;
@@ -21,25 +21,25 @@ pub fn drive_run<I: Source + Send, O: Sink + Send, H: Host, R: Threads + Wait + 
     rt: &R,
     alloc: Global,
     log_name: &str,
-    words: &[String],
+    arguments: &[String],
     interface: &mut Interface<I, O>,
     host: &mut H,
 ) -> Failures
-    requires words { 0 < length words.now }
-    requires unused { IsUnused (H.books host.old) }
-    ensures leaves { Leaves
-        (outside_of I.state O.state H.faults H.books interface.old host.old)
-        (outside_of I.state O.state H.faults H.books interface.new host.new)
+    requires arguments { 0 < length arguments.now }
+    requires unused { HostIsUnused (H.ledger host.old) }
+    ensures leaves { DriverLeaves
+        (outside_of I.state O.state H.faults H.ledger interface.old host.old)
+        (outside_of I.state O.state H.faults H.ledger interface.new host.new)
         result }
-    ensures asked { AsksFor (map string_bytes words.now) log_name.now
-        (H.asked host.old) (H.asked host.new) (H.books host.new) result }
+    ensures asked { AsksFor (map string_bytes arguments.now) log_name.now
+        (H.asked host.old) (H.asked host.new) (H.ledger host.new) result }
 {
     match Driver::make(alloc) {
         Ok(driver) => {
             let request = RunRequest {
                 first: b"",
                 log_name,
-                engine: words,
+                engine: arguments,
             };
             run_mediator(rt, alloc, Driving { driver }, &request, interface, host)
         }

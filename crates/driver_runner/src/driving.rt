@@ -12,9 +12,9 @@ pub struct Driving {
 }
 
 impl Mediator for Driving {
-    ghost use Rattle.driver_runner.specs.Drives.{drives};
+    ghost use Rattle.driver_runner.specs.Drives.{driving_meaning};
 
-    ghost means = { drives };
+    ghost means = { driving_meaning };
 
     fn begin(&mut self, text: &mut Out) {
         let _ = text;

@@ -1,6 +1,6 @@
 //! The running driver: a UCI interface's orders and a CECP engine's lines go to the driver, and what
 //! it gives goes to the interface, to the engine and into the log, over any host; and the program
-//! `driver`: words, the run that they ask for, and how it is reported.
+//! `driver`: arguments, the run that they ask for, and how it is reported.
 #![tactic(auto)]
 
 mod drive;

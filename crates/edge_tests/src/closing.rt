@@ -1,12 +1,12 @@
-// A writer that is let go when it is told so, and one that is let go behind `quit`.
+// A writer that is closed when it is told so, and one that is closed behind `quit`.
 ghost use Rattle.std.specs.Prelude.{◌<◌, length};
 
 use crate::expected::expect;
-use child_engine::{Closing, EngineInput, LetGo};
+use child_engine::{ClosableSink, Closing, EngineInput};
 use line_io::{Failed, Sink};
 use std::process::Abort;
 
-// Whether a sink that was let go takes nothing, and counts it.
+// True if a sink that was closed takes nothing, and counts it.
 fn is_shut(sink: &mut Closing<Vec<u8>>, piece: &[u8]) -> bool
     requires { 0 < length piece.now }
 {
@@ -14,7 +14,7 @@ fn is_shut(sink: &mut Closing<Vec<u8>>, piece: &[u8]) -> bool
 }
 
 #[test]
-fn a_writer_is_let_go(rt: HostRuntime) {
+fn a_sink_is_closed(rt: HostRuntime) {
     let bytes: Vec<u8> = Vec::new(rt.alloc());
     let mut sink = Closing::new(bytes);
     expect(
@@ -23,13 +23,13 @@ fn a_writer_is_let_go(rt: HostRuntime) {
         "open",
         0,
     );
-    sink.let_go();
+    sink.close_sink();
     expect(&rt, is_shut(&mut sink, b"quit\n"), "shut", 0);
     // a sink over no writer takes nothing
     expect(&rt, is_shut(&mut Closing::shut(), b"uci\n"), "shut", 1);
 }
 
-// What a piece's write answers, and whether the input is open after it.
+// The answer of a piece's write, and whether the input is open after it.
 fn expect_write(
     rt: &impl Abort,
     input: &mut EngineInput<&mut Vec<u8>>,
@@ -39,8 +39,8 @@ fn expect_write(
 )
     requires { 0 < length piece.now }
 {
-    let is_as_told = input.write(piece) == answer && input.is_open() == is_open;
-    expect(rt, is_as_told, "write", piece.len());
+    let is_as_reported = input.write(piece) == answer && input.is_open() == is_open;
+    expect(rt, is_as_reported, "write", piece.len());
 }
 
 #[test]

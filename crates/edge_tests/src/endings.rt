@@ -1,12 +1,12 @@
 // Endings and what is reported of them, and threads.
 use crate::expected::{expect, expect_bytes};
 use event_pipe::{ReadEnd, join_three};
-use host_run::{
-    Failures, ProgramEnding, TriedThreads, either, has_failed, has_lacked_memory, only_memory,
-    only_start, tell,
-};
 use line_io::{MemSink, ReadFault};
-use program_edges::WordsRefusal;
+use program_command_line::ArgumentsRefusal;
+use program_lifecycle::{
+    Failures, ProgramEnding, TriedThreads, either, has_failed, has_lacked_memory, only_memory,
+    only_start, report_ending,
+};
 use std::process::Abort;
 
 fn expect_code(rt: &impl Abort, ending: ProgramEnding, code: u8) {
@@ -14,8 +14,8 @@ fn expect_code(rt: &impl Abort, ending: ProgramEnding, code: u8) {
 }
 
 fn expect_end(rt: &impl Abort, end: ReadEnd, failed: bool, lacked_memory: bool) {
-    let is_as_told = has_failed(end) == failed && has_lacked_memory(end) == lacked_memory;
-    expect(rt, is_as_told, "end", 0);
+    let is_as_reported = has_failed(end) == failed && has_lacked_memory(end) == lacked_memory;
+    expect(rt, is_as_reported, "end", 0);
 }
 
 // Two calls that failed.
@@ -30,14 +30,14 @@ fn failures() -> Failures {
 #[test]
 fn the_first_failure_is_reported(rt: HostRuntime) {
     let mut diag = MemSink::make(rt.alloc(), 100, &[]).expect(&rt, "a diagnostic");
-    tell(b"driver", ProgramEnding::of(failures()), &mut diag);
-    tell(b"driver", ProgramEnding::of(Failures::default()), &mut diag);
+    report_ending(b"driver", ProgramEnding::of(failures()), &mut diag);
+    report_ending(b"driver", ProgramEnding::of(Failures::default()), &mut diag);
     expect_bytes(&rt, diag.taken(), b"driver: engine writing failed\n");
     expect_code(&rt, ProgramEnding::of(failures()), 7);
     expect_code(&rt, ProgramEnding::of(only_memory()), 3);
     expect_code(&rt, ProgramEnding::of(only_start()), 8);
-    expect_code(&rt, ProgramEnding::from(WordsRefusal::Usage), 2);
-    expect_code(&rt, ProgramEnding::from(WordsRefusal::NoMemory), 3);
+    expect_code(&rt, ProgramEnding::from(ArgumentsRefusal::Usage), 2);
+    expect_code(&rt, ProgramEnding::from(ArgumentsRefusal::NoMemory), 3);
     expect(
         &rt,
         either(false, true) && !either(false, false),

@@ -1,41 +1,41 @@
 // Hosts in memory and over real programs: what engines get and say, and what is kept of it.
 ghost use Rattle.std.specs.Prelude.{◌≡◌, ◌<◌, [], length, IfOk};
-ghost use Rattle.child_engine.specs.Hosts.{IsUnused};
-ghost use Rattle.child_engine.specs.Memory.{books_of};
+ghost use Rattle.child_engine.specs.Hosts.{HostIsUnused};
+ghost use Rattle.child_engine.specs.Memory.{memory_ledger};
 
 use crate::expected::{expect, expect_bytes};
 use child_engine::{
-    Closing, EngineInput, Fails, Host, HostFault, LetGo, MemHost, RealHost, SteadyHost,
+    ClosableSink, Closing, EngineInput, Fails, Host, HostFault, MemHost, RealHost, SteadyHost,
 };
-use host_run::{Opened, close_log, is_open_failure, is_open_memory, open_log};
 use line_io::{Sink, Source, write_all};
+use program_lifecycle::{Opened, close_log, is_open_failure, is_open_memory, open_log};
 use std::alloc::Global;
 use std::process::{Abort, ChildStdin};
 use std::{fs, process};
 
 /// These words, as a host gets them.
-fn words_of(rt: &impl Abort, alloc: Global, texts: &[&str]) -> Vec<String>
+fn arguments_of(rt: &impl Abort, alloc: Global, texts: &[&str]) -> Vec<String>
     ensures { 0 < length result.items }
 {
-    let mut words: Vec<String> = Vec::new(alloc);
+    let mut arguments: Vec<String> = Vec::new(alloc);
     for text in texts {
         let word = String::from_str(alloc, text).expect(rt, "a word");
-        words.push(word).expect(rt, "room for a word");
+        arguments.push(word).expect(rt, "room for a word");
     }
-    assert!(rt; !words.is_empty());
-    words
+    assert!(rt; !arguments.is_empty());
+    arguments
 }
 
-fn are_texts(words: &[String], texts: &[&str]) -> bool {
-    for (word, text) in words.iter().zip(texts) {
+fn are_texts(arguments: &[String], texts: &[&str]) -> bool {
+    for (word, text) in arguments.iter().zip(texts) {
         if word.as_str() != *text {
             return false;
         }
     }
-    words.len() == texts.len()
+    arguments.len() == texts.len()
 }
 
-/// What is written to an engine, if anything, and what it says at a read then.
+/// The text written to an engine, if any, and the text that it says at a read then.
 type Turn = (&'static [u8], &'static [u8]);
 
 fn is_turn<S: Source, K: Sink>(source: &mut S, sink: &mut K, piece: &[u8], said: &[u8]) -> bool {
@@ -59,37 +59,37 @@ fn are_turns<S: Source, K: Sink>(source: &mut S, sink: &mut K, turns: &[Turn]) -
 fn run_engine<H: Host>(
     host: &mut H,
     alloc: Global,
-    words: &[String],
+    arguments: &[String],
     turns: &[Turn],
 ) -> Result<bool, HostFault>
-    requires words { 0 < length words.now }
-    requires unused { IsUnused (H.books host.old) }
-    ensures runs { IfOk result (λ _. length (H.books host.new).runs ≡ 1) }
-    ensures logs { (H.books host.new).logs ≡ [] }
-    ensures logs_out { (H.books host.new).logs_out ≡ 0 }
+    requires arguments { 0 < length arguments.now }
+    requires unused { HostIsUnused (H.ledger host.old) }
+    ensures runs { IfOk result (λ _. length (H.ledger host.new).runs ≡ 1) }
+    ensures logs { (H.ledger host.new).logs ≡ [] }
+    ensures logs_out { (H.ledger host.new).logs_out ≡ 0 }
 {
-    let mut run = host.start(alloc, words)?;
-    let are_as_told = are_turns(&mut run.source, &mut run.sink, turns);
-    Ok(host.close(run).is_ok() && are_as_told)
+    let mut run = host.start(alloc, arguments)?;
+    let are_as_reported = are_turns(&mut run.source, &mut run.sink, turns);
+    Ok(host.close(run).is_ok() && are_as_reported)
 }
 
-// The same, if its input is let go after the turns, and its output ends then.
+// The same, if its input is closed after the turns, and its output ends then.
 fn run_to_its_end<H: Host>(
     host: &mut H,
     alloc: Global,
-    words: &[String],
+    arguments: &[String],
     turns: &[Turn],
 ) -> Result<bool, HostFault>
 where
-    H::EngineSink: LetGo,
-    requires words { 0 < length words.now }
-    requires unused { IsUnused (H.books host.old) }
+    H::EngineSink: ClosableSink,
+    requires arguments { 0 < length arguments.now }
+    requires unused { HostIsUnused (H.ledger host.old) }
 {
-    let mut run = host.start(alloc, words)?;
-    let are_as_told = are_turns(&mut run.source, &mut run.sink, turns);
-    run.sink.let_go();
+    let mut run = host.start(alloc, arguments)?;
+    let are_as_reported = are_turns(&mut run.source, &mut run.sink, turns);
+    run.sink.close_sink();
     let ends = run.source.read(&mut [0; 20]) == Ok(0);
-    Ok(host.close(run).is_ok() && are_as_told && ends)
+    Ok(host.close(run).is_ok() && are_as_reported && ends)
 }
 
 // Opens a log, writes this into it and closes it: whether all went well, or why it was not opened.
@@ -99,9 +99,9 @@ fn log_once<H: Host>(
     name: &str,
     piece: &[u8],
 ) -> Result<bool, Option<HostFault>>
-    requires logs { (H.books host.old).logs ≡ [] }
-    requires logs_out { (H.books host.old).logs_out ≡ 0 }
-    ensures { IfOk result (λ _. length (H.books host.new).logs ≡ 1) }
+    requires logs { (H.ledger host.old).logs ≡ [] }
+    requires logs_out { (H.ledger host.old).logs_out ≡ 0 }
+    ensures { IfOk result (λ _. length (H.ledger host.new).logs ≡ 1) }
 {
     let Opened { log, fault } = open_log(host, alloc, name);
     match log {
@@ -121,27 +121,27 @@ const TURNS: [Turn; 2] = [(b"uci\n", b"ucio"), (b"", b"k\n")];
 
 // The host keeps what it was asked for, also in vain.
 fn was_asked_once(host: &MemHost) -> bool {
-    for words in host.engines() {
-        if !are_texts(words.as_slice(), &WORDS) {
+    for arguments in host.engines() {
+        if !are_texts(arguments.as_slice(), &WORDS) {
             return false;
         }
     }
     host.engines().len() == 1 && are_texts(host.log_names(), &["a.log"])
 }
 
-// Whether an engine's start was refused, or it went as told.
+// True if an engine's start was refused, or it went as told.
 fn has_started(host: &MemHost, ran: Result<bool, HostFault>, refuses: bool) -> bool
-    requires { IfOk ran (λ _. length (books_of host.now).runs ≡ 1) }
+    requires { IfOk ran (λ _. length (memory_ledger host.now).runs ≡ 1) }
 {
     match ran {
-        Ok(is_as_told) => !refuses && is_as_told && host.wrote(0) == b"uci\n".as_slice(),
+        Ok(is_as_reported) => !refuses && is_as_reported && host.wrote(0) == b"uci\n".as_slice(),
         Err(fault) => refuses && fault == HostFault::Failed,
     }
 }
 
-// Whether a log was refused, or took what was written.
+// True if a log was refused, or took what was written.
 fn has_logged(host: &MemHost, written: Result<bool, Option<HostFault>>, refuses: bool) -> bool
-    requires { IfOk written (λ _. length (books_of host.now).logs ≡ 1) }
+    requires { IfOk written (λ _. length (memory_ledger host.now).logs ≡ 1) }
 {
     match written {
         Ok(is_written) => !refuses && is_written && host.logged(0) == b"U uci\n".as_slice(),
@@ -156,8 +156,8 @@ fn expect_kept(rt: &impl Abort, alloc: Global, refuses: bool) {
         ..Fails::default()
     };
     let mut host = MemHost::make(alloc, b"uciok\n", 4, 16, &fails).expect(rt, "a host");
-    let words = words_of(rt, alloc, &WORDS);
-    let ran = run_engine(&mut host, alloc, words.as_slice(), &TURNS);
+    let arguments = arguments_of(rt, alloc, &WORDS);
+    let ran = run_engine(&mut host, alloc, arguments.as_slice(), &TURNS);
     expect(rt, has_started(&host, ran, refuses), "start", 0);
     let written = log_once(&mut host, alloc, "a.log", b"U uci\n");
     expect(rt, has_logged(&host, written, refuses), "log", 0);
@@ -173,14 +173,14 @@ fn a_host_in_memory_keeps_what_it_was_asked_for(rt: HostRuntime) {
 #[test]
 fn a_steady_host_says_the_same_bytes(rt: HostRuntime) {
     let mut host = SteadyHost::make(rt.alloc(), b"uciok\n", 4).expect(&rt, "a host");
-    let words = words_of(&rt, rt.alloc(), &["cat"]);
-    let ran = run_engine(&mut host, rt.alloc(), words.as_slice(), &TURNS);
+    let arguments = arguments_of(&rt, rt.alloc(), &["cat"]);
+    let ran = run_engine(&mut host, rt.alloc(), arguments.as_slice(), &TURNS);
     expect(&rt, ran == Ok(true), "start", 0);
     let written = log_once(&mut host, rt.alloc(), "a.log", b"U uci\n");
     expect(&rt, written == Ok(true), "log", 0);
 }
 
-/// The words of a program, and its turns until its input is let go and it ends.
+/// The arguments of a program, and its turns until its input is closed and it ends.
 type Run = (&'static [&'static str], &'static [Turn]);
 
 const RUNS: [Run; 2] = [
@@ -194,11 +194,11 @@ const RUNS: [Run; 2] = [
 ];
 
 #[test]
-fn an_engine_gets_its_words_and_reads_on(rt: HostRuntime) {
-    for (words, turns) in &RUNS {
+fn an_engine_gets_its_arguments(rt: HostRuntime) {
+    for (arguments, turns) in &RUNS {
         let mut host = RealHost::<_, Closing<ChildStdin>>::new(&rt, true);
-        let words = words_of(&rt, rt.alloc(), words);
-        let ran = run_to_its_end(&mut host, rt.alloc(), words.as_slice(), turns);
+        let arguments = arguments_of(&rt, rt.alloc(), arguments);
+        let ran = run_to_its_end(&mut host, rt.alloc(), arguments.as_slice(), turns);
         expect(&rt, ran == Ok(true), "start", turns.len());
     }
 }
@@ -207,9 +207,9 @@ fn an_engine_gets_its_words_and_reads_on(rt: HostRuntime) {
 #[test]
 fn an_engine_that_quits_gets_no_more(rt: HostRuntime) {
     let mut host = RealHost::<_, EngineInput<ChildStdin>>::new(&rt, true);
-    let words = words_of(&rt, rt.alloc(), &["cat"]);
+    let arguments = arguments_of(&rt, rt.alloc(), &["cat"]);
     let turns: [Turn; 2] = [(b"quit\n", b"quit\n"), (b"", b"")];
-    let ran = run_engine(&mut host, rt.alloc(), words.as_slice(), &turns);
+    let ran = run_engine(&mut host, rt.alloc(), arguments.as_slice(), &turns);
     expect(&rt, ran == Ok(true), "start", 0);
 }
 

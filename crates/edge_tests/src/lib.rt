@@ -5,6 +5,8 @@
 #[cfg(test)]
 mod closing;
 #[cfg(test)]
+mod consumers;
+#[cfg(test)]
 mod edges;
 #[cfg(test)]
 mod endings;
@@ -20,5 +22,3 @@ mod pipe;
 mod scripted;
 #[cfg(test)]
 mod sinks;
-#[cfg(test)]
-mod takers;

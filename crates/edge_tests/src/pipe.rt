@@ -1,6 +1,6 @@
 // Lines on their way through the channel.
 ghost use Rattle.std.specs.Prelude.{◌≡◌, []};
-ghost use Rattle.event_pipe.specs.Ends.{IsSender, IsTaker, KeepsSender, KeepsTaker, events_sent};
+ghost use Rattle.event_pipe.specs.Ends.{IsSender, IsReceiver, KeepsSender, KeepsReceiver, events_sent};
 
 use crate::expected::{expect, source_of};
 use event_pipe::{Pipe, PipeSend, PipeTake, ReadEnd, read_pipe};
@@ -9,7 +9,7 @@ use std::alloc::Global;
 use std::process::Abort;
 use std::sync::Wait;
 
-/// What a side gives: so many letters, and then these bytes, all in pieces; the reads that fail,
+/// The text of a side: so many letters, and then these bytes, all in pieces; the reads that fail,
 /// and how its reader ends.
 #[derive(Clone, Copy)]
 struct Given {
@@ -28,7 +28,7 @@ const NOTHING: Given = Given {
     end: ReadEnd::Done,
 };
 
-/// What the engine and the interface give, and the events of both, of which those of the interface
+/// The texts of the engine and of the interface, and the events of both, of which those of the interface
 /// come first.
 type Row = (Given, Given, &'static [Event<'static>]);
 
@@ -95,23 +95,23 @@ fn send(rt: &(impl Abort + Wait), alloc: Global, given: &Given, to: &mut PipeSen
 }
 
 /// Takes the next events, and compares them.
-fn take_all(rt: &(impl Abort + Wait), taker: &mut PipeTake, events: &[Event], row: usize)
-    requires { IsTaker taker.old }
-    ensures { KeepsTaker taker.old taker.new }
+fn take_all(rt: &(impl Abort + Wait), receiving_end: &mut PipeTake, events: &[Event], row: usize)
+    requires { IsReceiver receiving_end.old }
+    ensures { KeepsReceiver receiving_end.old receiving_end.new }
 {
     for event in events {
-        let sent = taker.take(rt);
+        let sent = receiving_end.take(rt);
         expect(rt, sent.event() == *event, "row", row);
     }
 }
 
 fn expect_row(rt: &(impl Abort + Wait), alloc: Global, row: &Row, number: usize) {
     let (engine, iface, events) = row;
-    let (mut input, mut child, mut taker) = Pipe::make(alloc).expect(rt, "a channel");
+    let (mut input, mut child, mut receiving_end) = Pipe::make(alloc).expect(rt, "a channel");
     send(rt, alloc, iface, &mut input);
     send(rt, alloc, engine, &mut child);
-    take_all(rt, &mut taker, events, number);
-    Pipe::finish(input, child, taker);
+    take_all(rt, &mut receiving_end, events, number);
+    Pipe::finish(input, child, receiving_end);
 }
 
 #[test]

@@ -1,10 +1,10 @@
 // Sinks in memory and writers, what goes to threads, and pieces that are offered.
 use crate::expected::{expect, expect_bytes};
-use host_run::{offer, offer_log};
 use line_io::{
     Failed, MemSink, MemSource, NullSink, Out, ReadAdapter, Sink, SteadySource, WriteAdapter,
     write_all,
 };
+use program_lifecycle::{offer, offer_log};
 use std::io::{self, ErrorKind, Read, Write};
 
 // Only what may go to another thread is taken.
@@ -33,7 +33,7 @@ fn a_sink_takes_more_after_a_failure(rt: HostRuntime) {
     expect_bytes(&rt, sink.taken(), b"ab");
 }
 
-// Whether there is this much room, and these bytes stand there.
+// True if there is this much room, and these bytes stand there.
 fn has(out: &Out, spare: usize, bytes: &[u8]) -> bool {
     out.spare() == spare && out.bytes() == bytes
 }

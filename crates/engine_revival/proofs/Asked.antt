@@ -11,21 +11,21 @@ use Rattle.peer_words.proofs.Lengths.{trimmed_length}
 use Rattle.uci_lines.specs.Cuts.{is_word}
 use Rattle.uci_lines.specs.Orders.{Order as OwnOrder}
 use Rattle.uci_lines.specs.OrderReading.{order_in as own_order_in}
-use Rattle.uci_engine_side.specs.Kinds.{has_word, kind_asked}
-use Rattle.uci_engine_side.specs.Lines.{Line, line_of}
-use Rattle.engine_revival.specs.Orders.{RevivalOrder, order_text}
+use Rattle.uci_as_engine.specs.Kinds.{has_token_word, kind_asked}
+use Rattle.uci_as_engine.specs.Lines.{Line, position_line_in}
+use Rattle.engine_revival.specs.Orders.{RevivalOrder, revival_order_text}
 use Rattle.engine_revival.specs.Orders as orders
-use Rattle.engine_revival.specs.Asked.{asked_by, setting_after_name, order_in, position_asked, setting_asked, setting_of, word_asked}
+use Rattle.engine_revival.specs.Asked.{tokens_ask_for, setting_after_name, revival_order_in, position_asked, setting_asked, setting_asked_of, word_asked}
 
 some_is : (a b : RevivalOrder) → Some a ≡ Some b → a ≡ b
 some_is a b e = cc
 
-word_or : (b : Bool) (line word : List ℕ) (o c : RevivalOrder) (more : Option RevivalOrder) → bytes_eq line word ≡ b → order_text o ≡ word → (more ≡ Some c → line ≡ order_text c) → (if b then Some o else more) ≡ Some c → line ≡ order_text c
-word_or true line word o c more e t h k = (bytes_eq-Decides line word).0 e ∙ sym t ∙ ap order_text (some_is o c k)
+word_or : (b : Bool) (line word : List ℕ) (o c : RevivalOrder) (more : Option RevivalOrder) → bytes_eq line word ≡ b → revival_order_text o ≡ word → (more ≡ Some c → line ≡ revival_order_text c) → (if b then Some o else more) ≡ Some c → line ≡ revival_order_text c
+word_or true line word o c more e t h k = (bytes_eq-Decides line word).0 e ∙ sym t ∙ ap revival_order_text (some_is o c k)
 word_or false line word o c more e t h k = h k
 
-word_text : (line : List ℕ) (c : RevivalOrder) → word_asked line ≡ Some c → line ≡ order_text c
-unfolding order_text
+word_text : (line : List ℕ) (c : RevivalOrder) → word_asked line ≡ Some c → line ≡ revival_order_text c
+unfolding revival_order_text
 word_text line c h =
     word_or (bytes_eq line (codes "uci")) line (codes "uci") orders.Uci c _ refl refl
     (word_or (bytes_eq line (codes "isready")) line (codes "isready") orders.IsReady c _ refl refl
@@ -35,43 +35,43 @@ word_text line c h =
     (word_or (bytes_eq line (codes "quit")) line (codes "quit") orders.Quit c None refl refl
     (λ e. absurd (cc))))))) h
 
-setting_text : (b : Bool) (ts : List (List ℕ)) (line : List ℕ) (c : RevivalOrder) → Some (setting_of b ts line) ≡ Some c → line ≡ order_text c
-unfolding order_text
-setting_text true ts line c e = ap order_text (some_is (setting_of true ts line) c e)
-setting_text false ts line c e = ap order_text (some_is (setting_of false ts line) c e)
+setting_text : (b : Bool) (ts : List (List ℕ)) (line : List ℕ) (c : RevivalOrder) → Some (setting_asked_of b ts line) ≡ Some c → line ≡ revival_order_text c
+unfolding revival_order_text
+setting_text true ts line c e = ap revival_order_text (some_is (setting_asked_of true ts line) c e)
+setting_text false ts line c e = ap revival_order_text (some_is (setting_asked_of false ts line) c e)
 
-named_text : (b : Bool) (ts : List (List ℕ)) (line : List ℕ) (c : RevivalOrder) → (if b then setting_after_name ts line else None) ≡ Some c → line ≡ order_text c
+named_text : (b : Bool) (ts : List (List ℕ)) (line : List ℕ) (c : RevivalOrder) → (if b then setting_after_name ts line else None) ≡ Some c → line ≡ revival_order_text c
 named_text true [] line c e = absurd (cc)
-named_text true (t ∷ ts) line c e = setting_text (has_word (codes "value") ts) (t ∷ ts) line c e
+named_text true (t ∷ ts) line c e = setting_text (has_token_word (codes "value") ts) (t ∷ ts) line c e
 named_text false ts line c e = absurd (cc)
 
-settings_text : (ts : List (List ℕ)) (line : List ℕ) (c : RevivalOrder) → setting_asked ts line ≡ Some c → line ≡ order_text c
+settings_text : (ts : List (List ℕ)) (line : List ℕ) (c : RevivalOrder) → setting_asked ts line ≡ Some c → line ≡ revival_order_text c
 settings_text [] line c e = absurd (cc)
 settings_text (t ∷ ts) line c e = named_text (is_word (codes "name") t) ts line c e
 
-position_text : (own : Option OwnOrder) (o : Option Line) (line : List ℕ) (c : RevivalOrder) → position_asked own o line ≡ Some c → line ≡ order_text c
-unfolding order_text
-position_text (Some own) o line c e = ap order_text (some_is (orders.Position line) c e)
-position_text None (Some said) line c e = ap order_text (some_is (orders.Position line) c e)
+position_text : (own : Option OwnOrder) (o : Option Line) (line : List ℕ) (c : RevivalOrder) → position_asked own o line ≡ Some c → line ≡ revival_order_text c
+unfolding revival_order_text
+position_text (Some own) o line c e = ap revival_order_text (some_is (orders.Position line) c e)
+position_text None (Some said) line c e = ap revival_order_text (some_is (orders.Position line) c e)
 position_text None None line c e = absurd (cc)
 
-go_text : (line : List ℕ) (c : RevivalOrder) → Some (orders.Go (kind_asked line) line) ≡ Some c → line ≡ order_text c
-unfolding order_text
-go_text line c e = ap order_text (some_is (orders.Go (kind_asked line) line) c e)
+go_text : (line : List ℕ) (c : RevivalOrder) → Some (orders.Go (kind_asked line) line) ≡ Some c → line ≡ revival_order_text c
+unfolding revival_order_text
+go_text line c e = ap revival_order_text (some_is (orders.Go (kind_asked line) line) c e)
 
 by_word : (a b g : Bool) (ts : List (List ℕ)) (line : List ℕ) (c : RevivalOrder)
-    → (if a then setting_asked ts line else (if b then position_asked (own_order_in line) (line_of line) line else (if g then Some (orders.Go (kind_asked line) line) else word_asked line))) ≡ Some c → line ≡ order_text c
+    → (if a then setting_asked ts line else (if b then position_asked (own_order_in line) (position_line_in line) line else (if g then Some (orders.Go (kind_asked line) line) else word_asked line))) ≡ Some c → line ≡ revival_order_text c
 by_word true b g ts line c e = settings_text ts line c e
-by_word false true g ts line c e = position_text (own_order_in line) (line_of line) line c e
+by_word false true g ts line c e = position_text (own_order_in line) (position_line_in line) line c e
 by_word false false true ts line c e = go_text line c e
 by_word false false false ts line c e = word_text line c e
 
-by_tokens : (ts : List (List ℕ)) (line : List ℕ) (c : RevivalOrder) → asked_by ts line ≡ Some c → line ≡ order_text c
+by_tokens : (ts : List (List ℕ)) (line : List ℕ) (c : RevivalOrder) → tokens_ask_for ts line ≡ Some c → line ≡ revival_order_text c
 by_tokens [] line c e = absurd (cc)
 by_tokens (t ∷ ts) line c e = by_word (is_word (codes "setoption") t) (is_word (codes "position") t) (is_word (codes "go") t) ts line c e
 
-pub asked_text : (line : List ℕ) (c : RevivalOrder) → order_in line ≡ Some c → line ≡ order_text c
-unfolding order_in
+pub asked_text : (line : List ℕ) (c : RevivalOrder) → revival_order_in line ≡ Some c → line ≡ revival_order_text c
+unfolding revival_order_in
 asked_text line c e = by_tokens (tokens line) line c e
 
 -- WITHOUT THE WHITE SPACE AT ITS ENDS A LINE IS ONE STILL

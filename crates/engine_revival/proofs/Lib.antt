@@ -1,11 +1,13 @@
 pub mod Asked
 pub mod Read
+pub mod Canonical
 pub mod Lines
 pub mod Rooms
 pub mod Marks
 pub mod Wires
 pub mod Agrees
 pub mod Sent
+pub mod Ready
 pub mod Searches
 pub mod Values
 pub mod Presses

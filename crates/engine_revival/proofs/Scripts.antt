@@ -1,21 +1,21 @@
--- What is written for events is a script, and its events are these.
-use Rattle.std.proofs.Common.{◌≡◌, ◌≤◌, ◌&&◌, ℕ, List, [], ◌∷◌, ◌++◌, map, length, filter, cond, Bool, true, false, not, Option, Some, None, refl, sym, ap, subst, ◌∙◌, arith, append_assoc, if◌then◌else◌}
+-- The text written for events is a script, and its events are these.
+use Rattle.std.proofs.Common.{◌≡◌, ◌≤◌, ◌&&◌, ℕ, zero, suc, codes, List, [], ◌∷◌, ◌++◌, map, length, filter, cond, Bool, true, false, not, Option, Some, None, refl, sym, ap, subst, ◌∙◌, arith, append_assoc, if◌then◌else◌}
 use Rattle.std.specs.Prelude.{nat_le}
 use Rattle.std.specs.List.{AllByRecursion, flat_map}
 use Rattle.std.proofs.lemmas.Bool.Decides.{nat_tests}
 use Rattle.std.proofs.lemmas.List.Concat.{flat_map-append}
 use Rattle.std.proofs.lemmas.Bool.{and_parts}
 use Rattle.line_io.specs.Event.{Event, Iface, IfaceEnd, Engine, EngineLong, has_feed, is_line}
-use Rattle.line_io.specs.Lines.{parts}
-use Rattle.script_lines.specs.Marks.{Mark, Happens, ToIface, ToEngine, IsSpelled, event_marked, is_written, line_marked, mark_line}
-use Rattle.script_lines.specs.Scripts.{AreSpelled, script_of}
-use Rattle.script_lines.specs.StepText.{lines_marked, step_marks}
+use Rattle.line_io.specs.Lines.{parts_by_feed}
+use Rattle.script_lines.specs.Marks.{Mark, Happens, ToIface, ToEngine, IsMarkSpelled, event_marked, is_written, line_marked, mark_line}
+use Rattle.script_lines.specs.Scripts.{MarksAreSpelled, script_of}
+use Rattle.script_lines.specs.StepText.{lines_marked, marks_of_written}
 use Rattle.script_lines.proofs.Scripts.{parts_line}
-use Rattle.cecp_lines.specs.Quit.{is_quit}
-use Rattle.engine_revival.specs.Orders.{RevivalOrder as AnyOrder, NewGame, order_text}
+use Rattle.peer_words.specs.Quit.{is_quit}
+use Rattle.engine_revival.specs.Orders.{RevivalOrder as AnyOrder, NewGame, revival_order_text}
 use Rattle.engine_revival.specs.Orders as orders
 use Rattle.peer_words.specs.Tokens.{trimmed}
-use Rattle.engine_revival.specs.Asked.{order_of_line, order_in}
+use Rattle.engine_revival.specs.Asked.{order_of_line, revival_order_in}
 use Rattle.engine_revival.proofs.Asked.{asked_text, trimmed_line}
 use Rattle.engine_revival.specs.declared.state.RevivalState.{RevivalState}
 use Rattle.engine_revival.specs.declared.words.StandInAnswer.{StandInAnswer}
@@ -25,15 +25,15 @@ use Rattle.engine_revival.specs.declared.words.DueOrders.{DueOrders}
 use Rattle.engine_revival.specs.declared.words.DueOrders.TheVariants as due
 use Rattle.engine_revival.specs.declared.words.LifeState.{LifeState}
 use Rattle.engine_revival.specs.Dialogue.{is_before, said_in}
-use Rattle.engine_revival.specs.Lists.{are_for_same, batch_text, can_join, staying_beside, with_order}
-use Rattle.engine_revival.specs.Steps.{upper_if_accepted, accepted_at_once, state_if_accepted, after_answer, after_due, answer_of, answer_text, due_of, due_orders, gives, is_served, state_with_kept, may_begin, opening, quit_to, read_at_once, state_after_reading, settled_orders, takes_at_once, with_button, with_quit, with_value}
-use Rattle.engine_revival.specs.Calls.{RevivalCall, Order, Heard, Ended, Begin, Over, after, child_of, first_orders, orders_of, state_after_call, up_of}
-use Rattle.engine_revival.specs.Script.{call_of, state_after, state_before, texts_from}
+use Rattle.engine_revival.specs.Lists.{are_for_same, revival_batch_text, revival_order_can_join, revival_orders_staying, revival_list_with}
+use Rattle.engine_revival.specs.Steps.{upper_if_accepted, accepted_at_once, state_if_accepted, after_answer, after_due, answer_of, stand_in_text, due_of, due_orders, readies, readyoks, gives, is_served, state_with_kept, may_begin, opening_revival, quit_to, read_at_once, state_after_reading, settled_orders, takes_at_once, with_button, with_quit, revival_with_value}
+use Rattle.engine_revival.specs.Calls.{RevivalCall, Order, Heard, Ended, Begin, Over, revival_after, child_of, first_orders, orders_to_life, state_after_call, up_of}
+use Rattle.engine_revival.specs.Script.{call_of_event, revival_state_after, state_before, texts_from}
 
 -- ORDERS WHOSE MARKS ARE LINES OF SCRIPTS
 
 abbrev pub CanMark : AnyOrder → Type 0
-CanMark order = is_written (order_text order) ≡ true
+CanMark order = is_written (revival_order_text order) ≡ true
 
 abbrev pub AllMark : List AnyOrder → Type 0
 AllMark list = AllByRecursion CanMark list
@@ -50,19 +50,19 @@ stay_mark : (test : AnyOrder → Bool) (cs : List AnyOrder) → AllMark cs → A
 stay_mark test [] h = tt
 stay_mark test (c ∷ cs) h = stay_step (test c) c (filter test cs) h.0 (stay_mark test cs h.1)
 
-with_mark : (list : List AnyOrder) (c : AnyOrder) → AllMark list → CanMark c → AllMark (with_order list c)
-with_mark list c h k = all_mark (staying_beside c list) (c ∷ []) (stay_mark (λ (o : AnyOrder). not (are_for_same c o)) list h) (k, tt)
+with_mark : (list : List AnyOrder) (c : AnyOrder) → AllMark list → CanMark c → AllMark (revival_list_with list c)
+with_mark list c h k = all_mark (revival_orders_staying c list) (c ∷ []) (stay_mark (λ (o : AnyOrder). not (are_for_same c o)) list h) (k, tt)
 
 quit_mark : CanMark orders.Quit
-unfolding order_text
+unfolding revival_order_text
 quit_mark = refl
 
 uci_mark : CanMark orders.Uci
-unfolding order_text
+unfolding revival_order_text
 uci_mark = refl
 
 ready_mark : CanMark orders.IsReady
-unfolding order_text
+unfolding revival_order_text
 ready_mark = refl
 
 -- a line that came can be written
@@ -74,7 +74,7 @@ line_written line h =
     let p = and_parts (nat_le (length line) 65536) (not (has_feed line)) h in
     ap (λ b. b && not (has_feed line)) (longer (length line) p.0) ∙ p.1
 
-came : (line : List ℕ) (c : AnyOrder) → is_line line ≡ true → order_in line ≡ Some c → CanMark c
+came : (line : List ℕ) (c : AnyOrder) → is_line line ≡ true → revival_order_in line ≡ Some c → CanMark c
 came line c h e = ap (λ (t : List ℕ). is_written t) (sym (asked_text line c e)) ∙ line_written line h
 
 -- THE STATES
@@ -84,7 +84,7 @@ pub record HasMarks (s : RevivalState) : Type 0 where
   pub unsent : AllMark s.unsent
   pub search : AllMark s.search
 
-value_marks : (w : Bool) (s : RevivalState) (c : AnyOrder) → CanMark c → HasMarks s → HasMarks (with_value w s c)
+value_marks : (w : Bool) (s : RevivalState) (c : AnyOrder) → CanMark c → HasMarks s → HasMarks (revival_with_value w s c)
 value_marks true s c k h = record { kept = with_mark s.kept c h.kept k; unsent = with_mark s.unsent c h.unsent k; search = h.search }
 value_marks false s c k h = record { kept = h.kept; unsent = h.unsent; search = h.search }
 
@@ -97,12 +97,12 @@ search_marks s c k h = record { kept = h.kept; unsent = h.unsent; search = all_m
 
 keeping_marks : (s : RevivalState) (c : AnyOrder) → CanMark c → HasMarks s → HasMarks (state_with_kept s c)
 keeping_marks s (orders.Value name line) k h =
-    value_marks (can_join s.kept (orders.Value name line) && can_join s.unsent (orders.Value name line)) s (orders.Value name line) k h
-keeping_marks s (orders.Button name line) k h = button_marks (can_join s.unsent (orders.Button name line)) s (orders.Button name line) k h
+    value_marks (revival_order_can_join s.kept (orders.Value name line) && revival_order_can_join s.unsent (orders.Value name line)) s (orders.Value name line) k h
+keeping_marks s (orders.Button name line) k h = button_marks (revival_order_can_join s.unsent (orders.Button name line)) s (orders.Button name line) k h
 keeping_marks s orders.NewGame k h = record { kept = h.kept; unsent = with_mark s.unsent NewGame h.unsent k; search = h.search }
 keeping_marks s (orders.Position line) k h = record { kept = h.kept; unsent = h.unsent; search = (k, tt) }
 keeping_marks s orders.Uci k h = h
-keeping_marks s orders.IsReady k h = h
+keeping_marks s orders.IsReady k h = record { kept = h.kept; unsent = h.unsent; search = h.search }
 keeping_marks s orders.Quit k h = h
 keeping_marks s c k h = search_marks s c k h
 
@@ -110,7 +110,7 @@ accepting_marks : (w : Option DialogueState) (s : RevivalState) (c : AnyOrder) �
 accepting_marks None s c k h = h
 accepting_marks (Some up) s c k h = let m = keeping_marks s c k h in record { kept = m.kept; unsent = m.unsent; search = m.search }
 
-reading_marks : (s : RevivalState) (line : List ℕ) (o : Option AnyOrder) → order_in line ≡ o → is_line line ≡ true → HasMarks s → HasMarks (state_after_reading s o)
+reading_marks : (s : RevivalState) (line : List ℕ) (o : Option AnyOrder) → revival_order_in line ≡ o → is_line line ≡ true → HasMarks s → HasMarks (state_after_reading s o)
 reading_marks s line None e l h = h
 reading_marks s line (Some c) e l h = accepting_marks (upper_if_accepted s c) s c (came line c l e) h
 
@@ -142,7 +142,7 @@ answer_marks answers.UciOk s h = record { kept = h.kept; unsent = h.unsent; sear
 answer_marks answers.ReadyOk s h = record { kept = h.kept; unsent = h.unsent; search = h.search }
 answer_marks answers.NoMove s h = record { kept = h.kept; unsent = h.unsent; search = h.search }
 
-after_marks : (s : RevivalState) (call : RevivalCall) → IsProperCall call → HasMarks s → HasMarks (after s call)
+after_marks : (s : RevivalState) (call : RevivalCall) → IsProperCall call → HasMarks s → HasMarks (revival_after s call)
 after_marks s call l h = let t = state_after_call s call in answer_marks (answer_of t) (after_due (due_of t) t) (due_marks (due_of t) t (turned_marks s call l h))
 
 -- THE ORDERS OF A CALL
@@ -155,7 +155,7 @@ accepted_mark : (w : Option DialogueState) (life : LifeState) (c : AnyOrder) →
 accepted_mark None life c k = tt
 accepted_mark (Some up) life c k = mark_if (takes_at_once life c) c k
 
-read_mark : (s : RevivalState) (line : List ℕ) (o : Option AnyOrder) → order_in line ≡ o → is_line line ≡ true → AllMark (read_at_once s o)
+read_mark : (s : RevivalState) (line : List ℕ) (o : Option AnyOrder) → revival_order_in line ≡ o → is_line line ≡ true → AllMark (read_at_once s o)
 read_mark s line None e l = tt
 read_mark s line (Some c) e l = accepted_mark (upper_if_accepted s c) s.life c (came line c l e)
 
@@ -174,16 +174,20 @@ first_mark s Ended l = tt
 first_mark s Begin l = first_by (is_before s.upper)
 first_mark s Over l = tt
 
-due_mark : (d : DueOrders) (unsent search : List AnyOrder) → AllMark unsent → AllMark search → AllMark (due_orders d unsent search)
-due_mark due.Nothing u s h k = tt
-due_mark due.Settings u s h k = all_mark u (orders.IsReady ∷ []) h (ready_mark, tt)
-due_mark due.Search u s h k = all_mark u s h k
+readies_mark : (n : ℕ) → AllMark (readies n)
+readies_mark zero = tt
+readies_mark (suc n) = (ready_mark, readies_mark n)
 
-orders_mark : (s : RevivalState) (call : RevivalCall) → IsProperCall call → HasMarks s → AllMark (orders_of s call)
+due_mark : (d : DueOrders) (unsent : List AnyOrder) (held : ℕ) (search : List AnyOrder) → AllMark unsent → AllMark search → AllMark (due_orders d unsent held search)
+due_mark due.Nothing u n s h k = tt
+due_mark due.Settings u n s h k = all_mark u (readies n) h (readies_mark n)
+due_mark due.Search u n s h k = all_mark u (readies n ++ s) h (all_mark (readies n) s (readies_mark n) k)
+
+orders_mark : (s : RevivalState) (call : RevivalCall) → IsProperCall call → HasMarks s → AllMark (orders_to_life s call)
 orders_mark s call l h =
     let t = state_after_call s call in
     let m = turned_marks s call l h in
-    all_mark (first_orders s call) (settled_orders t) (first_mark s call l) (due_mark (due_of t) t.unsent t.search m.unsent m.search)
+    all_mark (first_orders s call) (settled_orders t) (first_mark s call l) (due_mark (due_of t) t.unsent t.held_ready t.search m.unsent m.search)
 
 -- THE MARKS OF A CALL
 
@@ -198,31 +202,42 @@ feedless line h = let p = and_parts (nat_le (length line) 131070) (not (has_feed
     not_true false e = refl
 
 -- a written line, and what follows it
-line_parts : (line more : List ℕ) → is_written line ≡ true → AllWritten (parts more) → AllWritten (parts ((line ++ 10 ∷ []) ++ more))
+line_parts : (line more : List ℕ) → is_written line ≡ true → AllWritten (parts_by_feed more) → AllWritten (parts_by_feed ((line ++ 10 ∷ []) ++ more))
 line_parts line more h k =
-    let e : parts ((line ++ 10 ∷ []) ++ more) ≡ line ∷ parts more = ap parts (append_assoc line (10 ∷ []) more) ∙ parts_line line more (feedless line h) in
+    let e : parts_by_feed ((line ++ 10 ∷ []) ++ more) ≡ line ∷ parts_by_feed more = ap parts_by_feed (append_assoc line (10 ∷ []) more) ∙ parts_line line more (feedless line h) in
     subst (λ (ps : List (List ℕ)). AllWritten ps) (sym e) (h, k)
 
-batch_parts : (list : List AnyOrder) → AllMark list → AllWritten (parts (batch_text list))
+batch_parts : (list : List AnyOrder) → AllMark list → AllWritten (parts_by_feed (revival_batch_text list))
 batch_parts [] h = tt
-batch_parts (c ∷ cs) h = line_parts (order_text c) (batch_text cs) h.0 (batch_parts cs h.1)
+batch_parts (c ∷ cs) h = line_parts (revival_order_text c) (revival_batch_text cs) h.0 (batch_parts cs h.1)
 
-answer_parts : (a : StandInAnswer) → AllWritten (parts (answer_text a))
-answer_parts answers.Nothing = tt
-answer_parts answers.UciOk = (refl, tt)
-answer_parts answers.ReadyOk = (refl, tt)
-answer_parts answers.NoMove = (refl, tt)
+readyok_parts : (n : ℕ) (more : List ℕ) → AllWritten (parts_by_feed more) → AllWritten (parts_by_feed (readyoks n ++ more))
+readyok_parts zero more h = h
+readyok_parts (suc n) more h =
+    let first = codes "readyok" ++ 10 ∷ [] in
+    subst (λ (t : List ℕ). AllWritten (parts_by_feed t)) (sym (append_assoc first (readyoks n) more))
+    (line_parts (codes "readyok") (readyoks n ++ more) refl (readyok_parts n more h))
 
-given_parts : (w : Bool) (line : List ℕ) (a : StandInAnswer) → is_line line ≡ true → AllWritten (parts ((if w then line ++ 10 ∷ [] else []) ++ answer_text a))
-given_parts true line a l = line_parts line (answer_text a) (line_written line l) (answer_parts a)
-given_parts false line a l = answer_parts a
+readyoks_parts : (n : ℕ) → AllWritten (parts_by_feed (readyoks n))
+readyoks_parts zero = tt
+readyoks_parts (suc n) = line_parts (codes "readyok") (readyoks n) refl (readyoks_parts n)
 
-up_parts : (s : RevivalState) (call : RevivalCall) → IsProperCall call → AllWritten (parts (up_of s call))
-up_parts s (Heard line) l = given_parts (gives s (said_in line)) line (answer_of (state_after_call s (Heard line))) l
-up_parts s (Order line) l = answer_parts (answer_of (state_after_call s (Order line)))
-up_parts s Ended l = answer_parts (answer_of (state_after_call s Ended))
-up_parts s Begin l = answer_parts (answer_of (state_after_call s Begin))
-up_parts s Over l = answer_parts (answer_of (state_after_call s Over))
+answer_parts : (a : StandInAnswer) (held : ℕ) → AllWritten (parts_by_feed (stand_in_text a held))
+answer_parts answers.Nothing held = tt
+answer_parts answers.UciOk held = line_parts (codes "uciok") (readyoks held) refl (readyoks_parts held)
+answer_parts answers.ReadyOk held = readyoks_parts held
+answer_parts answers.NoMove held = readyok_parts held (codes "bestmove 0000" ++ 10 ∷ []) (refl, tt)
+
+given_parts : (w : Bool) (line : List ℕ) (a : StandInAnswer) (held : ℕ) → is_line line ≡ true → AllWritten (parts_by_feed ((if w then line ++ 10 ∷ [] else []) ++ stand_in_text a held))
+given_parts true line a held l = line_parts line (stand_in_text a held) (line_written line l) (answer_parts a held)
+given_parts false line a held l = answer_parts a held
+
+up_parts : (s : RevivalState) (call : RevivalCall) → IsProperCall call → AllWritten (parts_by_feed (up_of s call))
+up_parts s (Heard line) l = let t = state_after_call s (Heard line) in given_parts (gives s (said_in line)) line (answer_of t) t.held_ready l
+up_parts s (Order line) l = let t = state_after_call s (Order line) in answer_parts (answer_of t) t.held_ready
+up_parts s Ended l = let t = state_after_call s Ended in answer_parts (answer_of t) t.held_ready
+up_parts s Begin l = let t = state_after_call s Begin in answer_parts (answer_of t) t.held_ready
+up_parts s Over l = let t = state_after_call s Over in answer_parts (answer_of t) t.held_ready
 
 -- THE MARKS OF AN EVENT
 
@@ -234,58 +249,58 @@ child_marks : (ps : List (List ℕ)) → flat_map (line_marked 85) ps ≡ script
 child_marks [] = refl
 child_marks (p ∷ ps) = ap (λ (t : List ℕ). line_marked 85 p ++ t) (child_marks ps)
 
-up_spelled : (ps : List (List ℕ)) → AllWritten ps → AreSpelled (map ToIface ps)
+up_spelled : (ps : List (List ℕ)) → AllWritten ps → MarksAreSpelled (map ToIface ps)
 up_spelled [] h = tt
 up_spelled (p ∷ ps) h = (h.0, up_spelled ps h.1)
 
-child_spelled : (ps : List (List ℕ)) → AllWritten ps → AreSpelled (map ToEngine ps)
+child_spelled : (ps : List (List ℕ)) → AllWritten ps → MarksAreSpelled (map ToEngine ps)
 child_spelled [] h = tt
 child_spelled (p ∷ ps) h = (h.0, child_spelled ps h.1)
 
-both_spelled : (a b : List Mark) → AreSpelled a → AreSpelled b → AreSpelled (a ++ b)
+both_spelled : (a b : List Mark) → MarksAreSpelled a → MarksAreSpelled b → MarksAreSpelled (a ++ b)
 both_spelled [] b h k = k
 both_spelled (m ∷ ms) b h k = (h.0, both_spelled ms b h.1 k)
 
 abbrev pub written_by : List ℕ → List ℕ → List Mark
-written_by up child = map ToIface (parts up) ++ map ToEngine (parts child)
+written_by up child = map ToIface (parts_by_feed up) ++ map ToEngine (parts_by_feed child)
 
 abbrev pub marks_of : RevivalState → Event → List Mark
-marks_of s e = Happens e ∷ written_by (up_of (state_before s e) (call_of s e)) (child_of (state_before s e) (call_of s e))
+marks_of s e = Happens e ∷ written_by (up_of (state_before s e) (call_of_event s e)) (child_of (state_before s e) (call_of_event s e))
 
-marks_text : (e : Event) (up child : List ℕ) → step_marks e up child ≡ script_of (Happens e ∷ written_by up child)
+marks_text : (e : Event) (up child : List ℕ) → marks_of_written e up child ≡ script_of (Happens e ∷ written_by up child)
 marks_text e up child =
     ap (λ (t : List ℕ). event_marked e ++ t)
-    (ap (λ (t : List ℕ). t ++ lines_marked 85 child) (up_marks (parts up))
-    ∙ ap (λ (t : List ℕ). script_of (map ToIface (parts up)) ++ t) (child_marks (parts child))
-    ∙ sym (flat_map-append mark_line (map ToIface (parts up)) (map ToEngine (parts child))))
+    (ap (λ (t : List ℕ). t ++ lines_marked 85 child) (up_marks (parts_by_feed up))
+    ∙ ap (λ (t : List ℕ). script_of (map ToIface (parts_by_feed up)) ++ t) (child_marks (parts_by_feed child))
+    ∙ sym (flat_map-append mark_line (map ToIface (parts_by_feed up)) (map ToEngine (parts_by_feed child))))
 
 abbrev pub event_by : Mark → List Event
 event_by (Happens event) = event ∷ []
 event_by mark = []
 
 -- the events of marks
-abbrev pub told_in : List Mark → List Event
-told_in marks = flat_map (λ (m : Mark). event_by m) marks
+abbrev pub reported_in : List Mark → List Event
+reported_in marks = flat_map (λ (m : Mark). event_by m) marks
 
-no_up : (ps : List (List ℕ)) → told_in (map ToIface ps) ≡ []
+no_up : (ps : List (List ℕ)) → reported_in (map ToIface ps) ≡ []
 no_up [] = refl
 no_up (p ∷ ps) = no_up ps
 
-no_child : (ps : List (List ℕ)) → told_in (map ToEngine ps) ≡ []
+no_child : (ps : List (List ℕ)) → reported_in (map ToEngine ps) ≡ []
 no_child [] = refl
 no_child (p ∷ ps) = no_child ps
 
-told_written : (up child : List ℕ) → told_in (written_by up child) ≡ []
-told_written up child =
-    flat_map-append (λ (m : Mark). event_by m) (map ToIface (parts up)) (map ToEngine (parts child))
-    ∙ ap (λ (es : List Event). es ++ told_in (map ToEngine (parts child))) (no_up (parts up))
-    ∙ no_child (parts child)
+reported_written : (up child : List ℕ) → reported_in (written_by up child) ≡ []
+reported_written up child =
+    flat_map-append (λ (m : Mark). event_by m) (map ToIface (parts_by_feed up)) (map ToEngine (parts_by_feed child))
+    ∙ ap (λ (es : List Event). es ++ reported_in (map ToEngine (parts_by_feed child))) (no_up (parts_by_feed up))
+    ∙ no_child (parts_by_feed child)
 
 proper_by : (w : Bool) → IsProperCall (if w then Begin else Over)
 proper_by true = tt
 proper_by false = tt
 
-proper_call : (s : RevivalState) (e : Event) → IsSpelled (Happens e) → IsProperCall (call_of s e)
+proper_call : (s : RevivalState) (e : Event) → IsMarkSpelled (Happens e) → IsProperCall (call_of_event s e)
 proper_call s (Iface line) h = h
 proper_call s IfaceEnd h = refl
 proper_call s (Engine line) h = h
@@ -296,45 +311,45 @@ before_marks : (s : RevivalState) (e : Event) → HasMarks s → HasMarks (state
 before_marks s EngineLong h = record { kept = h.kept; unsent = h.unsent; search = h.search }
 before_marks s e h = h
 
-event_spelled : (s : RevivalState) (e : Event) → IsSpelled (Happens e) → HasMarks s → AreSpelled (marks_of s e)
+event_spelled : (s : RevivalState) (e : Event) → IsMarkSpelled (Happens e) → HasMarks s → MarksAreSpelled (marks_of s e)
 event_spelled s e l h =
     let b = state_before s e in
-    let call = call_of s e in
+    let call = call_of_event s e in
     let p = proper_call s e l in (
       l,
-      both_spelled (map ToIface (parts (up_of b call))) (map ToEngine (parts (child_of b call)))
-          (up_spelled (parts (up_of b call)) (up_parts b call p))
-          (child_spelled (parts (child_of b call)) (batch_parts (orders_of b call) (orders_mark b call p (before_marks s e h)))),
+      both_spelled (map ToIface (parts_by_feed (up_of b call))) (map ToEngine (parts_by_feed (child_of b call)))
+          (up_spelled (parts_by_feed (up_of b call)) (up_parts b call p))
+          (child_spelled (parts_by_feed (child_of b call)) (batch_parts (orders_to_life b call) (orders_mark b call p (before_marks s e h)))),
     )
 
 -- EVENTS IN A ROW
 
 abbrev pub marks_from : RevivalState → List Event → List Mark
 marks_from s [] = []
-marks_from s (e ∷ es) = marks_of s e ++ marks_from (state_after s e) es
+marks_from s (e ∷ es) = marks_of s e ++ marks_from (revival_state_after s e) es
 
 pub from_text : (s : RevivalState) (es : List Event) → texts_from s es ≡ script_of (marks_from s es)
 from_text s [] = refl
 from_text s (e ∷ es) =
     let b = state_before s e in
-    ap (λ (t : List ℕ). t ++ texts_from (state_after s e) es) (marks_text e (up_of b (call_of s e)) (child_of b (call_of s e)))
-    ∙ ap (λ (t : List ℕ). script_of (marks_of s e) ++ t) (from_text (state_after s e) es)
-    ∙ sym (flat_map-append mark_line (marks_of s e) (marks_from (state_after s e) es))
+    ap (λ (t : List ℕ). t ++ texts_from (revival_state_after s e) es) (marks_text e (up_of b (call_of_event s e)) (child_of b (call_of_event s e)))
+    ∙ ap (λ (t : List ℕ). script_of (marks_of s e) ++ t) (from_text (revival_state_after s e) es)
+    ∙ sym (flat_map-append mark_line (marks_of s e) (marks_from (revival_state_after s e) es))
 
-pub from_told : (s : RevivalState) (es : List Event) → told_in (marks_from s es) ≡ es
-from_told s [] = refl
-from_told s (e ∷ es) =
+pub from_reported : (s : RevivalState) (es : List Event) → reported_in (marks_from s es) ≡ es
+from_reported s [] = refl
+from_reported s (e ∷ es) =
     let b = state_before s e in
-    flat_map-append (λ (m : Mark). event_by m) (marks_of s e) (marks_from (state_after s e) es)
-    ∙ ap (λ (x : List Event). (e ∷ x) ++ told_in (marks_from (state_after s e) es)) (told_written (up_of b (call_of s e)) (child_of b (call_of s e)))
-    ∙ ap (λ (x : List Event). e ∷ x) (from_told (state_after s e) es)
+    flat_map-append (λ (m : Mark). event_by m) (marks_of s e) (marks_from (revival_state_after s e) es)
+    ∙ ap (λ (x : List Event). (e ∷ x) ++ reported_in (marks_from (revival_state_after s e) es)) (reported_written (up_of b (call_of_event s e)) (child_of b (call_of_event s e)))
+    ∙ ap (λ (x : List Event). e ∷ x) (from_reported (revival_state_after s e) es)
 
-pub from_spelled : (s : RevivalState) (es : List Event) → AreSpelled (map Happens es) → HasMarks s → AreSpelled (marks_from s es)
+pub from_spelled : (s : RevivalState) (es : List Event) → MarksAreSpelled (map Happens es) → HasMarks s → MarksAreSpelled (marks_from s es)
 from_spelled s [] l h = tt
 from_spelled s (e ∷ es) l h =
-    both_spelled (marks_of s e) (marks_from (state_after s e) es) (event_spelled s e l.0 h)
-    (from_spelled (state_after s e) es l.1 (after_marks (state_before s e) (call_of s e) (proper_call s e l.0) (before_marks s e h)))
+    both_spelled (marks_of s e) (marks_from (revival_state_after s e) es) (event_spelled s e l.0 h)
+    (from_spelled (revival_state_after s e) es l.1 (after_marks (state_before s e) (call_of_event s e) (proper_call s e l.0) (before_marks s e h)))
 
 -- before the first event
-pub no_marks : (lives : ℕ) → HasMarks (opening lives)
+pub no_marks : (lives : ℕ) → HasMarks (opening_revival lives)
 no_marks lives = record { kept = tt; unsent = tt; search = tt }

@@ -1,6 +1,6 @@
 -- The orders of the open search are those accepted from the last `position` on.
-use Rattle.std.proofs.Common.{◌≡◌, ℕ, List, [], ◌∷◌, ◌++◌, Bool, true, false, Option, Some, None, refl, sym, ap, ◌∙◌, true≢false, if◌then◌else◌}
-use Rattle.cecp_lines.specs.Quit.{is_quit}
+use Rattle.std.proofs.Common.{◌≡◌, ℕ, List, [], ◌∷◌, ◌++◌, Bool, true, false, not, Option, Some, None, refl, sym, ap, ◌∙◌, true≢false, if◌then◌else◌}
+use Rattle.peer_words.specs.Quit.{is_quit}
 use Rattle.engine_revival.specs.Orders.{RevivalOrder as AnyOrder}
 use Rattle.engine_revival.specs.Orders as orders
 use Rattle.engine_revival.specs.Asked.{order_of_line}
@@ -13,10 +13,10 @@ use Rattle.engine_revival.specs.declared.words.DueOrders.TheVariants as due
 use Rattle.engine_revival.specs.declared.words.StandInAnswer.{StandInAnswer}
 use Rattle.engine_revival.specs.declared.words.StandInAnswer.TheVariants as answers
 use Rattle.engine_revival.specs.declared.state.RevivalState.{RevivalState}
-use Rattle.engine_revival.specs.Dialogue.{after_order, after_said, said_in, where_true, is_before, is_idle, is_placed}
-use Rattle.engine_revival.specs.Steps.{upper_if_accepted, state_if_accepted, after_answer, after_due, answer_of, due_of, gives, state_once_heard, state_after_reading, with_quit}
+use Rattle.engine_revival.specs.Dialogue.{after_order, after_said, said_in, dialogue_where, is_before, is_dialogue_idle, is_placed}
+use Rattle.engine_revival.specs.Steps.{is_order_refused, upper_if_accepted, state_if_accepted, after_answer, after_due, answer_of, due_of, gives, state_once_heard, state_after_reading, with_quit}
 use Rattle.engine_revival.specs.Calls.{RevivalCall, Order, Heard, Ended, Begin, Over, state_after_call}
-use Rattle.engine_revival.specs.Laws.{MayCome, accepted_by, accepted_in, accepted_of, accepted_read, seen_then, since_position, state_of}
+use Rattle.engine_revival.specs.Laws.{CallsMayCome, accepted_by, accepted_in, accepted_of, accepted_read, seen_then, since_position, revival_state_of}
 use Rattle.engine_revival.proofs.Rooms.{where_is, unquit}
 use Rattle.engine_revival.proofs.Wires.{is_open, hit_open, placed_open, search_open, stop_open}
 
@@ -33,7 +33,7 @@ nil_behind [] = refl
 nil_behind (x ∷ xs) = ap (λ (t : List AnyOrder). x ∷ t) (nil_behind xs)
 
 -- no search is open
-calm : (up next : DialogueState) (search list : List AnyOrder) (w : Bool) → where_true w next ≡ Some up → is_open next ≡ false → Since up search list
+calm : (up next : DialogueState) (search list : List AnyOrder) (w : Bool) → dialogue_where w next ≡ Some up → is_open next ≡ false → Since up search list
 calm up next search list w e n = λ o. absurd (true≢false (sym o ∙ ap is_open (sym (where_is w next up e).1) ∙ n))
 
 -- one more order of the open search
@@ -42,10 +42,12 @@ more u up search list c o e h = λ open_up. ap (λ (t : List AnyOrder). t ++ c �
 
 accepting_since : (s : RevivalState) (c : AnyOrder) (up : DialogueState) (list : List AnyOrder) → after_order c s.upper ≡ Some up → Since s.upper s.search list → Since up (state_if_accepted (Some up) s c).search (list ++ c ∷ [])
 accepting_since s orders.Uci up list e h = calm up upper.Boot s.search (list ++ orders.Uci ∷ []) (is_before s.upper) e refl
-accepting_since s orders.IsReady up list e h = calm up upper.Getting s.search (list ++ orders.IsReady ∷ []) (is_idle s.upper) e refl
-accepting_since s orders.NewGame up list e h = calm up upper.Idle s.search (list ++ orders.NewGame ∷ []) (is_idle s.upper) e refl
-accepting_since s (orders.Value n v) up list e h = calm up upper.Idle (state_if_accepted (Some up) s (orders.Value n v)).search (list ++ orders.Value n v ∷ []) (is_idle s.upper) e refl
-accepting_since s (orders.Button n v) up list e h = calm up upper.Idle (state_if_accepted (Some up) s (orders.Button n v)).search (list ++ orders.Button n v ∷ []) (is_idle s.upper) e refl
+accepting_since s orders.IsReady up list e h =
+    let i = (where_is (not (is_before s.upper)) s.upper up e).1 in
+    λ o. h (ap is_open i ∙ o) ∙ sym (since_last list [] orders.IsReady)
+accepting_since s orders.NewGame up list e h = calm up upper.Idle s.search (list ++ orders.NewGame ∷ []) (is_dialogue_idle s.upper) e refl
+accepting_since s (orders.Value n v) up list e h = calm up upper.Idle (state_if_accepted (Some up) s (orders.Value n v)).search (list ++ orders.Value n v ∷ []) (is_dialogue_idle s.upper) e refl
+accepting_since s (orders.Button n v) up list e h = calm up upper.Idle (state_if_accepted (Some up) s (orders.Button n v)).search (list ++ orders.Button n v ∷ []) (is_dialogue_idle s.upper) e refl
 accepting_since s (orders.Position p) up list e h = λ o. sym (since_last list [] (orders.Position p))
 accepting_since s (orders.Go k p) up list e h =
     more s.upper up s.search list (orders.Go k p) (placed_open s.upper (where_is (is_placed s.upper) (upper.Search k false) up e).0) refl h
@@ -58,7 +60,7 @@ same_since u search list h = λ o. h o ∙ ap (λ (t : List AnyOrder). since_pos
 
 accepted_since : (s : RevivalState) (c : AnyOrder) (o : Option DialogueState) (list : List AnyOrder) → upper_if_accepted s c ≡ o → Since s.upper s.search list → Since (state_if_accepted o s c).upper (state_if_accepted o s c).search (list ++ accepted_by o c)
 accepted_since s c None list e h = same_since s.upper s.search list h
-accepted_since s c (Some up) list e h = accepting_since s c up list (unquit s.quit (after_order c s.upper) up e) h
+accepted_since s c (Some up) list e h = accepting_since s c up list (unquit (is_order_refused s c) (after_order c s.upper) up e) h
 
 reading_since : (s : RevivalState) (o : Option AnyOrder) (list : List AnyOrder) → Since s.upper s.search list → Since (state_after_reading s o).upper (state_after_reading s o).search (list ++ accepted_read s o)
 reading_since s None list h = same_since s.upper s.search list h
@@ -71,7 +73,6 @@ ordering_since s line false list h = reading_since s (order_of_line line) list h
 
 said_since : (b : Bool) (u : DialogueState) (word : LifeSaid) (search list : List AnyOrder) → Since u search list → Since (if b then after_said u word else u) search list
 said_since true upper.Boot said.UciOk search list h = λ e. absurd (true≢false (sym e))
-said_since true upper.Getting said.ReadyOk search list h = λ e. absurd (true≢false (sym e))
 said_since true (upper.Search k b) said.Best search list h = λ e. absurd (true≢false (sym e))
 said_since b u word search list h = h
 
@@ -85,7 +86,7 @@ turned_since s Over list h = same_since s.upper s.search list h
 answered_since : (a : StandInAnswer) (s : RevivalState) (list : List AnyOrder) → Since s.upper s.search list → Since (after_answer a s).upper (after_answer a s).search list
 answered_since answers.Nothing s list h = h
 answered_since answers.UciOk s list h = λ e. absurd (true≢false (sym e))
-answered_since answers.ReadyOk s list h = λ e. absurd (true≢false (sym e))
+answered_since answers.ReadyOk s list h = h
 answered_since answers.NoMove s list h = λ e. absurd (true≢false (sym e))
 
 due_since : (d : DueOrders) (s : RevivalState) (list : List AnyOrder) → Since s.upper s.search list → Since (after_due d s).upper (after_due d s).search list
@@ -93,13 +94,13 @@ due_since due.Nothing s list h = h
 due_since due.Settings s list h = h
 due_since due.Search s list h = h
 
-searches_since : (lives : ℕ) (calls : List RevivalCall) → Since (state_of lives calls).upper (state_of lives calls).search (accepted_of lives calls)
+searches_since : (lives : ℕ) (calls : List RevivalCall) → Since (revival_state_of lives calls).upper (revival_state_of lives calls).search (accepted_of lives calls)
 searches_since lives [] = λ e. absurd (true≢false (sym e))
 searches_since lives (call ∷ calls) =
-    let s = state_of lives calls in
+    let s = revival_state_of lives calls in
     let t = state_after_call s call in
     answered_since (answer_of t) (after_due (due_of t) t) (accepted_of lives (call ∷ calls))
     (due_since (due_of t) t (accepted_of lives (call ∷ calls)) (turned_since s call (accepted_of lives calls) (searches_since lives calls)))
 
-pub searches_turned : (lives : ℕ) (call : RevivalCall) (calls : List RevivalCall) → MayCome lives (call ∷ calls) → Since (state_after_call (state_of lives calls) call).upper (state_after_call (state_of lives calls) call).search (accepted_of lives (call ∷ calls))
-searches_turned lives call calls m = turned_since (state_of lives calls) call (accepted_of lives calls) (searches_since lives calls)
+pub searches_turned : (lives : ℕ) (call : RevivalCall) (calls : List RevivalCall) → CallsMayCome lives (call ∷ calls) → Since (state_after_call (revival_state_of lives calls) call).upper (state_after_call (revival_state_of lives calls) call).search (accepted_of lives (call ∷ calls))
+searches_turned lives call calls m = turned_since (revival_state_of lives calls) call (accepted_of lives calls) (searches_since lives calls)

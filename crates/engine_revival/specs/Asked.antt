@@ -5,10 +5,10 @@ use Rattle.peer_words.specs.Tokens.{tokens, trimmed}
 use Rattle.uci_lines.specs.Cuts.{is_word}
 use Rattle.uci_lines.specs.Orders.{Order as OwnOrder}
 use Rattle.uci_lines.specs.OrderReading.{order_in as own_order_in}
-use Rattle.uci_engine_side.specs.Kinds.{has_word, kind_asked}
-use Rattle.uci_engine_side.specs.Lines.{Line, line_of}
+use Rattle.uci_as_engine.specs.Kinds.{has_token_word, kind_asked}
+use Rattle.uci_as_engine.specs.Lines.{Line, position_line_in}
 use Rattle.engine_revival.specs.Orders.{RevivalOrder, Uci, IsReady, NewGame, Stop, PonderHit}
-use Rattle.engine_revival.specs.Orders.{Quit, Value, Button, Position, Go, name_in}
+use Rattle.engine_revival.specs.Orders.{Quit, Value, Button, Position, Go, option_name_in}
 
 -- an order of one word
 abbrev pub word_asked : List ℕ → Option RevivalOrder
@@ -22,14 +22,14 @@ word_asked line =
 
 -- a setting of the option that these tokens name, with a value if one of them
 -- after the first is `value`
-abbrev pub setting_of : Bool → List (List ℕ) → List ℕ → RevivalOrder
-setting_of true ts line = Value (name_in ts) line
-setting_of false ts line = Button (name_in ts) line
+abbrev pub setting_asked_of : Bool → List (List ℕ) → List ℕ → RevivalOrder
+setting_asked_of true ts line = Value (option_name_in ts) line
+setting_asked_of false ts line = Button (option_name_in ts) line
 
 -- by the tokens after `name`
 abbrev pub setting_after_name : List (List ℕ) → List ℕ → Option RevivalOrder
 setting_after_name [] line = None
-setting_after_name (t ∷ ts) line = Some (setting_of (has_word (codes "value") ts) (t ∷ ts) line)
+setting_after_name (t ∷ ts) line = Some (setting_asked_of (has_token_word (codes "value") ts) (t ∷ ts) line)
 
 -- by the tokens after `setoption`
 abbrev pub setting_asked : List (List ℕ) → List ℕ → Option RevivalOrder
@@ -44,18 +44,18 @@ position_asked None (Some said) line = Some (Position line)
 position_asked None None line = None
 
 -- by the tokens of the line
-abbrev pub asked_by : List (List ℕ) → List ℕ → Option RevivalOrder
-asked_by [] line = None
-asked_by (t ∷ ts) line =
+abbrev pub tokens_ask_for : List (List ℕ) → List ℕ → Option RevivalOrder
+tokens_ask_for [] line = None
+tokens_ask_for (t ∷ ts) line =
     if is_word (codes "setoption") t then setting_asked ts line
     else (if is_word (codes "position") t
-    then position_asked (own_order_in line) (line_of line) line
+    then position_asked (own_order_in line) (position_line_in line) line
     else (if is_word (codes "go") t then Some (Go (kind_asked line) line) else word_asked line))
 
 -- the order that a line without white space at its ends is, if it is one
-unfoldable pub order_in : List ℕ → Option RevivalOrder
-order_in line = asked_by (tokens line) line
+unfoldable pub revival_order_in : List ℕ → Option RevivalOrder
+revival_order_in line = tokens_ask_for (tokens line) line
 
 -- the order that a line of the interface is, as it came but without the white space at its ends
 abbrev pub order_of_line : List ℕ → Option RevivalOrder
-order_of_line line = order_in (trimmed line)
+order_of_line line = revival_order_in (trimmed line)

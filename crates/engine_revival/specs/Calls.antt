@@ -5,11 +5,11 @@ use Rattle.engine_revival.specs.declared.words.LifeState.{LifeState}
 use Rattle.engine_revival.specs.declared.words.LifeState.TheVariants as life
 use Rattle.engine_revival.specs.declared.state.RevivalState.{RevivalState}
 use Rattle.engine_revival.specs.Dialogue.{said_in}
-use Rattle.engine_revival.specs.Lists.{batch_text}
+use Rattle.engine_revival.specs.Lists.{revival_batch_text}
 use Rattle.engine_revival.specs.Steps.{state_after_line, at_once, state_once_heard, line_passed_up}
 use Rattle.engine_revival.specs.Steps.{state_once_ended, state_at_new_life, first_order}
 use Rattle.engine_revival.specs.Steps.{state_once_over, is_alive, is_ended, may_begin}
-use Rattle.engine_revival.specs.Steps.{state_once_settled, settled_orders, answer_of, answer_text}
+use Rattle.engine_revival.specs.Steps.{state_once_settled, settled_orders, settled_answers}
 
 pub data RevivalCall : Type 0 where
   Order : (line : List ℕ) → RevivalCall
@@ -18,17 +18,17 @@ pub data RevivalCall : Type 0 where
   Begin : RevivalCall
   Over : RevivalCall
 
-abbrev pub is_over : LifeState → Bool
-is_over life.Over = true
-is_over state = false
+abbrev pub is_life_over : LifeState → Bool
+is_life_over life.Over = true
+is_life_over state = false
 
 -- After `ended` comes `begin`, if another life may begin, or `over`. After `over` only orders come.
-abbrev pub may : RevivalState → RevivalCall → Bool
-may s (Order line) = not (is_ended s.life)
-may s (Heard line) = is_alive s.life
-may s Ended = is_alive s.life
-may s Begin = is_ended s.life && may_begin s
-may s Over = not (is_over s.life)
+abbrev pub may_call : RevivalState → RevivalCall → Bool
+may_call s (Order line) = not (is_ended s.life)
+may_call s (Heard line) = is_alive s.life
+may_call s Ended = is_alive s.life
+may_call s Begin = is_ended s.life && may_begin s
+may_call s Over = not (is_life_over s.life)
 
 -- what the call changes by itself
 abbrev pub state_after_call : RevivalState → RevivalCall → RevivalState
@@ -51,23 +51,23 @@ first_up s call = []
 
 -- WITH WHAT FOLLOWS OF IT
 
-abbrev pub after : RevivalState → RevivalCall → RevivalState
-after s call = state_once_settled (state_after_call s call)
+abbrev pub revival_after : RevivalState → RevivalCall → RevivalState
+revival_after s call = state_once_settled (state_after_call s call)
 
 -- the orders to the life
-abbrev pub orders_of : RevivalState → RevivalCall → List AnyOrder
-orders_of s call = first_orders s call ++ settled_orders (state_after_call s call)
+abbrev pub orders_to_life : RevivalState → RevivalCall → List AnyOrder
+orders_to_life s call = first_orders s call ++ settled_orders (state_after_call s call)
 
 -- the lines up, and the lines to the life
 abbrev pub up_of : RevivalState → RevivalCall → List ℕ
-up_of s call = first_up s call ++ answer_text (answer_of (state_after_call s call))
+up_of s call = first_up s call ++ settled_answers (state_after_call s call)
 
 abbrev pub child_of : RevivalState → RevivalCall → List ℕ
-child_of s call = batch_text (orders_of s call)
+child_of s call = revival_batch_text (orders_to_life s call)
 
 -- what the call leaves, and the texts that it gave
-pub record Gives (s : RevivalState) (call : RevivalCall) (last : RevivalState)
+pub record LifeCallGives (s : RevivalState) (call : RevivalCall) (last : RevivalState)
     (up child : List ℕ) : Type 0 where
-  pub state_is : last ≡ after s call
+  pub state_is : last ≡ revival_after s call
   pub up_is : up ≡ up_of s call
   pub child_is : child ≡ child_of s call

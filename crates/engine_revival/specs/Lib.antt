@@ -1,5 +1,6 @@
 pub mod Orders
 pub mod Asked
+pub mod Canonical
 pub mod Dialogue
 pub mod Lists
 pub mod Kept

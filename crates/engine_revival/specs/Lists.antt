@@ -3,7 +3,7 @@ use Rattle.std.specs.Prelude.{ℕ, List, [], ◌∷◌, ◌++◌, filter, length
 use Rattle.std.specs.Prelude.{Bool, true, false, not, ◌&&◌, nat_le}
 use Rattle.std.specs.List.{flat_map}
 use Rattle.engine_revival.specs.Orders.{RevivalOrder, NewGame, Value}
-use Rattle.engine_revival.specs.Orders.{Button, are_same_names, order_text}
+use Rattle.engine_revival.specs.Orders.{Button, are_same_names, revival_order_text}
 use Rattle.engine_revival.specs.declared.order_list.TheConstants.{MOST_ORDERS, MOST_BYTES}
 use Rattle.line_io.specs.Lines.{line_feed}
 
@@ -15,26 +15,22 @@ are_for_same (Button a line) (Button b other) = are_same_names a b
 are_for_same _ _ = false
 
 -- the orders of a list that stay beside one that joins it
-abbrev pub staying_beside : RevivalOrder → List RevivalOrder → List RevivalOrder
-staying_beside order list = filter (λ o. not (are_for_same order o)) list
+abbrev pub revival_orders_staying : RevivalOrder → List RevivalOrder → List RevivalOrder
+revival_orders_staying order list = filter (λ o. not (are_for_same order o)) list
 
 -- An order takes the place of one that is for the same, and is the last.
-abbrev pub with_order : List RevivalOrder → RevivalOrder → List RevivalOrder
-with_order list order = staying_beside order list ++ order ∷ []
+abbrev pub revival_list_with : List RevivalOrder → RevivalOrder → List RevivalOrder
+revival_list_with list order = revival_orders_staying order list ++ order ∷ []
 
-abbrev pub order_line : RevivalOrder → List ℕ
-order_line order = order_text order ++ line_feed ∷ []
+abbrev pub revival_order_line : RevivalOrder → List ℕ
+revival_order_line order = revival_order_text order ++ line_feed ∷ []
 
 -- the orders as they are written, each with its line feed
-abbrev pub batch_text : List RevivalOrder → List ℕ
-batch_text list = flat_map order_line list
+abbrev pub revival_batch_text : List RevivalOrder → List ℕ
+revival_batch_text list = flat_map revival_order_line list
 
 -- whether an order may join within both limits
-abbrev pub can_join : List RevivalOrder → RevivalOrder → Bool
-can_join list order =
-    nat_le (length (with_order list order)) MOST_ORDERS
-    && nat_le (length (batch_text (with_order list order))) MOST_BYTES
-
-abbrev pub is_nil : List RevivalOrder → Bool
-is_nil [] = true
-is_nil (order ∷ list) = false
+abbrev pub revival_order_can_join : List RevivalOrder → RevivalOrder → Bool
+revival_order_can_join list order =
+    nat_le (length (revival_list_with list order)) MOST_ORDERS
+    && nat_le (length (revival_batch_text (revival_list_with list order))) MOST_BYTES

@@ -23,17 +23,17 @@ pub data RevivalOrder : Type 0 where
   Go : (kind : GoKind) (line : List ℕ) → RevivalOrder
 
 -- the text of an order, without its line feed
-unfoldable pub order_text : RevivalOrder → List ℕ
-order_text Uci = codes "uci"
-order_text IsReady = codes "isready"
-order_text NewGame = codes "ucinewgame"
-order_text Stop = codes "stop"
-order_text PonderHit = codes "ponderhit"
-order_text Quit = codes "quit"
-order_text (Value name line) = line
-order_text (Button name line) = line
-order_text (Position line) = line
-order_text (Go kind line) = line
+unfoldable pub revival_order_text : RevivalOrder → List ℕ
+revival_order_text Uci = codes "uci"
+revival_order_text IsReady = codes "isready"
+revival_order_text NewGame = codes "ucinewgame"
+revival_order_text Stop = codes "stop"
+revival_order_text PonderHit = codes "ponderhit"
+revival_order_text Quit = codes "quit"
+revival_order_text (Value name line) = line
+revival_order_text (Button name line) = line
+revival_order_text (Position line) = line
+revival_order_text (Go kind line) = line
 
 -- THE NAMES OF OPTIONS
 
@@ -48,9 +48,9 @@ words_before_value (t ∷ ts) =
     if is_word (codes "value") t then [] else in_lowercase t ∷ words_before_value ts
 
 -- the words of a name, which has one at least
-abbrev pub name_in : List (List ℕ) → List (List ℕ)
-name_in [] = []
-name_in (t ∷ ts) = in_lowercase t ∷ words_before_value ts
+abbrev pub option_name_in : List (List ℕ) → List (List ℕ)
+option_name_in [] = []
+option_name_in (t ∷ ts) = in_lowercase t ∷ words_before_value ts
 
 -- Names are the same if their words are, case ignored.
 abbrev pub are_same_names : List (List ℕ) → List (List ℕ) → Bool
@@ -60,14 +60,14 @@ are_same_names a b = false
 
 -- WHAT A READ ORDER IS TO CONTRACTS
 
-abbrev pub order_of : CodeOrder → RevivalOrder
-order_of orders.Uci = Uci
-order_of orders.IsReady = IsReady
-order_of orders.NewGame = NewGame
-order_of orders.Stop = Stop
-order_of orders.PonderHit = PonderHit
-order_of orders.Quit = Quit
-order_of (orders.Value name line) = Value (name_in (tokens name.now)) line.now
-order_of (orders.Button name line) = Button (name_in (tokens name.now)) line.now
-order_of (orders.Position line) = Position line.now
-order_of (orders.Go kind line) = Go kind line.now
+abbrev pub revival_order_of : CodeOrder → RevivalOrder
+revival_order_of orders.Uci = Uci
+revival_order_of orders.IsReady = IsReady
+revival_order_of orders.NewGame = NewGame
+revival_order_of orders.Stop = Stop
+revival_order_of orders.PonderHit = PonderHit
+revival_order_of orders.Quit = Quit
+revival_order_of (orders.Value name line) = Value (option_name_in (tokens name.now)) line.now
+revival_order_of (orders.Button name line) = Button (option_name_in (tokens name.now)) line.now
+revival_order_of (orders.Position line) = Position line.now
+revival_order_of (orders.Go kind line) = Go kind line.now

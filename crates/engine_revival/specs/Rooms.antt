@@ -6,13 +6,13 @@ use Rattle.engine_revival.specs.declared.words.DialogueState.{DialogueState}
 use Rattle.engine_revival.specs.declared.words.DialogueState.TheVariants as upper
 use Rattle.engine_revival.specs.declared.order_list.TheConstants.{MOST_ORDERS}
 use Rattle.engine_revival.specs.declared.order_list.TheConstants.{MOST_BYTES, LIST_BYTES}
-use Rattle.engine_revival.specs.declared.state.TheConstants.{MOST_LINE, SEARCH_BYTES}
+use Rattle.engine_revival.specs.declared.state.TheConstants.{MOST_LINE, SEARCH_BYTES, MOST_READY}
 use Rattle.engine_revival.specs.declared.state.RevivalState.{RevivalState}
-use Rattle.engine_revival.specs.Lists.{staying_beside, batch_text}
+use Rattle.engine_revival.specs.Lists.{revival_orders_staying, revival_batch_text}
 
 pub record AreWithin (list : List RevivalOrder) (orders bytes : ℕ) : Type 0 where
   pub few : length list ≤ orders
-  pub short : length (batch_text list) ≤ bytes
+  pub short : length (revival_batch_text list) ≤ bytes
 
 -- how long the orders of the open search are at most: `position`, `go`, `ponderhit`, `stop`
 abbrev pub IsSearchIn : DialogueState → List RevivalOrder → Type 0
@@ -24,7 +24,8 @@ IsSearchIn up search = AreWithin search 4 SEARCH_BYTES
 -- what holds of the lists between two calls
 pub record IsRoomy (s : RevivalState) : Type 0 where
   pub kept : AreWithin s.kept MOST_ORDERS MOST_BYTES
-  pub settings : AreWithin (staying_beside NewGame s.unsent) MOST_ORDERS MOST_BYTES
-  pub unsent : length (batch_text s.unsent) ≤ LIST_BYTES
+  pub settings : AreWithin (revival_orders_staying NewGame s.unsent) MOST_ORDERS MOST_BYTES
+  pub unsent : length (revival_batch_text s.unsent) ≤ LIST_BYTES
   pub search : AreWithin s.search 4 SEARCH_BYTES
   pub stage : IsSearchIn s.upper s.search
+  pub ready : s.held_ready + s.asked_ready ≤ MOST_READY

@@ -1,7 +1,7 @@
 // The names of options.
 ghost use Rattle.std.specs.Prelude.{◌≡◌, ◌∷◌, ◌<◌, [], length, MatchOption, IfSome};
 ghost use Rattle.peer_words.specs.Tokens.{tokens};
-ghost use Rattle.engine_revival.specs.Orders.{are_same_names, in_lowercase, name_in, words_before_value};
+ghost use Rattle.engine_revival.specs.Orders.{are_same_names, in_lowercase, option_name_in, words_before_value};
 
 use peer_words::next_token;
 
@@ -39,9 +39,10 @@ fn have_same_words(a: &[u8], b: &[u8]) -> bool
     next_word(right).is_none()
 }
 
-/// Whether the names with which two texts begin have the same words, case ignored.
+/// True if the names with which two texts begin have the same words, case ignored.
 pub(crate) fn have_same_name(a: &[u8], b: &[u8]) -> bool
-    ensures { result ≡ are_same_names (name_in (tokens a.now)) (name_in (tokens b.now)) }
+    ensures { result ≡ are_same_names (option_name_in (tokens a.now)) (option_name_in (tokens
+        b.now)) }
 {
     match (next_token(a), next_token(b)) {
         (Some((word, behind)), Some((other, others))) => {

@@ -1,10 +1,10 @@
 // Lists of orders, kept as their lines.
 ghost use Rattle.std.specs.Prelude.{◌≡◌, ◌≤◌, ◌<◌, ◌+◌, ◌++◌, ◌∷◌, [], length, true, MatchOption};
 ghost use Rattle.line_io.specs.Out.{with};
-ghost use Rattle.engine_revival.specs.Orders.{order_of};
-ghost use Rattle.engine_revival.specs.Lists.{are_for_same, staying_beside, batch_text, is_nil};
-ghost use Rattle.engine_revival.specs.Marks.{AreLines};
-ghost use Rattle.engine_revival.specs.Kept.{line_at, spelled, Spells, orders_at, IsLineIn, AreIn};
+ghost use Rattle.engine_revival.specs.Orders.{revival_order_of};
+ghost use Rattle.engine_revival.specs.Lists.{are_for_same, revival_orders_staying, revival_batch_text};
+ghost use Rattle.engine_revival.specs.Marks.{OrdersAreLines};
+ghost use Rattle.engine_revival.specs.Kept.{line_at, spelled, SpellsRevivalOrder, orders_at, IsLineIn, SpansAreIn};
 ghost use Rattle.line_io.specs.Lines.{line_feed};
 
 use crate::names::have_same_name;
@@ -15,10 +15,10 @@ use std::alloc::Global;
 use std::marker::Model;
 use std::mem;
 
-/// How many settings a list may have.
+/// The greatest number of settings of a list.
 pub const MOST_ORDERS: usize = 512;
 
-/// How many bytes they may have, with their line feeds.
+/// The greatest number of their bytes, with their line feeds.
 pub const MOST_BYTES: usize = 1_048_576;
 
 /// A list has room for one `ucinewgame` beside its settings.
@@ -36,7 +36,7 @@ pub(crate) struct LineSpan {
 type ListedLines = ArrayVec<LineSpan, LIST_ORDERS>;
 
 fn spelled(line: &[u8]) -> RevivalOrder<'_>
-    ensures { order_of result ≡ spelled line.now }
+    ensures { revival_order_of result ≡ spelled line.now }
 {
     match read_order(line) {
         Some(order) => order,
@@ -44,9 +44,9 @@ fn spelled(line: &[u8]) -> RevivalOrder<'_>
     }
 }
 
-// Whether both begin a game, or set the same option.
+// True if both begin a game, or set the same option.
 fn are_for_same(a: &RevivalOrder, b: &RevivalOrder) -> bool
-    ensures { result ≡ are_for_same (order_of a.now) (order_of b.now) }
+    ensures { result ≡ are_for_same (revival_order_of a.now) (revival_order_of b.now) }
 {
     match (a, b) {
         (RevivalOrder::NewGame, RevivalOrder::NewGame) => true,
@@ -79,14 +79,14 @@ fn next_line(lines: &[LineSpan]) -> Option<(LineSpan, &[LineSpan])>
 
 // Puts a line after the others.
 fn put_line(line: &[u8], lines: &mut ListedLines, texts: &mut Out)
-    requires spells { Spells line.now }
-    requires within { AreIn texts.old.text lines.old.items }
+    requires spells { SpellsRevivalOrder line.now }
+    requires within { SpansAreIn texts.old.text lines.old.items }
     requires few { length lines.old.items < LIST_ORDERS }
     requires room { length texts.old.text + length line.now < texts.old.room }
     ensures texts { texts.new ≡ with texts.old (line.now ++ line_feed ∷ []) }
     ensures orders { orders_at texts.new.text lines.new.items
         ≡ orders_at texts.old.text lines.old.items ++ spelled line.now ∷ [] }
-    ensures within { AreIn texts.new.text lines.new.items }
+    ensures within { SpansAreIn texts.new.text lines.new.items }
     ensures few { length lines.new.items ≡ length lines.old.items + 1 }
 {
     let at = texts.bytes().len();
@@ -106,18 +106,19 @@ fn put_staying(
     lines: &mut ListedLines,
     texts: &mut Out,
 )
-    requires held { AreIn old.now held.now }
-    requires within { AreIn texts.old.text lines.old.items }
+    requires held { SpansAreIn old.now held.now }
+    requires within { SpansAreIn texts.old.text lines.old.items }
     requires few { length lines.old.items + length held.now ≤ LIST_ORDERS }
-    requires room { length texts.old.text + length (batch_text (orders_at old.now held.now))
+    requires room { length texts.old.text + length (revival_batch_text (orders_at old.now held.now))
         ≤ texts.old.room }
     ensures texts { texts.new
         ≡ with texts.old
-        (batch_text (staying_beside (order_of order.now) (orders_at old.now held.now))) }
+        (revival_batch_text (revival_orders_staying (revival_order_of order.now) (orders_at
+        old.now held.now))) }
     ensures orders { orders_at texts.new.text lines.new.items
         ≡ orders_at texts.old.text lines.old.items
-        ++ staying_beside (order_of order.now) (orders_at old.now held.now) }
-    ensures within { AreIn texts.new.text lines.new.items }
+        ++ revival_orders_staying (revival_order_of order.now) (orders_at old.now held.now) }
+    ensures within { SpansAreIn texts.new.text lines.new.items }
 {
     let mut others = held;
     while let Some((span, after)) = next_line(others) {
@@ -142,18 +143,18 @@ pub(crate) struct OrderList {
 impl Model for OrderList {
     ghost use Rattle.std.specs.Prelude.{List};
     ghost use Rattle.engine_revival.specs.Orders.{RevivalOrder as AnyOrder};
-    ghost use Rattle.engine_revival.specs.Kept.{orders_at, IsKept};
+    ghost use Rattle.engine_revival.specs.Kept.{orders_at, LineBufferIsKept};
 
     ghost Value = { List AnyOrder };
 
     ghost view = { λ l. orders_at l.texts.text l.lines.items };
 
-    ghost invariant = { λ l. IsKept l.texts l.beside l.lines.items };
+    ghost invariant = { λ l. LineBufferIsKept l.texts l.beside l.lines.items };
 }
 
 impl OrderList {
     ghost use Rattle.std.specs.Prelude.{IfOk};
-    ghost use Rattle.engine_revival.specs.Lists.{can_join, with_order};
+    ghost use Rattle.engine_revival.specs.Lists.{revival_order_can_join, revival_list_with};
 
     /// An empty list.
     pub(crate) fn make(alloc: Global) -> Result<OrderList, NoMemory>
@@ -168,11 +169,11 @@ impl OrderList {
         })
     }
 
-    /// Whether the order of a line may join within both limits, after what it takes out.
+    /// True if the order of a line may join within both limits, after what it takes out.
     pub(crate) fn fits(&mut self, line: &[u8]) -> bool
-        requires { Spells line.now }
+        requires { SpellsRevivalOrder line.now }
         ensures same { self.new ≡ self.old }
-        ensures fits { result ≡ can_join self.old (spelled line.now) }
+        ensures fits { result ≡ revival_order_can_join self.old (spelled line.now) }
     {
         self.beside.clear();
         let mut lines = ArrayVec::new();
@@ -188,10 +189,11 @@ impl OrderList {
 
     /// Takes out what the order of a line takes the place of, and puts it last.
     pub(crate) fn replace(&mut self, line: &[u8])
-        requires spells { Spells line.now }
-        requires few { length (with_order self.old (spelled line.now)) ≤ LIST_ORDERS }
-        requires short { length (batch_text (with_order self.old (spelled line.now))) ≤ LIST_BYTES }
-        ensures { self.new ≡ with_order self.old (spelled line.now) }
+        requires spells { SpellsRevivalOrder line.now }
+        requires few { length (revival_list_with self.old (spelled line.now)) ≤ LIST_ORDERS }
+        requires short { length (revival_batch_text (revival_list_with self.old (spelled
+            line.now))) ≤ LIST_BYTES }
+        ensures { self.new ≡ revival_list_with self.old (spelled line.now) }
     {
         self.beside.clear();
         let mut lines = ArrayVec::new();
@@ -209,9 +211,9 @@ impl OrderList {
 
     /// Puts the order of a line last.
     pub(crate) fn add(&mut self, line: &[u8])
-        requires spells { Spells line.now }
+        requires spells { SpellsRevivalOrder line.now }
         requires few { length self.old < LIST_ORDERS }
-        requires short { length (batch_text self.old) + length line.now < LIST_BYTES }
+        requires short { length (revival_batch_text self.old) + length line.now < LIST_BYTES }
         ensures { self.new ≡ self.old ++ spelled line.now ∷ [] }
     {
         put_line(line, &mut self.lines, &mut self.texts);
@@ -219,17 +221,11 @@ impl OrderList {
 
     /// Writes the orders, each with its line feed.
     pub(crate) fn write(&self, out: &mut Out)
-        requires { length out.old.text + length (batch_text self.now) ≤ out.old.room }
-        ensures out { out.new ≡ with out.old (batch_text self.now) }
-        ensures lines { AreLines self.now LIST_ORDERS }
+        requires { length out.old.text + length (revival_batch_text self.now) ≤ out.old.room }
+        ensures out { out.new ≡ with out.old (revival_batch_text self.now) }
+        ensures lines { OrdersAreLines self.now LIST_ORDERS }
     {
         out.put(self.texts.bytes());
-    }
-
-    pub(crate) fn is_empty(&self) -> bool
-        ensures { result ≡ is_nil self.now }
-    {
-        self.lines.is_empty()
     }
 
     /// Takes all orders out.

@@ -2,15 +2,16 @@
 ghost use Rattle.std.specs.Prelude.{◌≡◌, ◌∷◌, ◌<◌, [], length, codes, MatchOption, IfSome, None};
 ghost use Rattle.std.specs.Option.{option_map};
 ghost use Rattle.peer_words.specs.Tokens.{tokens};
-ghost use Rattle.uci_lines.specs.Orders.{order_of as own_order_of};
+ghost use Rattle.uci_lines.specs.Orders.{uci_order_of as own_order_of};
 ghost use Rattle.uci_lines.specs.OrderReading.{order_in as own_order_in};
-ghost use Rattle.uci_engine_side.specs.Kinds.{has_word};
-ghost use Rattle.uci_engine_side.specs.Lines.{line_of};
-ghost use Rattle.engine_revival.specs.Orders.{order_of};
-ghost use Rattle.engine_revival.specs.Asked.{order_in, position_asked, setting_asked, word_asked};
+ghost use Rattle.uci_as_engine.specs.Kinds.{has_token_word};
+ghost use Rattle.uci_as_engine.specs.Lines.{position_line_in};
+ghost use Rattle.engine_revival.specs.Orders.{revival_order_of};
+ghost use Rattle.engine_revival.specs.Steps.{is_ready_order};
+ghost use Rattle.engine_revival.specs.Asked.{revival_order_in, position_asked, setting_asked, word_asked};
 
 use peer_words::{GoKind, named, next_token};
-use uci_engine_side::{go_kind, spoken};
+use uci_as_engine::{go_kind, spoken};
 use uci_lines::Order as OwnOrder;
 
 /// An order to an engine. A setting, a `position` and a `go` have their line as it came.
@@ -30,9 +31,17 @@ pub enum RevivalOrder<'a> {
     Go { kind: GoKind, line: &'a [u8] },
 }
 
-/// Whether `value` is among the tokens.
+impl RevivalOrder<'_> {
+    pub(crate) fn is_ready_order(&self) -> bool
+        ensures { result ≡ is_ready_order (revival_order_of self.now) }
+    {
+        matches!(self, RevivalOrder::IsReady)
+    }
+}
+
+/// True if `value` is among the tokens.
 fn has_value(text: &[u8]) -> bool
-    ensures { result ≡ has_word (codes "value") (tokens text.now) }
+    ensures { result ≡ has_token_word (codes "value") (tokens text.now) }
 {
     let mut others = text;
     while let Some((token, behind)) = next_token(others) {
@@ -45,7 +54,7 @@ fn has_value(text: &[u8]) -> bool
 }
 
 fn read_setting<'a>(line: &'a [u8], behind: &'a [u8]) -> Option<RevivalOrder<'a>>
-    ensures { option_map order_of result ≡ setting_asked (tokens behind.now) line.now }
+    ensures { option_map revival_order_of result ≡ setting_asked (tokens behind.now) line.now }
 {
     let (word, name) = next_token(behind)?;
     if word != b"name".as_slice() {
@@ -69,7 +78,7 @@ static WORD_ORDERS: [(&[u8], RevivalOrder); 6] = [
 ];
 
 fn read_word(line: &[u8]) -> Option<RevivalOrder<'static>>
-    ensures { option_map order_of result ≡ word_asked line.now }
+    ensures { option_map revival_order_of result ≡ word_asked line.now }
 {
     named(&WORD_ORDERS, line)
 }
@@ -82,7 +91,8 @@ fn own_order(line: &[u8]) -> Option<OwnOrder<'_>>
 }
 
 fn read_spoken(line: &[u8]) -> Option<RevivalOrder<'_>>
-    ensures { option_map order_of result ≡ position_asked None (line_of line.now) line.now }
+    ensures { option_map revival_order_of result ≡ position_asked None (position_line_in
+        line.now) line.now }
 {
     match spoken(line) {
         Some(_) => Some(RevivalOrder::Position(line)),
@@ -91,8 +101,8 @@ fn read_spoken(line: &[u8]) -> Option<RevivalOrder<'_>>
 }
 
 fn read_position(line: &[u8]) -> Option<RevivalOrder<'_>>
-    ensures { option_map order_of result
-        ≡ position_asked (own_order_in line.now) (line_of line.now) line.now }
+    ensures { option_map revival_order_of result
+        ≡ position_asked (own_order_in line.now) (position_line_in line.now) line.now }
 {
     match own_order(line) {
         Some(_) => Some(RevivalOrder::Position(line)),
@@ -103,9 +113,9 @@ fn read_position(line: &[u8]) -> Option<RevivalOrder<'_>>
 /// The order that a line is, which has no white space at its ends: a word alone; `setoption name`, a name, and perhaps
 /// `value` with what follows; a `position` in the spelling that the bridge writes, or one whose position and moves are
 /// legal; a `go`, whatever follows it.
-#[tactic(auto, unfolding(crate::specs::Asked::order_in))]
+#[tactic(auto, unfolding(crate::specs::Asked::revival_order_in))]
 pub fn read_order(line: &[u8]) -> Option<RevivalOrder<'_>>
-    ensures { option_map order_of result ≡ order_in line.now }
+    ensures { option_map revival_order_of result ≡ revival_order_in line.now }
 {
     let (word, others) = next_token(line)?;
     if word == b"setoption".as_slice() {

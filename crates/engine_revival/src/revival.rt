@@ -2,10 +2,10 @@
 ghost use Rattle.std.specs.Prelude.{◌≡◌, ◌≤◌, ◌<◌, length, true, false, IfOk};
 ghost use Rattle.std.specs.Borrow.{sem};
 ghost use Rattle.engine_revival.specs.Calls as calls;
-ghost use Rattle.engine_revival.specs.Calls.{Gives, may, after};
+ghost use Rattle.engine_revival.specs.Calls.{LifeCallGives, may_call, revival_after};
 ghost use Rattle.line_io.specs.Event.{has_feed};
 ghost use Rattle.engine_revival.specs.Marks.{HaveRoom};
-ghost use Rattle.engine_revival.specs.View.{opening, view_without_lines, Keeps};
+ghost use Rattle.engine_revival.specs.View.{opening_view, view_without_lines, RevivalInvariant};
 ghost use Rattle.engine_revival.specs.declared.state.TheConstants.{MOST_LINE};
 
 use crate::state::RevivalState;
@@ -14,7 +14,7 @@ use std::alloc::Global;
 use std::marker::Model;
 
 /// The room of the lines up: one as long as a line may be, and what stands in for the engine.
-pub(crate) const UP_ROOM: usize = PEER_LINE + 1_024;
+pub(crate) const UP_ROOM: usize = PEER_LINE + 40_000;
 
 /// The room of the lines to the engine: all settings, and the orders of a search.
 pub(crate) const CHILD_ROOM: usize = 1_310_720;
@@ -41,10 +41,10 @@ impl RevivalParts {
     fn order(&mut self, line: &[u8])
         requires one_line { has_feed line.now ≡ false }
         requires short { length line.now ≤ MOST_LINE }
-        requires keeps { Keeps self.old }
-        ensures gives { Gives self.old.state (calls.Order line.now)
+        requires keeps { RevivalInvariant self.old }
+        ensures gives { LifeCallGives self.old.state (calls.Order line.now)
             self.new.state self.new.up.text self.new.child.text }
-        ensures keeps { Keeps self.new }
+        ensures keeps { RevivalInvariant self.new }
     {
         self.clear();
         self.state.order(line, &mut self.child);
@@ -53,10 +53,10 @@ impl RevivalParts {
 
     fn hear(&mut self, line: &[u8])
         requires short { length line.now ≤ MOST_LINE }
-        requires keeps { Keeps self.old }
-        ensures gives { Gives self.old.state (calls.Heard line.now)
+        requires keeps { RevivalInvariant self.old }
+        ensures gives { LifeCallGives self.old.state (calls.Heard line.now)
             self.new.state self.new.up.text self.new.child.text }
-        ensures keeps { Keeps self.new }
+        ensures keeps { RevivalInvariant self.new }
     {
         self.clear();
         self.state.hear(line, &mut self.up);
@@ -64,11 +64,11 @@ impl RevivalParts {
     }
 
     fn begin(&mut self)
-        requires may { may self.old.state calls.Begin ≡ true }
-        requires keeps { Keeps self.old }
-        ensures gives { Gives self.old.state calls.Begin
+        requires may { may_call self.old.state calls.Begin ≡ true }
+        requires keeps { RevivalInvariant self.old }
+        ensures gives { LifeCallGives self.old.state calls.Begin
             self.new.state self.new.up.text self.new.child.text }
-        ensures keeps { Keeps self.new }
+        ensures keeps { RevivalInvariant self.new }
     {
         self.clear();
         self.state.begin(&mut self.child);
@@ -76,10 +76,10 @@ impl RevivalParts {
     }
 
     fn close(&mut self)
-        requires keeps { Keeps self.old }
-        ensures gives { Gives self.old.state calls.Over
+        requires keeps { RevivalInvariant self.old }
+        ensures gives { LifeCallGives self.old.state calls.Over
             self.new.state self.new.up.text self.new.child.text }
-        ensures keeps { Keeps self.new }
+        ensures keeps { RevivalInvariant self.new }
     {
         self.clear();
         self.state.close();
@@ -98,16 +98,16 @@ pub struct Revival {
 }
 
 impl Model for Revival {
-    ghost use Rattle.engine_revival.specs.View.{View, Keeps};
+    ghost use Rattle.engine_revival.specs.View.{View, RevivalInvariant};
 
     ghost Value = { View };
 
     ghost view = { λ r. r.parts };
 
-    ghost invariant = { λ r. Keeps r.parts };
+    ghost invariant = { λ r. RevivalInvariant r.parts };
 }
 
-/// What a call writes: whole lines to those who give the orders, and to the engine, each with its line feed.
+/// The output of a call: whole lines to those who give the orders, and to the engine, each with its line feed.
 #[derive(Clone, Copy)]
 pub struct RevivalStep<'a> {
     pub up: &'a [u8],
@@ -120,7 +120,7 @@ impl Revival {
 
     /// The first life is begun. It takes all memory that it ever uses.
     pub fn make(alloc: Global, lives: u32) -> Result<Revival, NoMemory>
-        ensures { IfOk result (λ revival. revival ≡ opening lives) }
+        ensures { IfOk result (λ revival. revival ≡ opening_view lives) }
     {
         let up = Out::make(alloc, UP_ROOM)?;
         let child = Out::make(alloc, CHILD_ROOM)?;
@@ -132,7 +132,7 @@ impl Revival {
 
     /// An order came. The line has no line feed.
     pub fn order<'a>(&'a mut self, line: &[u8]) -> RevivalStep<'a>
-        requires may { may self.old.state (calls.Order line.now) ≡ true }
+        requires may { may_call self.old.state (calls.Order line.now) ≡ true }
         requires one_line { has_feed line.now ≡ false }
         requires short { length line.now ≤ MOST_LINE }
         ensures* gives { sem 𝓛 (CallGives self.entry (calls.Order line.now) result) }
@@ -144,7 +144,7 @@ impl Revival {
 
     /// The present life wrote a line. It has no line feed.
     pub fn heard<'a>(&'a mut self, line: &[u8]) -> RevivalStep<'a>
-        requires may { may self.old.state (calls.Heard line.now) ≡ true }
+        requires may { may_call self.old.state (calls.Heard line.now) ≡ true }
         requires short { length line.now ≤ MOST_LINE }
         ensures* gives { sem 𝓛 (CallGives self.entry (calls.Heard line.now) result) }
         ensures marks { HaveRoom result.up.now result.child.now }
@@ -155,8 +155,8 @@ impl Revival {
 
     /// The present life has ended: whether another may begin. `begin` comes next if so, else `over`.
     pub fn ended(&mut self) -> bool
-        requires { may self.old.state calls.Ended ≡ true }
-        ensures state { self.new.state ≡ after self.old.state calls.Ended }
+        requires { may_call self.old.state calls.Ended ≡ true }
+        ensures state { self.new.state ≡ revival_after self.old.state calls.Ended }
         ensures may { result ≡ may_begin self.old.state }
     {
         self.parts.state.end()
@@ -164,7 +164,7 @@ impl Revival {
 
     /// Another life is begun.
     pub fn begin(&mut self) -> RevivalStep<'_>
-        requires { may self.old.state calls.Begin ≡ true }
+        requires { may_call self.old.state calls.Begin ≡ true }
         ensures* gives { sem 𝓛 (CallGives self.entry calls.Begin result) }
         ensures marks { HaveRoom result.up.now result.child.now }
     {
@@ -174,7 +174,7 @@ impl Revival {
 
     /// The present life has ended, and no life follows.
     pub fn over(&mut self) -> RevivalStep<'_>
-        requires { may self.old.state calls.Over ≡ true }
+        requires { may_call self.old.state calls.Over ≡ true }
         ensures* gives { sem 𝓛 (CallGives self.entry calls.Over result) }
         ensures marks { HaveRoom result.up.now result.child.now }
     {
@@ -182,14 +182,14 @@ impl Revival {
         self.lines()
     }
 
-    /// Whether a setting came that the lists have no room for. No life is begun from then on.
+    /// True if a setting came that the lists have no room for. No life is begun from then on.
     pub fn full(&self) -> bool
         ensures { result ≡ self.now.state.full }
     {
         self.parts.state.is_full()
     }
 
-    /// Whether `quit` was accepted. No order is accepted from then on, and nothing is written to the
+    /// True if `quit` was accepted. No order is accepted from then on, and nothing is written to the
     /// life after it.
     pub fn has_quit(&self) -> bool
         ensures { result ≡ self.now.state.quit }
@@ -197,14 +197,14 @@ impl Revival {
         self.parts.state.has_quit()
     }
 
-    /// Whether a life is begun and has not ended.
+    /// True if a life is begun and has not ended.
     pub fn is_alive(&self) -> bool
         ensures { result ≡ is_alive self.now.state.life }
     {
         self.parts.state.is_alive()
     }
 
-    /// Whether a life has ended, and neither `begin` nor `over` came since.
+    /// True if a life has ended, and neither `begin` nor `over` came since.
     pub fn awaits_next(&self) -> bool
         ensures { result ≡ is_ended self.now.state.life }
     {
@@ -214,7 +214,7 @@ impl Revival {
     pub(crate) fn take_order(&mut self, line: &[u8])
         requires one_line { has_feed line.now ≡ false }
         requires short { length line.now ≤ MOST_LINE }
-        ensures gives { Gives self.old.state (calls.Order line.now)
+        ensures gives { LifeCallGives self.old.state (calls.Order line.now)
             self.new.state self.new.up.text self.new.child.text }
     {
         self.parts.order(line);
@@ -222,22 +222,22 @@ impl Revival {
 
     pub(crate) fn take_heard(&mut self, line: &[u8])
         requires short { length line.now ≤ MOST_LINE }
-        ensures gives { Gives self.old.state (calls.Heard line.now)
+        ensures gives { LifeCallGives self.old.state (calls.Heard line.now)
             self.new.state self.new.up.text self.new.child.text }
     {
         self.parts.hear(line);
     }
 
     pub(crate) fn take_begin(&mut self)
-        requires { may self.old.state calls.Begin ≡ true }
-        ensures gives { Gives self.old.state calls.Begin
+        requires { may_call self.old.state calls.Begin ≡ true }
+        ensures gives { LifeCallGives self.old.state calls.Begin
             self.new.state self.new.up.text self.new.child.text }
     {
         self.parts.begin();
     }
 
     pub(crate) fn take_over(&mut self)
-        ensures gives { Gives self.old.state calls.Over
+        ensures gives { LifeCallGives self.old.state calls.Over
             self.new.state self.new.up.text self.new.child.text }
     {
         self.parts.close();

@@ -2,12 +2,12 @@
 ghost use Rattle.std.specs.Prelude.{◌≡◌, ◌≤◌, ◌+◌, length, true};
 ghost use Rattle.line_io.specs.Event.{event_of};
 ghost use Rattle.line_io.specs.Out.{with};
-ghost use Rattle.script_lines.specs.Marks.{Happens, IsSpelled, event_marked, line_marked};
-ghost use Rattle.script_lines.specs.StepText.{lines_marked, step_marks};
+ghost use Rattle.script_lines.specs.Marks.{Happens, IsMarkSpelled, event_marked, line_marked};
+ghost use Rattle.script_lines.specs.StepText.{lines_marked, marks_of_written};
 ghost use Rattle.engine_revival.specs.declared.script.TheConstants.{EVENT_ROOM};
-ghost use Rattle.engine_revival.specs.Script.{may_happen, state_after, event_text};
-ghost use Rattle.engine_revival.specs.Script.{state_before, call_of};
-ghost use Rattle.engine_revival.specs.Calls.{Gives};
+ghost use Rattle.engine_revival.specs.Script.{may_happen, revival_state_after, revival_event_text};
+ghost use Rattle.engine_revival.specs.Script.{state_before, call_of_event};
+ghost use Rattle.engine_revival.specs.Calls.{LifeCallGives};
 ghost use Rattle.engine_revival.specs.Marks.{HaveRoom};
 ghost use Rattle.engine_revival.specs.Steps.{state_once_ended};
 ghost use Rattle.line_io.specs.declared.limits.TheConstants.{PEER_LINE};
@@ -48,7 +48,8 @@ pub fn put_marks(event: &Event, both: RevivalStep, text: &mut Out)
     requires marks { HaveRoom both.up.now both.child.now }
     requires room { length text.old.text + EVENT_ROOM ≤ text.old.room }
     ensures { text.new
-        ≡ with text.old (step_marks (event_of event.now) both.entry.up.now both.entry.child.now) }
+        ≡ with text.old (marks_of_written (event_of event.now) both.entry.up.now
+        both.entry.child.now) }
 {
     write_mark_line(&Mark::Event(*event), text);
     put_lines(b'X', both.up, text);
@@ -59,7 +60,7 @@ impl Revival {
     ghost use Rattle.line_io.specs.Event.{EngineLong};
     ghost use Rattle.engine_revival.specs.Steps.{is_alive};
 
-    /// Whether the event may come. Long lines of the interface and lost peers may not.
+    /// True if the event may come. Long lines of the interface and lost peers may not.
     pub fn may_happen(&self, event: &Event) -> bool
         ensures { result ≡ may_happen self.now.state (event_of event.now) }
     {
@@ -72,7 +73,8 @@ impl Revival {
 
     fn turn(&mut self)
         requires { is_alive self.old.state.life ≡ true }
-        ensures { Gives (state_once_ended self.old.state) (call_of self.old.state EngineLong)
+        ensures { LifeCallGives (state_once_ended self.old.state) (call_of_event self.old.state
+            EngineLong)
             self.new.state self.new.up.text self.new.child.text }
     {
         if self.ended() {
@@ -84,9 +86,9 @@ impl Revival {
 
     fn take_event(&mut self, event: &Event)
         requires may { may_happen self.old.state (event_of event.now) ≡ true }
-        requires spelled { IsSpelled (Happens (event_of event.now)) }
-        ensures { Gives (state_before self.old.state (event_of event.now))
-            (call_of self.old.state (event_of event.now))
+        requires spelled { IsMarkSpelled (Happens (event_of event.now)) }
+        ensures { LifeCallGives (state_before self.old.state (event_of event.now))
+            (call_of_event self.old.state (event_of event.now))
             self.new.state self.new.up.text self.new.child.text }
     {
         match event {
@@ -106,10 +108,11 @@ impl Revival {
     /// another one begins if one may; the engine's end is the end of a life after which none follows.
     pub fn play(&mut self, event: &Event, text: &mut Out)
         requires may { may_happen self.old.state (event_of event.now) ≡ true }
-        requires spelled { IsSpelled (Happens (event_of event.now)) }
+        requires spelled { IsMarkSpelled (Happens (event_of event.now)) }
         requires room { length text.old.text + EVENT_ROOM ≤ text.old.room }
-        ensures state { self.new.state ≡ state_after self.old.state (event_of event.now) }
-        ensures text { text.new ≡ with text.old (event_text self.old.state (event_of event.now)) }
+        ensures state { self.new.state ≡ revival_state_after self.old.state (event_of event.now) }
+        ensures text { text.new ≡ with text.old (revival_event_text self.old.state (event_of
+            event.now)) }
     {
         self.take_event(event);
         put_marks(event, self.lines(), text);

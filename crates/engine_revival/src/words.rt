@@ -1,7 +1,7 @@
 // The words of a revival.
 ghost use Rattle.std.specs.Prelude.{◌≡◌, false};
-ghost use Rattle.engine_revival.specs.Orders.{order_of};
-ghost use Rattle.uci_lines.specs.Messages.{engine_message_of};
+ghost use Rattle.engine_revival.specs.Orders.{revival_order_of};
+ghost use Rattle.uci_lines.specs.Messages.{uci_message_of};
 ghost use Rattle.engine_revival.specs.Dialogue.{said_of, said_in};
 
 use crate::orders::RevivalOrder;
@@ -15,8 +15,6 @@ pub enum DialogueState {
     Before,
     /// From `uci` to `uciok`.
     Boot,
-    /// From `isready` to `readyok`.
-    Getting,
     /// It waits for orders.
     Idle,
     /// It waits for the `go` after a `position`.
@@ -32,8 +30,6 @@ pub enum LifeState {
     Fresh,
     /// From `uci` to `uciok`.
     Boot,
-    /// From `isready` to `readyok`.
-    Getting,
     /// It waits for orders.
     Idle,
     /// From `go` to `bestmove`.
@@ -44,43 +40,45 @@ pub enum LifeState {
     Over,
 }
 
-/// What a line of an engine says, as far as it matters here.
+/// The meaning of a line of an engine, as far as it matters here.
 #[derive(Clone, Copy)]
 pub enum LifeSaid {
     /// A name or an option.
     Introduction,
     UciOk,
     ReadyOk,
-    /// What it reports of its search.
+    /// Its report on its search.
     Report,
     Best,
     Nothing,
 }
 
-/// What is written to an idle life.
+/// What is written to a life behind its `uciok`.
 #[derive(Clone, Copy)]
 pub(crate) enum DueOrders {
     Nothing,
-    /// The settings that it did not get, and `isready`.
+    /// The settings that it did not get, and each `isready` that is held.
     Settings,
-    /// The settings that it did not get, and the orders of the open search.
+    /// The settings that it did not get, each `isready` that is held, and the orders of the open search.
     Search,
 }
 
-/// What stands in for an engine that has no more lives.
+/// The answer of the stand-in for an engine that has no more lives.
 #[derive(Clone, Copy)]
 pub(crate) enum StandInAnswer {
     Nothing,
     UciOk,
+    /// `readyok` as often as `isready` is held, which the others have too.
     ReadyOk,
     /// `bestmove 0000`.
     NoMove,
 }
 
 impl DialogueState {
-    ghost use Rattle.engine_revival.specs.Dialogue.{after_order, after_said, where_true};
-    ghost use Rattle.engine_revival.specs.Dialogue.{is_before, is_idle, is_placed};
+    ghost use Rattle.engine_revival.specs.Dialogue.{after_order, after_said, dialogue_where};
+    ghost use Rattle.engine_revival.specs.Dialogue.{is_before, is_dialogue_idle, is_placed};
     ghost use Rattle.engine_revival.specs.Dialogue.{after_hit, after_stop};
+    ghost use Rattle.std.specs.Prelude.{not, ◌||◌};
 
     pub(crate) fn is_before(self) -> bool
         ensures { result ≡ is_before self }
@@ -90,7 +88,7 @@ impl DialogueState {
 
     // The next state, if the engine is idle.
     fn if_idle(self, next: DialogueState) -> Option<DialogueState>
-        ensures { result ≡ where_true (is_idle self) next }
+        ensures { result ≡ dialogue_where (is_dialogue_idle self) next }
     {
         match self {
             DialogueState::Idle => Some(next),
@@ -98,8 +96,27 @@ impl DialogueState {
         }
     }
 
+    fn after_ready(self) -> Option<DialogueState>
+        ensures { result ≡ dialogue_where (not (is_before self)) self }
+    {
+        match self {
+            DialogueState::Before => None,
+            _ => Some(self),
+        }
+    }
+
+    fn after_position(self) -> Option<DialogueState>
+        ensures { result ≡ dialogue_where (is_dialogue_idle self || is_placed self)
+            DialogueState.Placed }
+    {
+        match self {
+            DialogueState::Idle | DialogueState::Placed => Some(DialogueState::Placed),
+            _ => None,
+        }
+    }
+
     fn after_go(self, kind: GoKind) -> Option<DialogueState>
-        ensures { result ≡ where_true (is_placed self) (DialogueState.Search kind false) }
+        ensures { result ≡ dialogue_where (is_placed self) (DialogueState.Search kind false) }
     {
         match self {
             DialogueState::Placed => Some(DialogueState::Search {
@@ -142,7 +159,7 @@ impl DialogueState {
 
     /// After an order. None if the order may not stand here.
     pub fn after_order(self, order: &RevivalOrder) -> Option<DialogueState>
-        ensures { result ≡ after_order (order_of order.now) self }
+        ensures { result ≡ after_order (revival_order_of order.now) self }
     {
         match order {
             RevivalOrder::Uci if self.is_before() => Some(DialogueState::Boot),
@@ -150,8 +167,8 @@ impl DialogueState {
             RevivalOrder::Value { name: _, line: _ } => self.if_idle(DialogueState::Idle),
             RevivalOrder::Button { name: _, line: _ } => self.if_idle(DialogueState::Idle),
             RevivalOrder::NewGame => self.if_idle(DialogueState::Idle),
-            RevivalOrder::IsReady => self.if_idle(DialogueState::Getting),
-            RevivalOrder::Position(_) => self.if_idle(DialogueState::Placed),
+            RevivalOrder::IsReady => self.after_ready(),
+            RevivalOrder::Position(_) => self.after_position(),
             RevivalOrder::Go { kind, line: _ } => self.after_go(*kind),
             RevivalOrder::PonderHit => self.after_hit(),
             RevivalOrder::Stop => self.after_stop(),
@@ -165,7 +182,6 @@ impl DialogueState {
     {
         match (self, said) {
             (DialogueState::Boot, LifeSaid::UciOk) => DialogueState::Idle,
-            (DialogueState::Getting, LifeSaid::ReadyOk) => DialogueState::Idle,
             (
                 DialogueState::Search {
                     kind: _,
@@ -179,7 +195,7 @@ impl DialogueState {
 }
 
 fn said_of(msg: EngineMsg) -> LifeSaid
-    ensures { result ≡ said_of (engine_message_of msg.entry) }
+    ensures { result ≡ said_of (uci_message_of msg.entry) }
 {
     match msg {
         EngineMsg::Name(_) => LifeSaid::Introduction,
@@ -192,7 +208,7 @@ fn said_of(msg: EngineMsg) -> LifeSaid
     }
 }
 
-/// What a line of the engine says.
+/// The meaning of a line of the engine.
 pub fn said_in(line: &[u8]) -> LifeSaid
     ensures { result ≡ said_in line.now }
 {

@@ -1,4 +1,4 @@
--- What has come of each sender in the end, and how much is still to be taken.
+-- The arrivals of each sender in the end, and how much is still to be taken.
 use Rattle.std.proofs.Common.{◌≡◌, ℕ, ◌+◌, ◌≤◌, suc, List, [], ◌∷◌, ◌++◌, length, Bool, true, false, cond, refl, sym, ap, subst, ◌∙◌, arith}
 use Rattle.std.proofs.lemmas.List.{length-append}
 use Rattle.crossbeam_channel.specs.Fifo.{Learns}
@@ -8,8 +8,8 @@ use Rattle.event_pipe.specs.declared.pipe.TheConstants.{CHANNEL_ROOM}
 use Rattle.event_pipe.specs.declared.message.Peer.{Peer}
 use Rattle.event_pipe.specs.declared.message.Peer.TheVariants as peers
 use Rattle.event_pipe.specs.Message.{role_of}
-use Rattle.event_pipe.specs.Rule.{is_of, of, Orderly, Delivers, Total, joined_first, joined_second}
-use Rattle.event_pipe.specs.Ends.{Came}
+use Rattle.event_pipe.specs.Rule.{is_of_role, of, Orderly, Delivers, Total, joined_first, joined_second}
+use Rattle.event_pipe.specs.Ends.{CameFromPeer}
 use Rattle.event_pipe.proofs.Keeps.{of-append, is_own, orderly_after}
 
 pub totals : (pass : ℕ) (v : KnownOfPass) → v.role ≡ 0 → v.joined ≡ 2 → Learns Delivers pass v (Total v)
@@ -25,18 +25,18 @@ totals pass v zero' joined items views d at =
       second_orderly = subst Orderly (sym two.1) (d.orderly 2);
     }
 
-pub came : (p : Peer) (taken items sent : List Event) → of (role_of p) (taken ++ items) ≡ sent → Orderly sent → Came p taken sent
+pub came : (p : Peer) (taken items sent : List Event) → of (role_of p) (taken ++ items) ≡ sent → Orderly sent → CameFromPeer p taken sent
 came p taken items sent e o =
-    let front = sym e ∙ of-append (role_of p) taken items in
-    record { left = of (role_of p) items; front = front; whole = orderly_after (of (role_of p) taken) (of (role_of p) items) (subst Orderly front o) }
+    let prefix = sym e ∙ of-append (role_of p) taken items in
+    record { left = of (role_of p) items; prefix = prefix; whole = orderly_after (of (role_of p) taken) (of (role_of p) items) (subst Orderly prefix o) }
 
-pub came_first : (v a b x y : KnownOfPass) → a ≡ joined_first v x → b ≡ joined_second a y → (items : List Event) → Total b items → Came peers.Iface v.taken x.sent
+pub came_first : (v a b x y : KnownOfPass) → a ≡ joined_first v x → b ≡ joined_second a y → (items : List Event) → Total b items → CameFromPeer peers.Iface v.taken x.sent
 came_first v a b x y e f items t =
     let taken : b.taken ≡ v.taken = ap (λ (h : KnownOfPass). h.taken) f ∙ ap (λ (h : KnownOfPass). h.taken) e in
     let first : b.first ≡ x.sent = ap (λ (h : KnownOfPass). h.first) f ∙ ap (λ (h : KnownOfPass). h.first) e in
     came peers.Iface v.taken items x.sent (ap (λ l. of 1 (l ++ items)) (sym taken) ∙ t.first ∙ first) (subst Orderly first t.first_orderly)
 
-pub came_second : (v a b x y : KnownOfPass) → a ≡ joined_first v x → b ≡ joined_second a y → (items : List Event) → Total b items → Came peers.Engine v.taken y.sent
+pub came_second : (v a b x y : KnownOfPass) → a ≡ joined_first v x → b ≡ joined_second a y → (items : List Event) → Total b items → CameFromPeer peers.Engine v.taken y.sent
 came_second v a b x y e f items t =
     let taken : b.taken ≡ v.taken = ap (λ (h : KnownOfPass). h.taken) f ∙ ap (λ (h : KnownOfPass). h.taken) e in
     let second : b.second ≡ y.sent = ap (λ (h : KnownOfPass). h.second) f in
@@ -53,7 +53,7 @@ count_one false false l ms ns le apart x = omega arith
 both_roles : (l : List Event) → length (of 1 l) + length (of 2 l) ≤ length l
 both_roles [] = omega arith
 both_roles (x ∷ l) =
-    count_one (is_of 1 x) (is_of 2 x) (length l) (of 1 l) (of 2 l) (both_roles l)
+    count_one (is_of_role 1 x) (is_of_role 2 x) (length l) (of 1 l) (of 2 l) (both_roles l)
     (λ a b. let e = is_own x 1 a in let f = is_own x 2 b in omega arith) x
 
 within : (taken items sent_first sent_second : List Event) → of 1 (taken ++ items) ≡ sent_first → of 2 (taken ++ items) ≡ sent_second → length items ≤ CHANNEL_ROOM

@@ -14,34 +14,34 @@ use Rattle.event_pipe.specs.declared.message.Peer.{Peer}
 use Rattle.event_pipe.specs.declared.message.Peer.TheVariants as peers
 use Rattle.event_pipe.specs.declared.message.MessageBody.{MessageBody}
 use Rattle.event_pipe.specs.declared.message.MessageBody.TheVariants as says
-use Rattle.event_pipe.specs.Message.{role_of, sent_event, role_of_event, is_end, is_good}
-use Rattle.event_pipe.specs.Rule.{is_of, of, has_last_event, Orderly, idle, sender, Adds, Gets, Fits, Delivers, AllGood, joined_first, joined_second}
+use Rattle.event_pipe.specs.Message.{role_of, sent_event, role_of_event, is_last_event, is_good}
+use Rattle.event_pipe.specs.Rule.{is_of_role, of, has_last_event, Orderly, idle, sender, SendAdds, Gets, PassesFitRoles, Delivers, AllGood, joined_first, joined_second}
 
 pub of-append : (role : ℕ) (xs ys : List Event) → of role (xs ++ ys) ≡ of role xs ++ of role ys
 of-append role [] ys = refl
-of-append role (x ∷ xs) ys = elim (is_of role x) as (λ b. cond b (x ∷ of role (xs ++ ys)) (of role (xs ++ ys)) ≡ cond b (x ∷ of role xs) (of role xs) ++ of role ys)
+of-append role (x ∷ xs) ys = elim (is_of_role role x) as (λ b. cond b (x ∷ of role (xs ++ ys)) (of role (xs ++ ys)) ≡ cond b (x ∷ of role xs) (of role xs) ++ of role ys)
     [ true ↦ ap (λ l. x ∷ l) (of-append role xs ys) | false ↦ of-append role xs ys ]
 
 -- one more of one role
 abbrev more : (ℕ → List Event) → Event → ℕ → List Event
-more sent x role = cond (is_of role x) (sent role ++ x ∷ []) (sent role)
+more sent x role = cond (is_of_role role x) (sent role ++ x ∷ []) (sent role)
 
 of_more : (sent : ℕ → List Event) (x : Event) (role : ℕ) (all : List Event) → of role all ≡ sent role → of role (all ++ x ∷ []) ≡ more sent x role
-of_more sent x role all e = of-append role all (x ∷ []) ∙ elim (is_of role x) as (λ b. of role all ++ cond b (x ∷ []) [] ≡ cond b (sent role ++ x ∷ []) (sent role))
+of_more sent x role all e = of-append role all (x ∷ []) ∙ elim (is_of_role role x) as (λ b. of role all ++ cond b (x ∷ []) [] ≡ cond b (sent role ++ x ∷ []) (sent role))
     [ true ↦ ap (λ l. l ++ x ∷ []) e | false ↦ append-nil (of role all) ∙ e ]
 
-own : (x : Event) → is_of (role_of_event x) x ≡ true
+own : (x : Event) → is_of_role (role_of_event x) x ≡ true
 own x = grind (arith, nat_tests)
 
-other : (x : Event) (role : ℕ) → role_of_event x ≢ role → is_of role x ≡ false
+other : (x : Event) (role : ℕ) → role_of_event x ≢ role → is_of_role role x ≡ false
 other x role n = grind (arith, nat_tests)
 
-pub is_own : (x : Event) (role : ℕ) → is_of role x ≡ true → role_of_event x ≡ role
+pub is_own : (x : Event) (role : ℕ) → is_of_role role x ≡ true → role_of_event x ≡ role
 is_own x role h = grind (arith, nat_tests)
 
 orderly_snoc : (xs : List Event) (x : Event) → Orderly xs → has_last_event xs ≡ false → Orderly (xs ++ x ∷ [])
 orderly_snoc [] x o e = ((λ _. refl), tt)
-orderly_snoc (y ∷ ys) x o e = ((λ t. cc), orderly_snoc ys x o.1 (or_parts (is_end y) (has_last_event ys) e).1)
+orderly_snoc (y ∷ ys) x o e = ((λ t. cc), orderly_snoc ys x o.1 (or_parts (is_last_event y) (has_last_event ys) e).1)
 
 filled : (zs ys : List Event) (x : Event) → zs ++ x ∷ ys ≡ [] → ⊥
 filled [] ys x h = cc
@@ -53,7 +53,7 @@ at_y false b n h = h
 
 orderly_before : (xs ys : List Event) (x : Event) → Orderly (xs ++ x ∷ ys) → has_last_event xs ≡ false
 orderly_before [] ys x o = refl
-orderly_before (y ∷ zs) ys x o = at_y (is_end y) (has_last_event zs) (λ t. filled zs ys x (o.0 t)) (orderly_before zs ys x o.1)
+orderly_before (y ∷ zs) ys x o = at_y (is_last_event y) (has_last_event zs) (λ t. filled zs ys x (o.0 t)) (orderly_before zs ys x o.1)
 
 tail : (xs ys : List Event) → xs ++ ys ≡ [] → ys ≡ []
 tail [] ys h = h
@@ -65,7 +65,7 @@ at_x false b ys f g h = g h
 
 pub orderly_after : (xs ys : List Event) → Orderly (xs ++ ys) → has_last_event xs ≡ true → ys ≡ []
 orderly_after [] ys o e = cc
-orderly_after (x ∷ xs) ys o e = at_x (is_end x) (has_last_event xs) ys (λ t. tail xs ys (o.0 t)) (λ t. orderly_after xs ys o.1 t) e
+orderly_after (x ∷ xs) ys o e = at_x (is_last_event x) (has_last_event xs) ys (λ t. tail xs ys (o.0 t)) (λ t. orderly_after xs ys o.1 t) e
 
 all_snoc : (xs : List Event) (x : Event) → AllGood xs → (is_good x ≡ true) × (role_of_event x ≢ 3) → AllGood (xs ++ x ∷ [])
 all_snoc [] x a p = (p, tt)
@@ -100,7 +100,7 @@ begins = record {
   good = tt;
   fits = λ k u at. elim (at_end [] idle u k at) [
     | inl h ↦ absurd (some-ne-none u (sym h))
-    | inr h ↦ subst (λ (v : KnownOfPass). Fits (first_seat) (λ _. []) [] k v) h.0
+    | inr h ↦ subst (λ (v : KnownOfPass). PassesFitRoles (first_seat) (λ _. []) [] k v) h.0
         (record {
           seated = λ _. ap some (sym h.1);
           sends = λ a b. refl;
@@ -121,11 +121,11 @@ one_seat seat pass k v u n same f g =
     cc
 
 own_fits : (seat : ℕ → Option ℕ) (sent : ℕ → List Event) (taken : List Event) (pass : ℕ) (v : KnownOfPass) (x : Event) → v.role ≡ role_of_event x → v.role ≢ 3 → v.role ≢ 0
-    → Fits seat sent taken pass v → Fits seat (more sent x) taken pass (record v { sent = v.sent ++ x ∷ [] })
+    → PassesFitRoles seat sent taken pass v → PassesFitRoles seat (more sent x) taken pass (record v { sent = v.sent ++ x ∷ [] })
 own_fits seat sent taken pass v x role n3 n0 f = record {
   seated = f.seated;
   sends = λ a b.
-      let yes : is_of v.role x ≡ true = ap (λ r. is_of r x) role ∙ own x in
+      let yes : is_of_role v.role x ≡ true = ap (λ r. is_of_role r x) role ∙ own x in
       ap (λ l. l ++ x ∷ []) (f.sends a b) ∙ sym (ap (λ b. cond b (sent v.role ++ x ∷ []) (sent v.role)) yes);
   takes = λ z. absurd (n0 z);
   spare = λ z. absurd (n0 z);
@@ -138,7 +138,7 @@ kept_sent : (sent : ℕ → List Event) (x : Event) (role : ℕ) → role_of_eve
 kept_sent sent x role n = ap (λ b. cond b (sent role ++ x ∷ []) (sent role)) (other x role n)
 
 other_fits : (seat : ℕ → Option ℕ) (sent : ℕ → List Event) (taken : List Event) (pass k : ℕ) (v u : KnownOfPass) (x : Event) → v.role ≡ role_of_event x → v.role ≢ 3 → k ≢ pass
-    → Fits seat sent taken pass v → Fits seat sent taken k u → Fits seat (more sent x) taken k u
+    → PassesFitRoles seat sent taken pass v → PassesFitRoles seat sent taken k u → PassesFitRoles seat (more sent x) taken k u
 other_fits seat sent taken pass k v u x role n3 apart f g =
     let seated = f.seated n3 in
     let not_none : (r : ℕ) → seat r ≡ none → role_of_event x ≢ r = λ r h e. let s : seat v.role ≡ seat r = ap seat (role ∙ e) in some-ne-none pass (sym seated ∙ s ∙ h) in
@@ -160,7 +160,7 @@ orderly_more false xs x o e = o
 one_more : (items : List Event) (x : Event) (cap : ℕ) → cap ≡ CHANNEL_ROOM → length items < cap → length (items ++ x ∷ []) ≤ CHANNEL_ROOM
 one_more items x cap e short = let l = length-append items (x ∷ []) in omega arith
 
-pub puts : (cap pass : ℕ) (v : KnownOfPass) (x : Event) → cap ≡ CHANNEL_ROOM → v.role ≡ role_of_event x → v.role ≢ 3 → v.role ≢ 0 → has_last_event v.sent ≡ false → is_good x ≡ true → Pushes Delivers cap pass v x (Adds v x)
+pub puts : (cap pass : ℕ) (v : KnownOfPass) (x : Event) → cap ≡ CHANNEL_ROOM → v.role ≡ role_of_event x → v.role ≢ 3 → v.role ≢ 0 → has_last_event v.sent ≡ false → is_good x ≡ true → Pushes Delivers cap pass v x (SendAdds v x)
 puts cap pass v x full role n3 n0 on good items views short d at =
     let w : KnownOfPass = record v { sent = v.sent ++ x ∷ [] } in
     let mine = d.fits pass v at in (
@@ -171,11 +171,11 @@ puts cap pass v x full role n3 n0 on good items views short d at =
         taken = d.taken;
         each = λ r. ap (of r) (sym (append_assoc d.taken items (x ∷ []))) ∙ of_more d.sent x r (d.taken ++ items) (d.each r);
         room = one_more items x cap full short;
-        orderly = λ r. orderly_more (is_of r x) (d.sent r) x (d.orderly r) (λ is. ap has_last_event (ap d.sent (sym (is_own x r is) ∙ sym role) ∙ sym (mine.sends n3 n0)) ∙ on);
+        orderly = λ r. orderly_more (is_of_role r x) (d.sent r) x (d.orderly r) (λ is. ap has_last_event (ap d.sent (sym (is_own x r is) ∙ sym role) ∙ sym (mine.sends n3 n0)) ∙ on);
         good = subst AllGood (append_assoc d.taken items (x ∷ [])) (all_snoc (d.taken ++ items) x d.good (good, λ e. n3 (role ∙ e)));
         fits = λ k u there. elim (at_set views pass k w u there) [
-          | inl same ↦ subst (λ (h : KnownOfPass). Fits d.seat (more d.sent x) d.taken k h) same.1
-              (subst (λ (i : ℕ). Fits d.seat (more d.sent x) d.taken i w) (sym same.0) (own_fits d.seat d.sent d.taken pass v x role n3 n0 mine))
+          | inl same ↦ subst (λ (h : KnownOfPass). PassesFitRoles d.seat (more d.sent x) d.taken k h) same.1
+              (subst (λ (i : ℕ). PassesFitRoles d.seat (more d.sent x) d.taken i w) (sym same.0) (own_fits d.seat d.sent d.taken pass v x role n3 n0 mine))
           | inr else ↦ other_fits d.seat d.sent d.taken pass k v u x role n3 else.0 mine (d.fits k u else.1)
         ];
       },
@@ -188,8 +188,8 @@ next_of taken items x =
     of-append (role_of_event x) taken (x ∷ items)
     ∙ ap (λ b. of (role_of_event x) taken ++ cond b (x ∷ of (role_of_event x) items) (of (role_of_event x) items)) (own x)
 
-taker_apart : (v : KnownOfPass) → v.role ≡ 0 → v.role ≢ 3
-taker_apart v z e = omega arith
+receiver_apart : (v : KnownOfPass) → v.role ≡ 0 → v.role ≢ 3
+receiver_apart v z e = omega arith
 
 pub takes : (pass : ℕ) (v : KnownOfPass) → v.role ≡ 0 → Pops Delivers pass v (Gets v)
 takes pass v zero' x items views d at =
@@ -208,7 +208,7 @@ takes pass v zero' x items views d at =
         orderly = d.orderly;
         good = subst AllGood (sym (append_assoc d.taken (x ∷ []) items)) d.good;
         fits = λ k u there. elim (at_set views pass k w u there) [
-          | inl same ↦ subst (λ (h : KnownOfPass). Fits d.seat d.sent (d.taken ++ x ∷ []) k h) same.1
+          | inl same ↦ subst (λ (h : KnownOfPass). PassesFitRoles d.seat d.sent (d.taken ++ x ∷ []) k h) same.1
               (record {
                 seated = λ n. mine.seated n ∙ ap some (sym same.0);
                 sends = λ a b. absurd (b zero');
@@ -222,7 +222,7 @@ takes pass v zero' x items views d at =
               record {
                 seated = g.seated;
                 sends = g.sends;
-                takes = λ z. absurd (else.0 (one_seat d.seat pass k v u (taker_apart v zero') (z ∙ sym zero') mine.seated g.seated));
+                takes = λ z. absurd (else.0 (one_seat d.seat pass k v u (receiver_apart v zero') (z ∙ sym zero') mine.seated g.seated));
                 spare = g.spare;
                 first = g.first;
                 second = g.second;
@@ -259,7 +259,7 @@ forks role pass v zero' made low joined items views d at =
       good = d.good;
       fits = λ k u there. elim (at_end vs (sender role) u k there) [
         | inl old ↦ elim (at_set views pass k left u old) [
-          | inl same ↦ subst (λ (h : KnownOfPass). Fits seat d.sent d.taken k h) same.1
+          | inl same ↦ subst (λ (h : KnownOfPass). PassesFitRoles seat d.sent d.taken k h) same.1
               (record {
                 seated = λ n. seat_else d.seat role (some (length vs)) v.role (not_role v.role pass (mine.seated n)) ∙ mine.seated n ∙ ap some (sym same.0);
                 sends = λ a b. absurd (b zero');
@@ -270,17 +270,17 @@ forks role pass v zero' made low joined items views d at =
               })
           | inr else ↦
               let g = d.fits k u else.1 in
-              let no_taker : u.role ≢ 0 = λ z. else.0 (one_seat d.seat pass k v u (taker_apart v zero') (z ∙ sym zero') mine.seated g.seated) in
+              let no_receiver : u.role ≢ 0 = λ z. else.0 (one_seat d.seat pass k v u (receiver_apart v zero') (z ∙ sym zero') mine.seated g.seated) in
               record {
                 seated = λ n. seat_else d.seat role (some (length vs)) u.role (not_role u.role k (g.seated n)) ∙ g.seated n;
                 sends = g.sends;
                 takes = g.takes;
-                spare = λ z. absurd (no_taker z);
-                first = λ z. absurd (no_taker z);
-                second = λ z. absurd (no_taker z);
+                spare = λ z. absurd (no_receiver z);
+                first = λ z. absurd (no_receiver z);
+                second = λ z. absurd (no_receiver z);
               }
         ]
-        | inr new ↦ subst (λ (h : KnownOfPass). Fits seat d.sent d.taken k h) new.0
+        | inr new ↦ subst (λ (h : KnownOfPass). PassesFitRoles seat d.sent d.taken k h) new.0
             (record {
               seated = λ n. seat_here d.seat role (some (length vs)) role refl ∙ ap some (sym new.1);
               sends = λ a b. sym free.1;
@@ -292,7 +292,7 @@ forks role pass v zero' made low joined items views d at =
       ];
     }
 
--- how the taker's view changes when a sender is taken in
+-- how the receiving end's view changes when a sender is taken in
 module _ (role pass : ℕ) (v : KnownOfPass) (from : ℕ) (w both : KnownOfPass) (zero' : v.role ≡ 0) (made : v.made ≡ 2) (mine_role : w.role ≡ role) (low : role < 3) (some' : 0 < role)
     (same_role : both.role ≡ v.role) (same_made : both.made ≡ v.made) (same_taken : both.taken ≡ v.taken) where
   pub merges : ((seat : ℕ → Option ℕ) (sent : ℕ → List Event) → (0 < v.joined → (seat 1 ≡ none) × (v.first ≡ sent 1)) → (1 < v.joined → (seat 2 ≡ none) × (v.second ≡ sent 2)) → w.sent ≡ sent role
@@ -316,7 +316,7 @@ module _ (role pass : ℕ) (v : KnownOfPass) (from : ℕ) (w both : KnownOfPass)
         orderly = d.orderly;
         good = d.good;
         fits = λ k u there. elim (at_set vs from k (sender 3) u there) [
-          | inl same ↦ subst (λ (h : KnownOfPass). Fits seat d.sent d.taken k h) same.1
+          | inl same ↦ subst (λ (h : KnownOfPass). PassesFitRoles seat d.sent d.taken k h) same.1
               (record {
                 seated = λ n. absurd (n refl);
                 sends = λ n. absurd (n refl);
@@ -326,9 +326,9 @@ module _ (role pass : ℕ) (v : KnownOfPass) (from : ℕ) (w both : KnownOfPass)
                 second = λ z. absurd (omega arith);
               })
           | inr else ↦ elim (at_set views pass k both u else.1) [
-            | inl same ↦ subst (λ (h : KnownOfPass). Fits seat d.sent d.taken k h) same.1
+            | inl same ↦ subst (λ (h : KnownOfPass). PassesFitRoles seat d.sent d.taken k h) same.1
                 (record {
-                  seated = λ n. seat_else d.seat role none both.role (λ e. omega arith) ∙ ap d.seat same_role ∙ mine.seated (taker_apart v zero') ∙ ap some (sym same.0);
+                  seated = λ n. seat_else d.seat role none both.role (λ e. omega arith) ∙ ap d.seat same_role ∙ mine.seated (receiver_apart v zero') ∙ ap some (sym same.0);
                   sends = λ a b. absurd (b (same_role ∙ zero'));
                   takes = λ _. same_taken ∙ mine.takes zero';
                   spare = λ z r m n. let s = mine.spare zero' r (omega arith) n in (seat_else d.seat role none r (λ e. omega arith) ∙ s.0, s.1);
@@ -337,15 +337,15 @@ module _ (role pass : ℕ) (v : KnownOfPass) (from : ℕ) (w both : KnownOfPass)
                 })
             | inr old ↦
                 let g = d.fits k u old.1 in
-                let no_taker : u.role ≢ 0 = λ z. old.0 (one_seat d.seat pass k v u (taker_apart v zero') (z ∙ sym zero') mine.seated g.seated) in
+                let no_receiver : u.role ≢ 0 = λ z. old.0 (one_seat d.seat pass k v u (receiver_apart v zero') (z ∙ sym zero') mine.seated g.seated) in
                 let no_role : u.role ≢ role = λ e. else.0 (one_seat d.seat from k w u w3 (e ∙ sym mine_role) theirs.seated g.seated) in
                 record {
                   seated = λ n. seat_else d.seat role none u.role no_role ∙ g.seated n;
                   sends = g.sends;
                   takes = g.takes;
-                  spare = λ z. absurd (no_taker z);
-                  first = λ z. absurd (no_taker z);
-                  second = λ z. absurd (no_taker z);
+                  spare = λ z. absurd (no_receiver z);
+                  first = λ z. absurd (no_receiver z);
+                  second = λ z. absurd (no_receiver z);
                 }
           ]
         ];

@@ -1,8 +1,8 @@
--- What a message stands for.
+-- The meaning of a message.
 use Rattle.std.specs.Prelude.{ℕ, Bool, true, false}
 use Rattle.line_io.specs.Event.{Event, Iface, IfaceLong, IfaceEnd}
 use Rattle.line_io.specs.Event.{Engine, EngineLong, EngineEnd, is_line}
-use Rattle.cecp_lines.specs.Quit.{is_quit}
+use Rattle.peer_words.specs.Quit.{is_quit}
 use Rattle.event_pipe.specs.declared.message.Peer.{Peer}
 use Rattle.event_pipe.specs.declared.message.Peer.TheVariants as peers
 use Rattle.event_pipe.specs.declared.message.MessageBody.{MessageBody}
@@ -16,7 +16,7 @@ sent_event peers.Engine (says.Line line) = Engine line
 sent_event peers.Engine says.Long = EngineLong
 sent_event peers.Engine says.End = EngineEnd
 
--- the role of a peer's sender: 1 or 2. The taker's is 0, and that of a pass that was joined is 3
+-- the role of a peer's sender: 1 or 2. The receiving end's is 0, and that of a pass that was joined is 3
 abbrev pub role_of : Peer → ℕ
 role_of peers.Iface = 1
 role_of peers.Engine = 2
@@ -31,11 +31,11 @@ role_of_event EngineEnd = 2
 role_of_event e = 3
 
 -- the last event of a side
-abbrev pub is_end : Event → Bool
-is_end (Iface line) = is_quit line
-is_end IfaceEnd = true
-is_end EngineEnd = true
-is_end e = false
+abbrev pub is_last_event : Event → Bool
+is_last_event (Iface line) = is_quit line
+is_last_event IfaceEnd = true
+is_last_event EngineEnd = true
+is_last_event e = false
 
 -- its line has at most 65,536 bytes and no line feed
 abbrev pub is_good : Event → Bool

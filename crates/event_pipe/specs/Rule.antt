@@ -9,14 +9,14 @@ use Rattle.line_io.specs.Event.{Event}
 use Rattle.event_pipe.specs.declared.pipe.KnownOfPass.{KnownOfPass}
 use Rattle.event_pipe.specs.declared.pipe.TheConstants.{CHANNEL_ROOM}
 use Rattle.event_pipe.specs.declared.message.Peer.{Peer}
-use Rattle.event_pipe.specs.Message.{role_of, role_of_event, is_end, is_good}
+use Rattle.event_pipe.specs.Message.{role_of, role_of_event, is_last_event, is_good}
 
-abbrev pub is_of : ℕ → Event → Bool
-is_of role e = role_of_event e == role
+abbrev pub is_of_role : ℕ → Event → Bool
+is_of_role role e = role_of_event e == role
 
 -- what is there of one sender, in order
 abbrev pub of : ℕ → List Event → List Event
-of role events = filter (is_of role) events
+of role events = filter (is_of_role role) events
 
 -- what is there of one peer, in order
 abbrev pub sent_by : Peer → List Event → List Event
@@ -24,12 +24,12 @@ sent_by peer events = of (role_of peer) events
 
 -- the last event of a side is among them
 abbrev pub has_last_event : List Event → Bool
-has_last_event events = list_any is_end events
+has_last_event events = list_any is_last_event events
 
 -- nothing follows an end
 abbrev pub Orderly : List Event → Type 0
 Orderly [] = Unit {0}
-Orderly (e ∷ es) = (is_end e ≡ true → es ≡ []) × Orderly es
+Orderly (e ∷ es) = (is_last_event e ≡ true → es ≡ []) × Orderly es
 
 -- each may be sent
 abbrev pub AllGood : List Event → Type 0
@@ -48,31 +48,31 @@ knowledge_of_pass role made joined sent taken first second = record {
   second = second;
 }
 
--- a pass that knows nothing yet, of the taker
+-- a pass that knows nothing yet, of the receiving end
 abbrev pub idle : KnownOfPass
 idle = knowledge_of_pass 0 0 0 [] [] [] []
 
 -- a send adds the event to what its sender has sent, and changes nothing else
-abbrev pub Adds : KnownOfPass → Event → KnownOfPass → Type 0
-Adds v x w = w ≡ record v { sent = v.sent ++ x ∷ [] }
+abbrev pub SendAdds : KnownOfPass → Event → KnownOfPass → Type 0
+SendAdds v x w = w ≡ record v { sent = v.sent ++ x ∷ [] }
 
 -- after what was taken it may come: its side has not ended, and its line is within the limit
-abbrev pub Follows : List Event → Event → Type 0
-Follows taken x =
+abbrev pub EventMayFollow : List Event → Event → Type 0
+EventMayFollow taken x =
     (has_last_event (of (role_of_event x) taken) ≡ false) × (is_good x ≡ true)
     × (role_of_event x ≢ 3)
 
 -- a receive adds the event to what was taken, and changes nothing else
 abbrev pub Gets : KnownOfPass → Event → KnownOfPass → Type 0
-Gets v x w = (w ≡ record v { taken = v.taken ++ x ∷ [] }) × Follows v.taken x
+Gets v x w = (w ≡ record v { taken = v.taken ++ x ∷ [] }) × EventMayFollow v.taken x
 
 -- each role has one pass, which knows what was sent, or taken
-pub record Fits (seat : ℕ → Option ℕ) (sent : ℕ → List Event) (taken : List Event) (pass : ℕ)
+pub record PassesFitRoles (seat : ℕ → Option ℕ) (sent : ℕ → List Event) (taken : List Event) (pass : ℕ)
     (v : KnownOfPass) : Type 0 where
   pub seated : v.role ≢ 3 → seat v.role ≡ some pass
   pub sends : v.role ≢ 3 → v.role ≢ 0 → v.sent ≡ sent v.role
   pub takes : v.role ≡ 0 → v.taken ≡ taken
-  -- the taker makes the senders
+  -- the receiver makes the senders
   pub spare : v.role ≡ 0 → (r : ℕ) → v.made < r → r ≢ 3 → (seat r ≡ none) × (sent r ≡ [])
   -- and takes them in
   pub first : v.role ≡ 0 → 0 < v.joined → (seat 1 ≡ none) × (v.first ≡ sent 1)
@@ -92,9 +92,9 @@ pub record Delivers (items : List Event) (views : List KnownOfPass) : Type 0 whe
   -- each line is within the limit, and has no line feed
   pub good : AllGood (taken ++ items)
   pub fits : (pass : ℕ) (v : KnownOfPass) → get_elem? views pass ≡ some v
-      → Fits seat sent taken pass v
+      → PassesFitRoles seat sent taken pass v
 
--- what the taker learns when both senders were taken in
+-- what the receiving end learns when both senders were taken in
 pub record Total (v : KnownOfPass) (items : List Event) : Type 0 where
   pub first : of 1 (v.taken ++ items) ≡ v.first
   pub second : of 2 (v.taken ++ items) ≡ v.second

@@ -1,5 +1,5 @@
 //! Lines of two peers on their way through one channel: the interface's and the engine's readers
-//! send them, and one taker gets them in the order in which they came.
+//! send them, and one receiving end gets them in the order in which they came.
 #![tactic(auto)]
 
 mod beside;

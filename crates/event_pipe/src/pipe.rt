@@ -1,10 +1,10 @@
-// One channel, two senders and one taker.
+// One channel, two senders and one receiving end.
 ghost use Rattle.std.specs.Prelude.{◌≡◌, ℕ, [], ◌++◌, ◌∷◌, true, false, IfOk};
 ghost use Rattle.crossbeam_channel.specs.Claims.{view};
 ghost use Rattle.crossbeam_channel.specs.Ends.{sends_on, receives_on};
 ghost use Rattle.event_pipe.specs.Message.{role_of, sent_event, is_good};
-ghost use Rattle.event_pipe.specs.Rule.{Adds, Gets, has_last_event, Follows};
-ghost use Rattle.event_pipe.specs.Ends.{IsSender, IsTaker, IsFreshSender, IsFreshTaker, KeepsSender, KeepsTaker, AreOne, AreWithinRoom, Came, events_sent, events_taken};
+ghost use Rattle.event_pipe.specs.Rule.{SendAdds, Gets, has_last_event, EventMayFollow};
+ghost use Rattle.event_pipe.specs.Ends.{IsSender, IsReceiver, IsFreshSender, IsFreshReceiver, KeepsSender, KeepsReceiver, AreOne, AreWithinRoom, CameFromPeer, events_sent, events_taken};
 ghost use Rattle.event_pipe.specs.declared.message.Peer.TheVariants as peers;
 
 use crate::{MessageBody, Peer, Sent};
@@ -21,25 +21,25 @@ use std::time::Duration;
 /// So many events fit into the channel. A sender that finds it full waits.
 pub const CHANNEL_ROOM: usize = 64;
 
-// So many microseconds a sender rests when it finds the channel full, and so lets the taker make
-// room for many events: it need not wake the sender for each.
+// So many microseconds a sender rests when it finds the channel full, and so lets the receiving end
+// make room for many events: it need not wake the sender for each.
 const REST_WHILE_FULL: u64 = 100;
 
-/// What a pass knows. Contracts speak of it; no value of it is made.
+/// The knowledge of a pass. Contracts speak of it; no value of it is made.
 pub struct KnownOfPass {
-    /// 0 of the taker, 1 of the interface's sender, 2 of the engine's, 3 of a pass that was joined.
+    /// 0 of the receiver, 1 of the interface's sender, 2 of the engine's, 3 of a pass that was joined.
     pub role: u8,
-    /// Of the taker: how many senders it made.
+    /// Of the receiving end: how many senders it made.
     pub made: u8,
-    /// Of the taker: how many senders it took in again.
+    /// Of the receiving end: how many senders it took in again.
     pub joined: u8,
     /// Of a sender: what it has sent.
     pub sent: LinkedList<Sent>,
-    /// Of the taker: what it has taken.
+    /// Of the receiving end: what it has taken.
     pub taken: LinkedList<Sent>,
-    /// Of the taker, once it took in the interface's sender: what that has sent.
+    /// Of the receiving end, once it took in the interface's sender: what that has sent.
     pub first: LinkedList<Sent>,
-    /// Of the taker, once it took in the engine's sender: what that has sent.
+    /// Of the receiving end, once it took in the engine's sender: what that has sent.
     pub second: LinkedList<Sent>,
 }
 
@@ -58,9 +58,9 @@ impl Protocol<Sent, KnownOfPass> for InOrder {
 pub struct Sending;
 
 impl Outcome<Sent, KnownOfPass> for Sending {
-    ghost use Rattle.event_pipe.specs.Rule.{Adds};
+    ghost use Rattle.event_pipe.specs.Rule.{SendAdds};
 
-    ghost then = { Adds };
+    ghost then = { SendAdds };
 }
 
 impl Lesson<Sent, KnownOfPass> for Sending {
@@ -84,7 +84,7 @@ impl Lesson<Sent, KnownOfPass> for Taking {
     ghost fact = { λ v items. ⊤ };
 }
 
-/// What the taker learns once both senders were taken in.
+/// The fact that the receiving end learns once both senders were taken in.
 pub struct AllSent;
 
 impl Lesson<Sent, KnownOfPass> for AllSent {
@@ -93,7 +93,7 @@ impl Lesson<Sent, KnownOfPass> for AllSent {
     ghost fact = { Total };
 }
 
-/// The interface's pass is made of the taker's.
+/// The interface's pass is made of the receiving end's.
 pub struct SplitIface;
 
 impl Split<KnownOfPass> for SplitIface {
@@ -104,7 +104,7 @@ impl Split<KnownOfPass> for SplitIface {
     ghost right = { λ v. sender 1 };
 }
 
-/// The engine's pass is made of the taker's.
+/// The engine's pass is made of the receiving end's.
 pub struct SplitEngine;
 
 impl Split<KnownOfPass> for SplitEngine {
@@ -115,7 +115,7 @@ impl Split<KnownOfPass> for SplitEngine {
     ghost right = { λ v. sender 2 };
 }
 
-/// The interface's pass is joined to the taker's.
+/// The interface's pass is joined to the receiving end's.
 pub struct JoinIface;
 
 impl Join<KnownOfPass> for JoinIface {
@@ -126,7 +126,7 @@ impl Join<KnownOfPass> for JoinIface {
     ghost spent = { sender 3 };
 }
 
-/// The engine's pass is joined to the taker's.
+/// The engine's pass is joined to the receiving end's.
 pub struct JoinEngine;
 
 impl Join<KnownOfPass> for JoinEngine {
@@ -191,10 +191,10 @@ impl PipeSend {
 impl PipeTake {
     /// Taking the front.
     pub fn take<R: Wait>(&mut self, rt: &R) -> Sent
-        requires taker { IsTaker self.old }
-        ensures keeps { KeepsTaker self.old self.new }
+        requires receiving_end { IsReceiver self.old }
+        ensures keeps { KeepsReceiver self.old self.new }
         ensures gets { events_taken self.new ≡ events_taken self.old ++ result ∷ [] }
-        ensures follows { Follows (events_taken self.old) result }
+        ensures follows { EventMayFollow (events_taken self.old) result }
     {
         for _ in rt.forever() {
             match self.receiver.recv_as::<Taking, R>(rt, &mut self.pass) {
@@ -207,15 +207,15 @@ impl PipeTake {
     }
 }
 
-/// A channel of `CHANNEL_ROOM` events from two senders to one taker.
+/// A channel of `CHANNEL_ROOM` events from two senders to one receiving end.
 pub struct Pipe;
 
 impl Pipe {
-    /// The interface's sender, the engine's and the taker.
+    /// The interface's sender, the engine's and the receiver.
     pub fn make(alloc: Global) -> Result<(PipeSend, PipeSend, PipeTake), NoMemory>
         ensures iface { IfOk result (λ r. IsFreshSender r.0 peers.Iface) }
         ensures engine { IfOk result (λ r. IsFreshSender r.1 peers.Engine) }
-        ensures taker { IfOk result (λ r. IsFreshTaker r.2) }
+        ensures receiving_end { IfOk result (λ r. IsFreshReceiver r.2) }
         ensures one { IfOk result (λ r. AreOne r.0 r.1 r.2) }
     {
         let (sender, receiver, mut pass) = bounded_with(alloc, CHANNEL_ROOM)?;
@@ -238,14 +238,15 @@ impl Pipe {
     }
 
     /// Joins the three again.
-    pub fn finish(iface: PipeSend, engine: PipeSend, taker: PipeTake)
+    pub fn finish(iface: PipeSend, engine: PipeSend, receiving_end: PipeTake)
         requires iface { IsSender iface × (iface.peer ≡ peers.Iface) }
         requires engine { IsSender engine × (engine.peer ≡ peers.Engine) }
-        requires taker { IsTaker taker }
-        requires one { AreOne iface engine taker }
-        ensures iface { Came peers.Iface (events_taken taker) (events_sent iface) }
-        ensures engine { Came peers.Engine (events_taken taker) (events_sent engine) }
-        ensures room { AreWithinRoom iface engine taker }
+        requires receiving_end { IsReceiver receiving_end }
+        requires one { AreOne iface engine receiving_end }
+        ensures iface { CameFromPeer peers.Iface (events_taken receiving_end) (events_sent iface) }
+        ensures engine { CameFromPeer peers.Engine (events_taken receiving_end) (events_sent
+            engine) }
+        ensures room { AreWithinRoom iface engine receiving_end }
     {
         let PipeSend {
             sender,
@@ -260,7 +261,7 @@ impl Pipe {
         let PipeTake {
             receiver: _receiver,
             mut pass,
-        } = taker;
+        } = receiving_end;
         sender.absorb::<JoinIface>(&mut pass, first);
         sender.absorb::<JoinEngine>(&mut pass, second);
         sender.learn_as::<AllSent>(&mut pass);

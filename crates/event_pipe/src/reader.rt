@@ -1,19 +1,19 @@
 // A reader: it sends the lines of its source.
 ghost use Rattle.std.specs.Prelude.{◌≡◌, ℕ, List, [], true, false, IfOk};
 ghost use Rattle.line_io.specs.Lines.{empty_reader};
-ghost use Rattle.event_pipe.specs.Message.{sent_event, is_end};
+ghost use Rattle.event_pipe.specs.Message.{sent_event, is_last_event};
 ghost use Rattle.event_pipe.specs.Rule.{has_last_event};
 ghost use Rattle.event_pipe.specs.Ends.{IsSender, KeepsSender, events_sent};
-ghost use Rattle.event_pipe.specs.Arrivals.{line_limit, Goes, Arrived};
+ghost use Rattle.event_pipe.specs.Arrivals.{line_limit, ReaderTurnDone, Arrived};
 ghost use Rattle.event_pipe.specs.declared.message.MessageBody.TheVariants as says;
 
 use crate::{Bytes, MessageBody, Peer, PipeSend};
-use cecp_lines::is_quit;
 use line_io::{Item, Lines, PEER_LINE, ReadFault, Source, lines_of_all_calls};
+use peer_words::is_quit;
 use std::alloc::Global;
 use std::sync::Wait;
 
-/// How a reader ended.
+/// The end of a reader.
 #[derive(Clone, Copy, Debug, PartialEq, Eq)]
 pub enum ReadEnd {
     /// All that its source has was sent, or all up to the interface's `quit`.
@@ -24,7 +24,7 @@ pub enum ReadEnd {
     NoMemory,
 }
 
-// What one turn came to.
+/// The outcome of one turn of a reader.
 #[derive(Clone, Copy)]
 pub enum ReaderTurn {
     More,
@@ -36,7 +36,7 @@ pub enum ReaderTurn {
 
 // The line is its side's last.
 fn is_last(peer: Peer, line: &[u8]) -> bool
-    ensures { result ≡ is_end (sent_event peer (says.Line line.now)) }
+    ensures { result ≡ is_last_event (sent_event peer (says.Line line.now)) }
 {
     match peer {
         Peer::Iface => is_quit(line),
@@ -56,7 +56,8 @@ fn read_turn<S: Source, R: Wait>(
     requires going { has_last_event (events_sent to.old) ≡ false }
     requires limit { lines.old.limit ≡ line_limit }
     ensures keeps { KeepsSender to.old to.new }
-    ensures goes { Goes to.old.peer lines.old lines.new (S.state source.old) (S.state source.new)
+    ensures goes { ReaderTurnDone to.old.peer lines.old lines.new (S.state source.old) (S.state
+        source.new)
         (events_sent to.old) (events_sent to.new) result }
 {
     match lines.next(source) {

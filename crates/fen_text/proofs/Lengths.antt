@@ -1,34 +1,34 @@
--- How long a written text may be.
+-- The greatest length of a written text.
 use Rattle.std.proofs.Common.{◌≡◌, ℕ, suc, zero, ◌*◌, ◌≤◌, List, [], ◌∷◌, ◌++◌, Bool, true, false, ◌||◌, cond, length, drop, decimal, Option, Some, None, arith, length-append, lit<}
 use Rattle.std.proofs.lemmas.Fmt.{length-decimal-le}
 use Rattle.std.proofs.lemmas.List.{length-take}
 use Rattle.chess_board.specs.declared.board.Side.{Side}
 use Rattle.chess_board.specs.declared.board.Side.TheVariants.{White, Black}
 use Rattle.chess_board.specs.declared.board.Rights.{Rights}
-use Rattle.chess_board.specs.Board.{Men}
-use Rattle.fen_text.specs.Written.{rank_text, row, lower_ranks, board_text, top_rank, side_text, letter_if, rights_text, passant_text, position_fen, IsShort}
+use Rattle.chess_board.specs.Board.{Pieces}
+use Rattle.fen_text.specs.Written.{rank_text, rank_row, lower_ranks, board_text, top_rank, side_text, letter_if, rights_text, en_passant_text, position_fen, FenIsShort}
 use Rattle.fen_text.proofs.Rows.{length-rank_text}
 
-length-rank : (men : Men) (rank : ℕ) → length (rank_text 0 (row men rank)) ≤ 8
-length-rank men rank =
-    let text = length-rank_text 0 (row men rank) in
-    let squares = length-take 8 (drop (8 * rank) men) in
+length-rank : (pieces : Pieces) (rank : ℕ) → length (rank_text 0 (rank_row pieces rank)) ≤ 8
+length-rank pieces rank =
+    let text = length-rank_text 0 (rank_row pieces rank) in
+    let squares = length-take 8 (drop (8 * rank) pieces) in
     omega arith
 
-length-lower : (men : Men) (n : ℕ) → length (lower_ranks men n) ≤ 9 * n
-length-lower men zero = omega arith
-length-lower men (suc n) =
-    let text = length-rank men n in
-    let lower = length-lower men n in
-    let both = length-append (rank_text 0 (row men n)) (lower_ranks men n) in
+length-lower : (pieces : Pieces) (n : ℕ) → length (lower_ranks pieces n) ≤ 9 * n
+length-lower pieces zero = omega arith
+length-lower pieces (suc n) =
+    let text = length-rank pieces n in
+    let lower = length-lower pieces n in
+    let both = length-append (rank_text 0 (rank_row pieces n)) (lower_ranks pieces n) in
     omega arith
 
-length-board : (men : Men) → length (board_text men) ≤ 71
+length-board : (pieces : Pieces) → length (board_text pieces) ≤ 71
 unfolding board_text top_rank
-length-board men =
-    let text = length-rank men 7 in
-    let lower = length-lower men 7 in
-    let both = length-append (rank_text 0 (row men 7)) (lower_ranks men 7) in
+length-board pieces =
+    let text = length-rank pieces 7 in
+    let lower = length-lower pieces 7 in
+    let both = length-append (rank_text 0 (rank_row pieces 7)) (lower_ranks pieces 7) in
     omega arith
 
 length-side : (side : Side) → length (side_text side) ≡ 1
@@ -57,17 +57,17 @@ length-rights rights = go ((rights.wk || rights.wq) || (rights.bk || rights.bq))
     go true = few
     go false = omega arith
 
-length-passant : (passant : Option ℕ) → length (passant_text passant) ≤ 2
+length-passant : (passant : Option ℕ) → length (en_passant_text passant) ≤ 2
 length-passant None = omega arith
 length-passant (Some at) = omega arith
 
 length-count : (n : ℕ) → n ≤ 99999 → length (decimal n) ≤ 5
 length-count n h = length-decimal-le 5 n (lit< tt) (omega arith) (omega arith)
 
-pub length-written : IsShort
+pub length-written : FenIsShort
 unfolding position_fen
 length-written p q =
-    let b = length-board p.men in
+    let b = length-board p.pieces in
     let s = length-side p.side in
     let r = length-rights p.rights in
     let e = length-passant p.passant in

@@ -9,11 +9,11 @@ use Rattle.std.specs.Str.Parse.{digits_value}
 use Rattle.chess_board.specs.declared.board.Side.{Side}
 use Rattle.chess_board.specs.declared.board.Side.TheVariants.{White, Black}
 use Rattle.chess_board.specs.declared.board.Rights.{Rights}
-use Rattle.chess_board.specs.Board.{file_of, rank_of, square_at}
+use Rattle.chess_board.specs.Board.{file_of, rank_of_square, square_at}
 use Rattle.chess_board.specs.Rules.{sixth_rank}
 use Rattle.std.specs.Prelude.{IfSome}
-use Rattle.fen_text.specs.Fields.{side_of, rights_of, passant_of, count_of, is_passed}
-use Rattle.fen_text.specs.Written.{side_text, letter_if, rights_text, passant_text}
+use Rattle.fen_text.specs.Fields.{side_of, rights_of, en_passant_of, count_of, is_passed_square}
+use Rattle.fen_text.specs.Written.{side_text, letter_if, rights_text, en_passant_text}
 use Rattle.fen_text.proofs.Cut.{Above, above-append, IsWord}
 
 pub side_of-text : (side : Side) → side_of (side_text side) ≡ Some side
@@ -61,7 +61,7 @@ pub word-rights : (rights : Rights) → IsWord (rights_text rights)
 unfolding four
 word-rights rights = word-four rights.wk rights.wq rights.bk rights.bq
 
-pub word-passant : (passant : Option ℕ) → IsWord (passant_text passant)
+pub word-passant : (passant : Option ℕ) → IsWord (en_passant_text passant)
 word-passant None = (omega arith, (omega arith, tt))
 word-passant (Some at) = (omega arith, (omega arith, (omega arith, tt)))
 
@@ -70,16 +70,16 @@ sixth : (side : Side) (rank : ℕ) → rank ≡ sixth_rank side → (rank ≡ 5)
 sixth White rank e = inl e
 sixth Black rank e = inr e
 
-passed_text : (at : ℕ) → (rank_of at ≡ 5) ⊎ (rank_of at ≡ 2) → is_passed (97 + file_of at) (49 + rank_of at) ≡ true
+passed_text : (at : ℕ) → (rank_of_square at ≡ 5) ⊎ (rank_of_square at ≡ 2) → is_passed_square (97 + file_of at) (49 + rank_of_square at) ≡ true
 passed_text at (inl e) = grind (arith, nat_tests)
 passed_text at (inr e) = grind (arith, nat_tests)
 
-square_back : (at : ℕ) → square_at ((97 + file_of at) - 97) ((49 + rank_of at) - 49) ≡ at
+square_back : (at : ℕ) → square_at ((97 + file_of at) - 97) ((49 + rank_of_square at) - 49) ≡ at
 square_back at = omega arith
 
-pub passant_of-text : (side : Side) (passant : Option ℕ) → IfSome passant (λ at. rank_of at ≡ sixth_rank side) → passant_of (passant_text passant) ≡ Some passant
+pub passant_of-text : (side : Side) (passant : Option ℕ) → IfSome passant (λ at. rank_of_square at ≡ sixth_rank side) → en_passant_of (en_passant_text passant) ≡ Some passant
 passant_of-text side None e = refl
-passant_of-text side (Some at) e = rw (passed_text at (sixth side (rank_of at) e), square_back at) refl
+passant_of-text side (Some at) e = rw (passed_text at (sixth side (rank_of_square at) e), square_back at) refl
 
 digit : (n : ℕ) → n < 10 → is_ascii_digit (48 + n) ≡ true
 digit n h = grind (arith, nat_tests)

@@ -1,4 +1,4 @@
--- Which texts spell which positions, and the fault of those that spell none.
+-- The positions that texts spell, and the fault of the texts that spell none.
 use Rattle.std.specs.Prelude.{ℕ, is_none, if◌then◌else◌, List, Option, Some, None, Result, Ok, Err}
 use Rattle.std.specs.Option.{option_and_then}
 use Rattle.std.specs.List.{slice_get}
@@ -6,15 +6,15 @@ use Rattle.chess_board.specs.declared.board.Side.{Side}
 use Rattle.chess_board.specs.declared.board.Rights.{Rights}
 use Rattle.chess_board.specs.declared.board.BuildFault.{BuildFault}
 use Rattle.chess_board.specs.declared.board.BuildFault.TheVariants as build
-use Rattle.chess_board.specs.Board.{Men}
+use Rattle.chess_board.specs.Board.{Pieces}
 use Rattle.chess_board.specs.Position.{Position}
 use Rattle.chess_board.specs.Play.{position_if_built}
 use Rattle.peer_words.specs.Tokens.{tokens}
 use Rattle.fen_text.specs.declared.fault.FenFault.{FenFault}
 use Rattle.fen_text.specs.declared.fault.FenFault.TheVariants.{Board, Side as SideFault, Castling}
 use Rattle.fen_text.specs.declared.fault.FenFault.TheVariants.{EnPassant, Half, Full, Kings}
-use Rattle.fen_text.specs.Squares.{board_of}
-use Rattle.fen_text.specs.Fields.{side_of, rights_of, passant_of, count_or}
+use Rattle.fen_text.specs.Squares.{board_in_field}
+use Rattle.fen_text.specs.Fields.{side_of, rights_of, en_passant_of, count_or}
 
 abbrev pub fault_of : BuildFault → FenFault
 fault_of build.Board = Board
@@ -25,17 +25,17 @@ or_fault (Ok p) = Ok p
 or_fault (Err fault) = Err (fault_of fault)
 
 -- the position of what the fields spell, or the fault of the first that spells nothing
-abbrev pub position_from_fields : Option Men → Option Side → Option Rights → Option (Option ℕ)
+abbrev pub position_from_fields : Option Pieces → Option Side → Option Rights → Option (Option ℕ)
     → Option ℕ → Option ℕ → Result Position FenFault
 position_from_fields None side rights passant half full = Err Board
-position_from_fields (Some men) None rights passant half full = Err SideFault
-position_from_fields (Some men) (Some side) None passant half full = Err Castling
-position_from_fields (Some men) (Some side) (Some rights) None half full = Err EnPassant
-position_from_fields (Some men) (Some side) (Some rights) (Some passant) None full = Err Half
-position_from_fields (Some men) (Some side) (Some rights) (Some passant) (Some half) None = Err Full
-position_from_fields (Some men) (Some side) (Some rights) (Some passant) (Some half) (Some full) =
+position_from_fields (Some pieces) None rights passant half full = Err SideFault
+position_from_fields (Some pieces) (Some side) None passant half full = Err Castling
+position_from_fields (Some pieces) (Some side) (Some rights) None half full = Err EnPassant
+position_from_fields (Some pieces) (Some side) (Some rights) (Some passant) None full = Err Half
+position_from_fields (Some pieces) (Some side) (Some rights) (Some passant) (Some half) None = Err Full
+position_from_fields (Some pieces) (Some side) (Some rights) (Some passant) (Some half) (Some full) =
     or_fault (position_if_built (record {
-      men = men;
+      pieces = pieces;
       side = side;
       rights = rights;
       passant = passant;
@@ -46,10 +46,10 @@ position_from_fields (Some men) (Some side) (Some rights) (Some passant) (Some h
 -- The first four fields are needed. A half-move count that is missing is 0, and a full one 1.
 abbrev pub position_of_fields : List (List ℕ) → Result Position FenFault
 position_of_fields fields = position_from_fields
-    (option_and_then board_of (slice_get fields 0))
+    (option_and_then board_in_field (slice_get fields 0))
     (option_and_then side_of (slice_get fields 1))
     (option_and_then rights_of (slice_get fields 2))
-    (option_and_then passant_of (slice_get fields 3))
+    (option_and_then en_passant_of (slice_get fields 3))
     (count_or 0 (slice_get fields 4))
     (if is_none (slice_get fields 6) then count_or 1 (slice_get fields 5) else None)
 

@@ -55,17 +55,17 @@ abbrev pub digit_six : ℕ
 digit_six = 54
 
 -- a file from a to h, and rank 3 or 6
-abbrev pub is_passed : ℕ → ℕ → Bool
-is_passed file rank =
+abbrev pub is_passed_square : ℕ → ℕ → Bool
+is_passed_square file rank =
     (nat_le letter_a file && nat_le file letter_h) && (rank == digit_three || rank == digit_six)
 
 -- a dash, or a square that a pawn may have passed
-abbrev pub passant_of : List ℕ → Option (Option ℕ)
-passant_of (byte ∷ []) = if byte == dash then Some None else None
-passant_of (file ∷ rank ∷ []) =
-    if is_passed file rank then Some (Some (square_at (file - letter_a) (rank - digit_one)))
+abbrev pub en_passant_of : List ℕ → Option (Option ℕ)
+en_passant_of (byte ∷ []) = if byte == dash then Some None else None
+en_passant_of (file ∷ rank ∷ []) =
+    if is_passed_square file rank then Some (Some (square_at (file - letter_a) (rank - digit_one)))
     else None
-passant_of _ = None
+en_passant_of _ = None
 
 -- 1 to 5 digits
 abbrev pub count_of : List ℕ → Option ℕ

@@ -9,7 +9,7 @@ use Rattle.chess_board.specs.declared.board.Kind.{Kind}
 use Rattle.chess_board.specs.declared.board.Kind.TheVariants.{Pawn, Knight, Bishop}
 use Rattle.chess_board.specs.declared.board.Kind.TheVariants.{Rook, Queen, King}
 use Rattle.chess_board.specs.declared.board.Rights.{Rights}
-use Rattle.chess_board.specs.Board.{Men, file_of, rank_of}
+use Rattle.chess_board.specs.Board.{Pieces, file_of, rank_of_square}
 use Rattle.chess_board.specs.Position.{Position}
 use Rattle.chess_board.specs.Play.{IsPosition}
 use Rattle.fen_text.specs.Fen.{position_of}
@@ -30,30 +30,30 @@ letter_of White kind = kind_letter kind
 letter_of Black kind = kind_letter kind + case_step
 
 -- the digit of a run of empty squares, if there are some
-abbrev pub run : ℕ → List ℕ
-run empty = if nat_lt 0 empty then (digit_zero + empty) ∷ [] else []
+abbrev pub empty_run : ℕ → List ℕ
+empty_run empty = if nat_lt 0 empty then (digit_zero + empty) ∷ [] else []
 
 -- the squares of a rank, after a run of empty ones: each run is one digit
-abbrev pub rank_text : ℕ → Men → List ℕ
-rank_text empty [] = run empty
+abbrev pub rank_text : ℕ → Pieces → List ℕ
+rank_text empty [] = empty_run empty
 rank_text empty (None ∷ squares) = rank_text (suc empty) squares
-rank_text empty (Some man ∷ squares) = run empty ++ letter_of man.0 man.1 ∷ rank_text 0 squares
+rank_text empty (Some occupant ∷ squares) = empty_run empty ++ letter_of occupant.0 occupant.1 ∷ rank_text 0 squares
 
 -- the eight squares of a rank
-abbrev pub row : Men → ℕ → Men
-row men rank = take 8 (drop (8 * rank) men)
+abbrev pub rank_row : Pieces → ℕ → Pieces
+rank_row pieces rank = take 8 (drop (8 * rank) pieces)
 
 -- the ranks below this one, each after a slash, the upper one first
-abbrev pub lower_ranks : Men → ℕ → List ℕ
-lower_ranks men zero = []
-lower_ranks men (suc rank) = slash ∷ (rank_text 0 (row men rank) ++ lower_ranks men rank)
+abbrev pub lower_ranks : Pieces → ℕ → List ℕ
+lower_ranks pieces zero = []
+lower_ranks pieces (suc rank) = slash ∷ (rank_text 0 (rank_row pieces rank) ++ lower_ranks pieces rank)
 
 -- the ranks below the top one; kept closed, since the recursion would unfold
 unfoldable pub top_rank : ℕ
 top_rank = 7
 
-unfoldable pub board_text : Men → List ℕ
-board_text men = rank_text 0 (row men top_rank) ++ lower_ranks men top_rank
+unfoldable pub board_text : Pieces → List ℕ
+board_text pieces = rank_text 0 (rank_row pieces top_rank) ++ lower_ranks pieces top_rank
 
 abbrev pub side_text : Side → List ℕ
 side_text White = 119 ∷ []
@@ -70,13 +70,13 @@ rights_text rights =
     ++ (letter_if rights.wq 81 ++ (letter_if rights.bk 107 ++ letter_if rights.bq 113))
     else dash ∷ []
 
-abbrev pub passant_text : Option ℕ → List ℕ
-passant_text None = dash ∷ []
-passant_text (Some at) = (letter_a + file_of at) ∷ (digit_one + rank_of at) ∷ []
+abbrev pub en_passant_text : Option ℕ → List ℕ
+en_passant_text None = dash ∷ []
+en_passant_text (Some at) = (letter_a + file_of at) ∷ (digit_one + rank_of_square at) ∷ []
 
 abbrev pub fields_text : Position → List (List ℕ)
 fields_text p =
-    board_text p.men ∷ side_text p.side ∷ rights_text p.rights ∷ passant_text p.passant
+    board_text p.pieces ∷ side_text p.side ∷ rights_text p.rights ∷ en_passant_text p.passant
     ∷ decimal p.half ∷ decimal p.full ∷ []
 
 -- the text of a position
@@ -84,9 +84,9 @@ unfoldable pub position_fen : Position → List ℕ
 position_fen p = join_with_byte blank (fields_text p)
 
 -- the text of a position is short
-abbrev pub IsShort : Type 0
-IsShort = (p : Position) → IsPosition p → length (position_fen p) ≤ 93
+abbrev pub FenIsShort : Type 0
+FenIsShort = (p : Position) → IsPosition p → length (position_fen p) ≤ 93
 
--- What is written of a position spells it.
-abbrev pub ReadsBack : Type 0
-ReadsBack = (p : Position) → IsPosition p → position_of (position_fen p) ≡ Ok p
+-- The text written of a position spells it.
+abbrev pub FenReadsBack : Type 0
+FenReadsBack = (p : Position) → IsPosition p → position_of (position_fen p) ≡ Ok p

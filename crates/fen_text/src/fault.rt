@@ -1,8 +1,8 @@
-//! What is wrong with a text.
+//! The faults of a text.
 use chess_board::BuildFault;
 
 /// The first field of a text that spells nothing. `Board` is also a board with a pawn on the first
-/// or last rank or with more than 16 men of a side, and `Kings` a position that cannot be: a side
+/// or last rank or with more than 16 pieces of a side, and `Kings` a position that cannot be: a side
 /// has not one king, or the side not on move is in check.
 #[derive(Clone, Copy, Debug, PartialEq, Eq)]
 pub enum FenFault {

@@ -2,8 +2,8 @@
 ghost use Rattle.std.specs.Prelude.{◌≡◌, ◌==◌, length, Option, map, count_by};
 ghost use Rattle.std.specs.List.{slice_get, list_all};
 ghost use Rattle.std.specs.Option.{option_map, option_and_then};
-ghost use Rattle.fen_text.specs.Seen.{bytes_of};
-ghost use Rattle.fen_text.specs.Fields.{side_of, is_right, at_most_once, letters_of, rights_of, passant_of, count_of, count_or};
+ghost use Rattle.fen_text.specs.Seen.{optional_bytes};
+ghost use Rattle.fen_text.specs.Fields.{side_of, is_right, at_most_once, letters_of, rights_of, en_passant_of, count_of, count_or};
 ghost use Rattle.peer_words.specs.Tokens.{tokens};
 
 use chess_board::{Rights, Side, Square};
@@ -11,7 +11,7 @@ use peer_words::{is_white, read_digits};
 
 /// The field with this number, counted from 0.
 pub(crate) fn nth_field(text: &[u8], n: usize) -> Option<&[u8]>
-    ensures { bytes_of result ≡ slice_get (tokens text.now) n }
+    ensures { optional_bytes result ≡ slice_get (tokens text.now) n }
 {
     text.split(|b| is_white(*b))
         .filter(|field| !field.is_empty())
@@ -19,7 +19,7 @@ pub(crate) fn nth_field(text: &[u8], n: usize) -> Option<&[u8]>
 }
 
 pub(crate) fn read_side(field: Option<&[u8]>) -> Option<Side>
-    ensures { result ≡ option_and_then side_of (bytes_of field.entry) }
+    ensures { result ≡ option_and_then side_of (optional_bytes field.entry) }
 {
     match field? {
         [b'w'] => Some(Side::White),
@@ -34,7 +34,7 @@ fn is_right(letter: u8) -> bool
     matches!(letter, b'K' | b'Q' | b'k' | b'q')
 }
 
-/// Whether the letter is there, or nothing if it is there more than once.
+/// True if the letter is there; None if it is there more than once.
 fn at_most_once(letter: u8, field: &[u8]) -> Option<bool>
     ensures { result ≡ at_most_once letter field.now }
 {
@@ -65,7 +65,7 @@ fn read_letters(field: &[u8]) -> Option<Rights>
 }
 
 pub(crate) fn read_rights(field: Option<&[u8]>) -> Option<Rights>
-    ensures { result ≡ option_and_then rights_of (bytes_of field.entry) }
+    ensures { result ≡ option_and_then rights_of (optional_bytes field.entry) }
 {
     match field? {
         [] => None,
@@ -80,9 +80,9 @@ pub(crate) fn read_rights(field: Option<&[u8]>) -> Option<Rights>
 }
 
 /// The square that a pawn passed, if there is one.
-pub(crate) fn read_passant(field: Option<&[u8]>) -> Option<Option<Square>>
+pub(crate) fn read_en_passant(field: Option<&[u8]>) -> Option<Option<Square>>
     ensures { option_map (λ passed. option_map (λ square. square.index) passed) result
-        ≡ option_and_then passant_of (bytes_of field.entry) }
+        ≡ option_and_then en_passant_of (optional_bytes field.entry) }
 {
     match field? {
         [b'-'] => Some(None),
@@ -99,7 +99,7 @@ fn read_count(field: &[u8]) -> Option<u32>
 
 /// A count, or what stands for it if the field is missing.
 pub(crate) fn read_count_or(missing: u32, field: Option<&[u8]>) -> Option<u32>
-    ensures { result ≡ count_or missing (bytes_of field.entry) }
+    ensures { result ≡ count_or missing (optional_bytes field.entry) }
 {
     match field {
         None => Some(missing),

@@ -3,7 +3,7 @@ ghost use Rattle.std.specs.Prelude.{◌≡◌};
 ghost use Rattle.fen_text.specs.Fen.{position_of};
 
 use crate::fault::FenFault;
-use crate::fields::{nth_field, read_count_or, read_passant, read_rights, read_side};
+use crate::fields::{nth_field, read_count_or, read_en_passant, read_rights, read_side};
 use crate::squares::read_board;
 use chess_board::Position;
 
@@ -17,7 +17,7 @@ pub fn read_fen(text: &[u8]) -> Result<Position, FenFault>
     let board = read_board(nth_field(text, 0)).ok_or(FenFault::Board)?;
     let side = read_side(nth_field(text, 1)).ok_or(FenFault::Side)?;
     let rights = read_rights(nth_field(text, 2)).ok_or(FenFault::Castling)?;
-    let passant = read_passant(nth_field(text, 3)).ok_or(FenFault::EnPassant)?;
+    let passant = read_en_passant(nth_field(text, 3)).ok_or(FenFault::EnPassant)?;
     let half = read_count_or(0, nth_field(text, 4)).ok_or(FenFault::Half)?;
     let full = read_count_or(1, nth_field(text, 5)).ok_or(FenFault::Full)?;
     if nth_field(text, 6).is_some() {

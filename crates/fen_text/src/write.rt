@@ -1,12 +1,12 @@
 //! Writing a text.
 ghost use Rattle.std.specs.Prelude.{◌≡◌, ◌+◌, ◌*◌, ◌<◌, ◌≤◌, ◌∷◌, ◌++◌, [], length, Ok, decimal};
 ghost use Rattle.std.specs.Option.{option_map};
-ghost use Rattle.chess_board.specs.Board.{Men};
+ghost use Rattle.chess_board.specs.Board.{Pieces};
 ghost use Rattle.chess_board.specs.Play.{IsPosition, top_count};
 ghost use Rattle.fen_text.specs.Fen.{position_of};
-ghost use Rattle.fen_text.specs.Written.{letter_of, run, rank_text, row, board_text, side_text, letter_if, rights_text, passant_text, position_fen, IsShort, ReadsBack};
+ghost use Rattle.fen_text.specs.Written.{letter_of, empty_run, rank_text, rank_row, board_text, side_text, letter_if, rights_text, en_passant_text, position_fen, FenIsShort, FenReadsBack};
 
-use crate::squares::Man;
+use crate::squares::Occupant;
 use arrayvec::ArrayVec;
 use chess_board::{Kind, Position, Rights, Side, Square};
 use itoa::Buffer;
@@ -34,7 +34,7 @@ fn letter_of(side: Side, kind: Kind) -> u8
 fn write_run(empty: u8, text: &mut Text)
     requires few { empty ≤ 8 }
     requires room { length text.old.items + empty ≤ 96 }
-    ensures text { text.new.items ≡ text.old.items ++ run empty }
+    ensures text { text.new.items ≡ text.old.items ++ empty_run empty }
     ensures short { length text.new.items ≤ length text.old.items + empty }
 {
     if empty > 0 {
@@ -42,17 +42,17 @@ fn write_run(empty: u8, text: &mut Text)
     }
 }
 
-/// Writes a man after the empty squares before it, or counts one more of these.
-fn write_square(man: Man, empty: u8, text: &mut Text) -> u8
+/// Writes a piece after the empty squares before it, or counts one more of these.
+fn write_square(occupant: Occupant, empty: u8, text: &mut Text) -> u8
     requires few { empty < 8 }
     requires room { length text.old.items + empty < 96 }
-    ensures text { (squares : Men)
+    ensures text { (squares : Pieces)
         → text.new.items ++ rank_text result squares
-        ≡ text.old.items ++ rank_text empty (man ∷ squares) }
+        ≡ text.old.items ++ rank_text empty (occupant ∷ squares) }
     ensures short { length text.new.items + result ≤ length text.old.items + empty + 1 }
     ensures counted { result ≤ empty + 1 }
 {
-    match man {
+    match occupant {
         None => empty + 1,
         Some((side, kind)) => {
             write_run(empty, text);
@@ -63,10 +63,10 @@ fn write_square(man: Man, empty: u8, text: &mut Text) -> u8
 }
 
 fn write_rank(p: &Position, rank: u8, text: &mut Text)
-    requires men { length p.now.men ≡ 64 }
+    requires pieces { length p.now.pieces ≡ 64 }
     requires rank { rank < 8 }
     requires room { length text.old.items + 8 ≤ 96 }
-    ensures text { text.new.items ≡ text.old.items ++ rank_text 0 (row p.now.men rank) }
+    ensures text { text.new.items ≡ text.old.items ++ rank_text 0 (rank_row p.now.pieces rank) }
     ensures short { length text.new.items ≤ length text.old.items + 8 }
 {
     let mut empty = 0;
@@ -80,9 +80,9 @@ fn write_rank(p: &Position, rank: u8, text: &mut Text)
 }
 
 fn write_board(p: &Position, text: &mut Text)
-    requires men { length p.now.men ≡ 64 }
+    requires pieces { length p.now.pieces ≡ 64 }
     requires room { length text.old.items + 71 ≤ 96 }
-    ensures text { text.new.items ≡ text.old.items ++ board_text p.now.men }
+    ensures text { text.new.items ≡ text.old.items ++ board_text p.now.pieces }
     ensures short { length text.new.items ≤ length text.old.items + 71 }
 {
     write_rank(p, 7, text);
@@ -126,10 +126,10 @@ fn write_rights(rights: Rights, text: &mut Text)
     }
 }
 
-fn write_passant(passant: Option<Square>, text: &mut Text)
+fn write_en_passant(passant: Option<Square>, text: &mut Text)
     requires { length text.old.items + 2 ≤ 96 }
     ensures text { text.new.items
-        ≡ text.old.items ++ passant_text (option_map (λ s. s.index) passant) }
+        ≡ text.old.items ++ en_passant_text (option_map (λ s. s.index) passant) }
     ensures short { length text.new.items ≤ length text.old.items + 2 }
 {
     match passant {
@@ -165,7 +165,7 @@ pub fn write_fen(p: &Position) -> ArrayVec<u8, 96>
     text.push(b' ');
     write_rights(p.rights(), &mut text);
     text.push(b' ');
-    write_passant(p.passant(), &mut text);
+    write_en_passant(p.passant(), &mut text);
     text.push(b' ');
     write_count(p.half(), &mut text);
     text.push(b' ');
@@ -175,10 +175,10 @@ pub fn write_fen(p: &Position) -> ArrayVec<u8, 96>
 
 /// No text of a position has more than 93 bytes.
 pub fn written_is_short()
-    ensures { IsShort }
+    ensures { FenIsShort }
 {}
 
-/// What is written of a position spells it.
+/// The text written of a position spells it.
 pub fn written_reads_back()
-    ensures { ReadsBack }
+    ensures { FenReadsBack }
 {}

@@ -3,27 +3,27 @@ use Rattle.std.proofs.Common.{◌≡◌, ℕ, suc, ◌+◌, ◌-◌, ◌<◌, �
 use Rattle.std.proofs.lemmas.Bool.{cases_lt, false_from_ne_true}
 use Rattle.std.proofs.lemmas.List.{map-append, length-map, take-append-le, take-append-drop}
 use Rattle.chess_board.specs.declared.board.Move.{Move}
-use Rattle.chess_board.specs.Board.{man_at}
+use Rattle.chess_board.specs.Board.{piece_at}
 use Rattle.chess_board.specs.Position.{Position}
 use Rattle.chess_board.specs.Play.{IsPosition, kind_on, top_count}
 use Rattle.chess_board.proofs.Legal.{legal-law}
 use Rattle.chess_board.proofs.Plays.{position_kept, passed_low}
 use Rattle.chess_board.proofs.Worth.{total, Wears, wears}
-use Rattle.game_record.specs.Game.{Ply, ply_of, plies_of, IsPlayable, position_after_ply, now_after, later, AreLegal}
+use Rattle.game_record.specs.Game.{Ply, ply_of, plies_of, IsPlayablePly, position_after_ply, now_after, later, AreLegal}
 use Rattle.game_record.specs.Ending.{is_same, stood_in}
 use Rattle.game_record.specs.Keeps.{left_behind}
 use Rattle.game_record.proofs.Replays.{later-append, now_after-append, legal-append, length-later}
 use Rattle.game_record.proofs.Times.{stood_in-append, stood_in-cons}
 use Rattle.game_record.proofs.Sames.{same-law}
 
-still_position : (p : Position) (m : Move) → IsPosition p → IsPlayable p (ply_of m) → IsPosition (position_after_ply p (ply_of m))
+still_position : (p : Position) (m : Move) → IsPosition p → IsPlayablePly p (ply_of m) → IsPosition (position_after_ply p (ply_of m))
 still_position p m is legal =
     position_kept p m.from.index m.to.index m.promotion is m.from.on_board m.to.on_board
-    (passed_low p.side (kind_on (man_at p.men m.from.index)) m.from.index m.to.index m.from.on_board m.to.on_board) ((legal-law p m.from.index m.to.index m.promotion).1 legal)
+    (passed_low p.side (kind_on (piece_at p.pieces m.from.index)) m.from.index m.to.index m.from.on_board m.to.on_board) ((legal-law p m.from.index m.to.index m.promotion).1 legal)
 
--- after some moves the men are worth less, or each move was counted
+-- after some moves the pieces are worth less, or each move was counted
 abbrev Fades : Position → ℕ → Position → Type 0
-Fades p plies q = (total q.men < total p.men) ⊎ ((total q.men ≤ total p.men) × (min (p.half + plies) top_count ≤ q.half))
+Fades p plies q = (total q.pieces < total p.pieces) ⊎ ((total q.pieces ≤ total p.pieces) × (min (p.half + plies) top_count ≤ q.half))
 
 fades_more : (p r q : Position) (plies : ℕ) → Wears p r → Fades r plies q → Fades p (suc plies) q
 fades_more p r q plies (inl less) (inl fewer) = inl (omega arith)
@@ -43,8 +43,8 @@ fades p (m ∷ moves) is legal =
     fades_more p (position_after_ply p (ply_of m)) (now_after (position_after_ply p (ply_of m)) (plies_of moves)) (length moves) wear (fades (position_after_ply p (ply_of m)) moves (still_position p m is legal.0) legal.1)
 
 -- what is worth less is another position
-other_worth : (q p : Position) → total q.men < total p.men → is_same q p ≡ false
-other_worth q p less = false_from_ne_true (is_same q p) (λ e. let men = ap total ((same-law q p).0 e).men in absurd (omega arith))
+other_worth : (q p : Position) → total q.pieces < total p.pieces → is_same q p ≡ false
+other_worth q p less = false_from_ne_true (is_same q p) (λ e. let pieces = ap total ((same-law q p).0 e).pieces in absurd (omega arith))
 
 other_first : (p q : Position) (plies : ℕ) → Fades p plies q → q.half < plies → plies ≤ top_count → is_same q p ≡ false
 other_first p q plies (inl less) h few = other_worth q p less
@@ -68,7 +68,7 @@ none_behind p (m ∷ moves) q is legal few now =
     (cases_lt q.half (length (m ∷ moves)))
 
 -- the position after a move stood nowhere before the last pawn's move or capture
-pub new_behind : (p : Position) (moves : List Move) (m : Move) (q : Position) → IsPosition p → AreLegal p (plies_of moves) → length moves < top_count → IsPlayable (now_after p (plies_of moves)) (ply_of m) →
+pub new_behind : (p : Position) (moves : List Move) (m : Move) (q : Position) → IsPosition p → AreLegal p (plies_of moves) → length moves < top_count → IsPlayablePly (now_after p (plies_of moves)) (ply_of m) →
     q ≡ position_after_ply (now_after p (plies_of moves)) (ply_of m) → stood_in q (left_behind q (p ∷ later p (plies_of moves))) ≡ 0
 new_behind p moves m q is legal few playable now =
     let longer : plies_of (moves ++ m ∷ []) ≡ plies_of moves ++ ply_of m ∷ [] = map-append ply_of moves (m ∷ []) in
@@ -90,6 +90,6 @@ pub stood_nowhere : (p start : Position) (positions : List Position) (oldest : �
     stood_in p (start ∷ positions) ≡ 0
 stood_nowhere p start positions oldest e some behind none =
     let k : length (start ∷ positions) - p.half ≡ suc oldest = omega arith in
-    let front : stood_in p (start ∷ take oldest positions) ≡ 0 = ap (λ (n : ℕ). stood_in p (take n (start ∷ positions))) (sym k) ∙ behind in
+    let prefix : stood_in p (start ∷ take oldest positions) ≡ 0 = ap (λ (n : ℕ). stood_in p (take n (start ∷ positions))) (sym k) ∙ behind in
     let parts = stood_in-append p (start ∷ take oldest positions) (drop oldest positions) in
-    ap (λ (xs : List Position). stood_in p (start ∷ xs)) (sym (take-append-drop oldest positions)) ∙ parts ∙ rw (front, none) refl
+    ap (λ (xs : List Position). stood_in p (start ∷ xs)) (sym (take-append-drop oldest positions)) ∙ parts ∙ rw (prefix, none) refl

@@ -3,7 +3,7 @@ use Rattle.std.proofs.Common.{◌≡◌, ℕ, zero, suc, ◌-◌, ◌<◌, List,
 use Rattle.std.proofs.lemmas.Option.{slice_get_within, slice_get-get_or}
 use Rattle.std.specs.List.{slice_get}
 use Rattle.chess_board.specs.Position.{Position}
-use Rattle.game_record.specs.Game.{Ply, IsPlayable, position_after_ply, now_after, later, AreLegal}
+use Rattle.game_record.specs.Game.{Ply, IsPlayablePly, position_after_ply, now_after, later, AreLegal}
 
 pub later-append : (p : Position) (moves : List Ply) (m : Ply) → later p (moves ++ m ∷ []) ≡ later p moves ++ position_after_ply (now_after p moves) m ∷ []
 later-append p [] m = refl
@@ -13,7 +13,7 @@ pub now_after-append : (p : Position) (moves : List Ply) (m : Ply) → now_after
 now_after-append p [] m = refl
 now_after-append p (n ∷ moves) m = now_after-append (position_after_ply p n) moves m
 
-pub legal-append : (p : Position) (moves : List Ply) (m : Ply) → AreLegal p moves → IsPlayable (now_after p moves) m → AreLegal p (moves ++ m ∷ [])
+pub legal-append : (p : Position) (moves : List Ply) (m : Ply) → AreLegal p moves → IsPlayablePly (now_after p moves) m → AreLegal p (moves ++ m ∷ [])
 legal-append p [] m h l = (l, tt)
 legal-append p (n ∷ moves) m h l = (h.0, legal-append (position_after_ply p n) moves m h.1 l)
 

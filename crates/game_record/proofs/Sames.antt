@@ -8,9 +8,9 @@ use Rattle.chess_board.specs.declared.board.Side.TheVariants.{White, Black}
 use Rattle.chess_board.specs.declared.board.Kind.{Kind}
 use Rattle.chess_board.specs.declared.board.Kind.TheVariants.{Pawn, Knight, Bishop, Rook, Queen, King}
 use Rattle.chess_board.specs.declared.board.Rights.{Rights}
-use Rattle.chess_board.specs.Board.{Man, Men, same_side}
+use Rattle.chess_board.specs.Board.{Occupant, Pieces, same_side}
 use Rattle.chess_board.specs.Position.{Position}
-use Rattle.game_record.specs.Ending.{kind_number, same_man, same_men, same_right, same_rights, same_square, is_same, SameLaw}
+use Rattle.game_record.specs.Ending.{kind_number, same_piece, same_pieces, same_right, same_rights, same_square, is_same, SameLaw}
 
 kind_at : ℕ → Kind
 kind_at zero = Pawn
@@ -40,24 +40,24 @@ side-law White Black = (λ e. cc, λ e. cc)
 side-law Black White = (λ e. cc, λ e. cc)
 side-law Black Black = (λ _. refl, λ _. refl)
 
-man-law : (a b : Man) → Decides (same_man a b) (a ≡ b)
-man-law None None = (λ _. refl, λ _. refl)
-man-law None (Some b) = (λ e. cc, λ e. cc)
-man-law (Some a) None = (λ e. cc, λ e. cc)
-man-law (Some (side, kind)) (Some (other, piece)) =
+occupant-law : (a b : Occupant) → Decides (same_piece a b) (a ≡ b)
+occupant-law None None = (λ _. refl, λ _. refl)
+occupant-law None (Some b) = (λ e. cc, λ e. cc)
+occupant-law (Some a) None = (λ e. cc, λ e. cc)
+occupant-law (Some (side, kind)) (Some (other, piece)) =
     let both = Decides-and (same_side side other) (eqb (kind_number kind) (kind_number piece)) (side-law side other) (kind-law kind piece) in (
       λ e. let parts = both.0 e in ap (λ (s : Side). Some (s, kind)) parts.0 ∙ ap (λ (k : Kind). Some (other, k)) parts.1,
-      λ e. let pair = ap (λ (man : Man). unwrap_or man (side, kind)) e in both.1 (ap (λ (man : Side × Kind). man.0) pair, ap (λ (man : Side × Kind). man.1) pair),
+      λ e. let pair = ap (λ (occupant : Occupant). unwrap_or occupant (side, kind)) e in both.1 (ap (λ (occupant : Side × Kind). occupant.0) pair, ap (λ (occupant : Side × Kind). occupant.1) pair),
     )
 
-men-law : (a b : Men) → Decides (same_men a b) (a ≡ b)
-men-law [] [] = (λ _. refl, λ _. refl)
-men-law [] (b ∷ others) = (λ e. cc, λ e. cc)
-men-law (a ∷ men) [] = (λ e. cc, λ e. cc)
-men-law (a ∷ men) (b ∷ others) =
-    let both = Decides-and (same_man a b) (same_men men others) (man-law a b) (men-law men others) in (
-      λ e. let parts = both.0 e in ap (λ (x : Man). x ∷ men) parts.0 ∙ ap (λ (xs : Men). b ∷ xs) parts.1,
-      λ e. let first : a ≡ b = cc in let rest : men ≡ others = cc in both.1 (first, rest),
+pieces-law : (a b : Pieces) → Decides (same_pieces a b) (a ≡ b)
+pieces-law [] [] = (λ _. refl, λ _. refl)
+pieces-law [] (b ∷ others) = (λ e. cc, λ e. cc)
+pieces-law (a ∷ pieces) [] = (λ e. cc, λ e. cc)
+pieces-law (a ∷ pieces) (b ∷ others) =
+    let both = Decides-and (same_piece a b) (same_pieces pieces others) (occupant-law a b) (pieces-law pieces others) in (
+      λ e. let parts = both.0 e in ap (λ (x : Occupant). x ∷ pieces) parts.0 ∙ ap (λ (xs : Pieces). b ∷ xs) parts.1,
+      λ e. let first : a ≡ b = cc in let rest : pieces ≡ others = cc in both.1 (first, rest),
     )
 
 right-law : (a b : Bool) → Decides (same_right a b) (a ≡ b)
@@ -93,15 +93,15 @@ square-law (Some a) (Some b) =
 pub same-law : SameLaw
 unfolding is_same
 same-law p q =
-    let both = Decides-and (same_men p.men q.men && same_side p.side q.side) (same_rights p.rights q.rights && same_square p.passant q.passant)
-    (Decides-and (same_men p.men q.men) (same_side p.side q.side) (men-law p.men q.men) (side-law p.side q.side))
+    let both = Decides-and (same_pieces p.pieces q.pieces && same_side p.side q.side) (same_rights p.rights q.rights && same_square p.passant q.passant)
+    (Decides-and (same_pieces p.pieces q.pieces) (same_side p.side q.side) (pieces-law p.pieces q.pieces) (side-law p.side q.side))
     (Decides-and (same_rights p.rights q.rights) (same_square p.passant q.passant) (rights-law p.rights q.rights) (square-law p.passant q.passant)) in (
-      λ e. let parts = both.0 e in record { men = parts.0.0; side = parts.0.1; rights = parts.1.0; passant = parts.1.1 },
-      λ s. both.1 ((s.men, s.side), (s.rights, s.passant)),
+      λ e. let parts = both.0 e in record { pieces = parts.0.0; side = parts.0.1; rights = parts.1.0; passant = parts.1.1 },
+      λ s. both.1 ((s.pieces, s.side), (s.rights, s.passant)),
     )
 
 pub is_same-refl : (p : Position) → is_same p p ≡ true
-is_same-refl p = (same-law p p).1 (record { men = refl; side = refl; rights = refl; passant = refl })
+is_same-refl p = (same-law p p).1 (record { pieces = refl; side = refl; rights = refl; passant = refl })
 
 -- two tests for one fact agree
 pub agree : (a b : Bool) (P : Type 0) → Decides a P → Decides b P → a ≡ b

@@ -1,4 +1,4 @@
--- How often a position stood, and how a game has ended.
+-- The number of times that a position stood, and the end of a game.
 use Rattle.std.specs.Prelude.{ℕ, ◌<◌, ◌≤◌, ◌↔◌, Bool, true, false, IsTrue, ◌&&◌, ◌||◌, ◌==◌, not}
 use Rattle.std.specs.Prelude.{nat_le, if◌then◌else◌, List, [], ◌∷◌, count_by, Option, Some, None}
 use Rattle.chess_board.specs.declared.board.Kind.{Kind}
@@ -8,15 +8,15 @@ use Rattle.chess_board.specs.declared.board.Rights.{Rights}
 use Rattle.chess_board.specs.declared.board.State.{State}
 use Rattle.chess_board.specs.declared.board.State.TheVariants as states
 use Rattle.chess_board.specs.Attack.{is_checked}
-use Rattle.chess_board.specs.Board.{Man, Men, same_side}
+use Rattle.chess_board.specs.Board.{Occupant, Pieces, same_side}
 use Rattle.chess_board.specs.Laws.{Same}
 use Rattle.chess_board.specs.Position.{Position}
 use Rattle.chess_board.specs.Place.{has_any_way}
-use Rattle.chess_board.specs.Play.{is_man, is_minor, StateFits}
+use Rattle.chess_board.specs.Play.{is_piece, is_minor, StateFits}
 use Rattle.game_record.specs.declared.ending.GameEnd.{GameEnd}
 use Rattle.game_record.specs.declared.ending.GameEnd.TheVariants.{Mate, Stale, Dead}
 use Rattle.game_record.specs.declared.ending.GameEnd.TheVariants.{Repetition, Fifty}
-use Rattle.game_record.specs.Game.{Game, now_of, positions_of}
+use Rattle.game_record.specs.Game.{Game, current_position, positions_of}
 
 -- each kind by a number of its own
 abbrev pub kind_number : Kind → ℕ
@@ -27,17 +27,17 @@ kind_number Rook = 3
 kind_number Queen = 4
 kind_number King = 5
 
-abbrev pub same_man : Man → Man → Bool
-same_man None None = true
-same_man None (Some b) = false
-same_man (Some a) None = false
-same_man (Some a) (Some b) = same_side a.0 b.0 && (kind_number a.1 == kind_number b.1)
+abbrev pub same_piece : Occupant → Occupant → Bool
+same_piece None None = true
+same_piece None (Some b) = false
+same_piece (Some a) None = false
+same_piece (Some a) (Some b) = same_side a.0 b.0 && (kind_number a.1 == kind_number b.1)
 
-abbrev pub same_men : Men → Men → Bool
-same_men [] [] = true
-same_men [] (b ∷ others) = false
-same_men (a ∷ men) [] = false
-same_men (a ∷ men) (b ∷ others) = same_man a b && same_men men others
+abbrev pub same_pieces : Pieces → Pieces → Bool
+same_pieces [] [] = true
+same_pieces [] (b ∷ others) = false
+same_pieces (a ∷ pieces) [] = false
+same_pieces (a ∷ pieces) (b ∷ others) = same_piece a b && same_pieces pieces others
 
 abbrev pub same_right : Bool → Bool → Bool
 same_right true b = b
@@ -53,10 +53,10 @@ same_square None (Some b) = false
 same_square (Some a) None = false
 same_square (Some a) (Some b) = a == b
 
--- whether two positions are the same for repetition: men, side on move, rights and passant square
+-- whether two positions are the same for repetition: pieces, side on move, rights and en passant square
 unfoldable pub is_same : Position → Position → Bool
 is_same p q =
-    (same_men p.men q.men && same_side p.side q.side)
+    (same_pieces p.pieces q.pieces && same_side p.side q.side)
     && (same_rights p.rights q.rights && same_square p.passant q.passant)
 
 -- the test for it decides the relation of the Laws
@@ -69,16 +69,16 @@ stood_in p positions = count_by (is_same p) positions
 
 -- how often the present position stood, the present time counted
 abbrev pub repeats_of : Game → ℕ
-repeats_of g = stood_in (now_of g) (positions_of g)
+repeats_of g = stood_in (current_position g) (positions_of g)
 
 -- whether the side on move has a legal move
 unfoldable pub has_legal : Position → Bool
 has_legal p = has_any_way p
 
--- beside the two kings no man, or one bishop or knight alone
-abbrev pub is_dead : Men → Bool
-is_dead men =
-    (count_by is_man men == 2) || ((count_by is_man men == 3) && (count_by is_minor men == 1))
+-- beside the two kings no piece, or one bishop or knight alone
+abbrev pub is_dead : Pieces → Bool
+is_dead pieces =
+    (count_by is_piece pieces == 2) || ((count_by is_piece pieces == 3) && (count_by is_minor pieces == 1))
 
 abbrev pub state_by : Bool → Bool → Bool → State
 state_by false true dead = states.Mate
@@ -88,7 +88,7 @@ state_by true checked false = states.Open
 
 -- the state of a position: the first that holds of mate, stalemate and dead
 unfoldable pub state_of : Position → State
-state_of p = state_by (has_legal p) (is_checked p.men p.side) (is_dead p.men)
+state_of p = state_by (has_legal p) (is_checked p.pieces p.side) (is_dead p.pieces)
 
 abbrev pub StateLaw : Type 0
 StateLaw = (p : Position) → StateFits p (state_of p)
@@ -104,17 +104,17 @@ ended_by states.Open repeats half =
 
 -- how a game has ended, if it has
 unfoldable pub ended_of : Game → Option GameEnd
-ended_of g = ended_by (state_of (now_of g)) (repeats_of g) (now_of g).half
+ended_of g = ended_by (state_of (current_position g)) (repeats_of g) (current_position g).half
 
 -- the end of a game in the words of the Laws
-abbrev pub Ends : Game → Option GameEnd → Type 0
-Ends g (Some Mate) = StateFits (now_of g) states.Mate
-Ends g (Some Stale) = StateFits (now_of g) states.Stale
-Ends g (Some Dead) = StateFits (now_of g) states.Dead
-Ends g (Some Repetition) = StateFits (now_of g) states.Open × (3 ≤ repeats_of g)
-Ends g (Some Fifty) =
-    StateFits (now_of g) states.Open × (repeats_of g < 3) × (100 ≤ (now_of g).half)
-Ends g None = StateFits (now_of g) states.Open × (repeats_of g < 3) × ((now_of g).half < 100)
+abbrev pub GameEndsBy : Game → Option GameEnd → Type 0
+GameEndsBy g (Some Mate) = StateFits (current_position g) states.Mate
+GameEndsBy g (Some Stale) = StateFits (current_position g) states.Stale
+GameEndsBy g (Some Dead) = StateFits (current_position g) states.Dead
+GameEndsBy g (Some Repetition) = StateFits (current_position g) states.Open × (3 ≤ repeats_of g)
+GameEndsBy g (Some Fifty) =
+    StateFits (current_position g) states.Open × (repeats_of g < 3) × (100 ≤ (current_position g).half)
+GameEndsBy g None = StateFits (current_position g) states.Open × (repeats_of g < 3) × ((current_position g).half < 100)
 
 abbrev pub EndingLaw : Type 0
-EndingLaw = (g : Game) → Ends g (ended_of g)
+EndingLaw = (g : Game) → GameEndsBy g (ended_of g)

@@ -23,8 +23,8 @@ ply_of m = record { from = m.from.index; to = m.to.index; promotion = m.promotio
 abbrev pub plies_of : List Move → List Ply
 plies_of moves = map ply_of moves
 
-abbrev pub IsPlayable : Position → Ply → Type 0
-IsPlayable p m = IsLegal p m.from m.to m.promotion
+abbrev pub IsPlayablePly : Position → Ply → Type 0
+IsPlayablePly p m = IsLegal p m.from m.to m.promotion
 
 -- the position after a move
 abbrev pub position_after_ply : Position → Ply → Position
@@ -43,10 +43,10 @@ later p (m ∷ moves) = position_after_ply p m ∷ later (position_after_ply p m
 -- each move is legal in its turn
 abbrev pub AreLegal : Position → List Ply → Type 0
 AreLegal p [] = Unit {0}
-AreLegal p (m ∷ moves) = IsPlayable p m × AreLegal (position_after_ply p m) moves
+AreLegal p (m ∷ moves) = IsPlayablePly p m × AreLegal (position_after_ply p m) moves
 
-abbrev pub now_of : Game → Position
-now_of g = now_after g.start g.moves
+abbrev pub current_position : Game → Position
+current_position g = now_after g.start g.moves
 
 -- the start and the position after each move
 abbrev pub positions_of : Game → List Position

@@ -1,4 +1,4 @@
--- What a game keeps.
+-- The invariant of a game.
 use Rattle.std.specs.Prelude.{ℕ, ◌≡◌, ◌+◌, ◌-◌, ◌<◌, ◌≤◌, Option, List, [], ◌∷◌}
 use Rattle.std.specs.Prelude.{◌++◌, length, take, slice_index, slice_index_or}
 use Rattle.chess_board.specs.Position.{Position}
@@ -12,11 +12,11 @@ abbrev pub most_plies : ℕ
 most_plies = MOST_PLIES
 
 -- how often the position after each move then stood, if these stood before the first
-abbrev pub times_of : List Position → Position → List Ply → List ℕ
-times_of before p [] = []
-times_of before p (m ∷ moves) =
+abbrev pub repetitions_of : List Position → Position → List Ply → List ℕ
+repetitions_of before p [] = []
+repetitions_of before p (m ∷ moves) =
     stood_in (position_after_ply p m) (before ++ position_after_ply p m ∷ [])
-    ∷ times_of (before ++ position_after_ply p m ∷ []) (position_after_ply p m) moves
+    ∷ repetitions_of (before ++ position_after_ply p m ∷ []) (position_after_ply p m) moves
 
 -- the positions from before the last pawn's move or capture, by the half-move count of
 -- the one that follows them
@@ -32,10 +32,10 @@ pub record AreTimes (start : Position) (positions : List Position) (times : List
 
 -- the positions are those after the moves, with their times, the end is the game's, and
 -- there is room for more of all
-pub record Keeps (start : Position) (moves : List Ply) (positions : List Position) (times : List ℕ)
+pub record GameInvariant (start : Position) (moves : List Ply) (positions : List Position) (times : List ℕ)
     (ended : Option GameEnd) (move_room position_room time_room : ℕ) : Type 0 where
   pub positions_are : positions ≡ later start moves
-  pub times_are : times ≡ times_of (start ∷ []) start moves
+  pub times_are : times ≡ repetitions_of (start ∷ []) start moves
   pub ended_is : ended ≡ ended_of (record { start = start; moves = moves })
   pub legal : AreLegal start moves
   pub few : length moves ≤ most_plies

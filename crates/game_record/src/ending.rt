@@ -1,10 +1,10 @@
-//! How a game ends.
+//! The end of a game.
 ghost use Rattle.std.specs.Prelude.{◌≡◌};
 ghost use Rattle.game_record.specs.Ending.{is_same, state_of, ended_by};
 
 use chess_board::{Position, State};
 
-/// How a game has ended: mate (article 5.1.1), stalemate (5.2.1), a dead position (5.2.2) of two kings with no man
+/// The end of a game: mate (article 5.1.1), stalemate (5.2.1), a dead position (5.2.2) of two kings with no piece
 /// or one bishop or knight alone, the third occurrence of a position (9.2), or 100 moves of both sides
 /// without a pawn's move or a capture (9.3). The last two end a game here without a claim.
 #[derive(Clone, Copy, PartialEq, Eq)]
@@ -16,7 +16,7 @@ pub enum GameEnd {
     Fifty,
 }
 
-/// Whether two positions count as the same for repetition.
+/// True if two positions count as the same for repetition.
 pub(crate) fn is_same(p: &Position, q: &Position) -> bool
     ensures { result ≡ is_same p.now q.now }
 {

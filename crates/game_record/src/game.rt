@@ -2,10 +2,10 @@
 ghost use Rattle.std.specs.Prelude.{◌≡◌, ◌+◌, ◌<◌, ◌≤◌, ◌↔◌, ◌∷◌, [], List, length, Option, IsErr, IfOk, OnOk, OnErr};
 ghost use Rattle.chess_board.specs.Laws.{IsLegal};
 ghost use Rattle.chess_board.specs.Play.{start_position, IsPosition};
-ghost use Rattle.game_record.specs.Game.{Game as AnyGame, Ply, ply_of, plies_of, IsPlayable, position_after_ply, AreLegal, now_of, now_after, later, positions_of, game_from, with_ply, without_last};
-ghost use Rattle.game_record.specs.Line.{position_text};
+ghost use Rattle.game_record.specs.Game.{Game as AnyGame, Ply, ply_of, plies_of, IsPlayablePly, position_after_ply, AreLegal, current_position, now_after, later, positions_of, game_from, with_ply, without_last};
+ghost use Rattle.game_record.specs.Line.{game_position_text};
 ghost use Rattle.game_record.specs.Ending.{stood_in, repeats_of, ended_of};
-ghost use Rattle.game_record.specs.Keeps.{AreTimes, times_of, left_behind};
+ghost use Rattle.game_record.specs.Keeps.{AreTimes, repetitions_of, left_behind};
 ghost use Rattle.game_record.specs.declared.game.TheConstants.{MOST_PLIES, POSITION_TEXT};
 
 use crate::ending::{GameEnd, ended_by, is_same, state_of};
@@ -40,22 +40,22 @@ pub struct Game {
     moves: Vec<Move>,
     /// The position after each move.
     later: Vec<Position>,
-    /// How often each of these then stood.
+    /// The times that each of these then stood.
     times: Vec<u32>,
-    /// How the game has ended by now.
+    /// The end of the game by now.
     ended: Option<GameEnd>,
 }
 
 impl Model for Game {
     ghost use Rattle.std.specs.Prelude.{vec_capacity};
     ghost use Rattle.game_record.specs.Game.{Game as AnyGame, plies_of};
-    ghost use Rattle.game_record.specs.Keeps.{Keeps};
+    ghost use Rattle.game_record.specs.Keeps.{GameInvariant};
 
     ghost Value = { AnyGame };
 
     ghost view = { λ g. record { start = g.start; moves = plies_of g.moves.items } };
 
-    ghost invariant = { λ g. Keeps g.start (plies_of g.moves.items) g.later.items g.times.items
+    ghost invariant = { λ g. GameInvariant g.start (plies_of g.moves.items) g.later.items g.times.items
         g.ended (vec_capacity g.moves) (vec_capacity g.later) (vec_capacity g.times) };
 }
 
@@ -91,7 +91,7 @@ impl Game {
 
     /// Plays a move that its caller has tested.
     pub fn play(&mut self, m: Move)
-        requires legal { IsPlayable (now_of self.old) (ply_of m) }
+        requires legal { IsPlayablePly (current_position self.old) (ply_of m) }
         requires room { length self.old.moves < MOST_PLIES }
         ensures { self.new ≡ with_ply self.old (ply_of m) }
     {
@@ -102,9 +102,10 @@ impl Game {
     /// Plays a move that comes from outside, after the tests that `play` leaves to its caller.
     pub fn try_play(&mut self, m: Move) -> Result<(), PlayFault>
         ensures illegal { (result ≡ Err PlayFault.Illegal)
-            ↔ (¬ IsPlayable (now_of self.old) (ply_of m)) }
+            ↔ (¬ IsPlayablePly (current_position self.old) (ply_of m)) }
         ensures long { (result ≡ Err PlayFault.TooLong)
-            ↔ (IsPlayable (now_of self.old) (ply_of m) × (length self.old.moves ≡ MOST_PLIES)) }
+            ↔ (IsPlayablePly (current_position self.old) (ply_of m) × (length self.old.moves ≡
+            MOST_PLIES)) }
         ensures ok { OnOk result (self.new ≡ with_ply self.old (ply_of m)) }
         ensures err { OnErr result (self.new ≡ self.old) }
     {
@@ -120,9 +121,9 @@ impl Game {
 
     /// Adds a move and the position that it leaves.
     fn add(&mut self, m: Move, after: Position)
-        requires legal { IsPlayable (now_of self.old) (ply_of m) }
+        requires legal { IsPlayablePly (current_position self.old) (ply_of m) }
         requires room { length self.old.moves < MOST_PLIES }
-        requires after { after ≡ position_after_ply (now_of self.old) (ply_of m) }
+        requires after { after ≡ position_after_ply (current_position self.old) (ply_of m) }
         ensures { self.new ≡ with_ply self.old (ply_of m) }
     {
         let times = self.stood(m, &after) + 1;
@@ -160,7 +161,7 @@ impl Game {
 
     /// The present position.
     pub fn now(&self) -> &Position
-        ensures { result.now ≡ now_of self.now }
+        ensures { result.now ≡ current_position self.now }
     {
         last_position(&self.start, self.later.as_slice())
     }
@@ -173,7 +174,7 @@ impl Game {
         self.moves.as_slice()
     }
 
-    /// How many moves of both sides were played.
+    /// The count of played moves of both sides.
     pub fn plies(&self) -> u32
         ensures value { result ≡ length self.now.moves }
         ensures most { result ≤ MOST_PLIES }
@@ -181,22 +182,23 @@ impl Game {
         self.moves.len() as u32
     }
 
-    /// What holds of every game, for proofs alone. It does nothing when it runs.
+    /// The facts of every game, for proofs alone. It does nothing when it runs.
     pub fn facts(&self)
         ensures start { IsPosition self.now.start }
         ensures legal { AreLegal self.now.start self.now.moves }
         ensures few { length self.now.moves ≤ MOST_PLIES }
-        ensures short { (hint : Option Ply) → length (position_text self.now hint) ≤ POSITION_TEXT }
+        ensures short { (hint : Option Ply) → length (game_position_text self.now hint) ≤
+            POSITION_TEXT }
     {
         // Read for the proof alone, which then has what holds of the fields.
         let _moves = self.moves.len();
         self.start.facts();
     }
 
-    /// How often the position after a move stood in the game so far.
+    /// The times that the position after a move stood in the game so far.
     fn stood(&self, m: Move, after: &Position) -> u32
-        requires legal { IsPlayable (now_of self.now) (ply_of m) }
-        requires after { after.now ≡ position_after_ply (now_of self.now) (ply_of m) }
+        requires legal { IsPlayablePly (current_position self.now) (ply_of m) }
+        requires after { after.now ≡ position_after_ply (current_position self.now) (ply_of m) }
         ensures value { result ≡ stood_in after.now (positions_of self.now) }
         ensures few { result ≤ MOST_PLIES + 1 }
     {
@@ -209,23 +211,23 @@ impl Game {
         )
     }
 
-    /// How often the present position stood, the present time counted (article 9.2.2).
+    /// The times that the present position stood, the present time counted (article 9.2.2).
     pub fn repeats(&self) -> u32
         ensures { result ≡ repeats_of self.now }
     {
         last_times(self.times.as_slice())
     }
 
-    /// How the game has ended, if it has.
+    /// The end of the game, if it has ended.
     pub fn ended(&self) -> Option<GameEnd>
         ensures { result ≡ ended_of self.now }
     {
         self.ended
     }
 
-    /// How the game will have ended after a legal move.
+    /// The end of the game after a legal move.
     pub fn ended_after(&self, m: Move) -> Option<GameEnd>
-        requires { IsPlayable (now_of self.now) (ply_of m) }
+        requires { IsPlayablePly (current_position self.now) (ply_of m) }
         ensures { result ≡ ended_of (with_ply self.now (ply_of m)) }
     {
         let after = self.now().play(m);
@@ -246,7 +248,7 @@ fn last_position<'a>(start: &'a Position, positions: &'a [Position]) -> &'a Posi
 
 /// The last of the times, or once if no move was played.
 fn last_times(times: &[u32]) -> u32
-    ensures { (g : AnyGame) → times.now ≡ times_of (g.start ∷ []) g.start g.moves
+    ensures { (g : AnyGame) → times.now ≡ repetitions_of (g.start ∷ []) g.start g.moves
         → result ≡ repeats_of g }
 {
     match times.last() {
@@ -255,17 +257,17 @@ fn last_times(times: &[u32]) -> u32
     }
 }
 
-/// How a game with these positions and their times has ended.
+/// The end of a game with these positions and their times.
 fn ended_in(start: &Position, positions: &[Position], times: &[u32]) -> Option<GameEnd>
     ensures { (moves : List Ply) → positions.now ≡ later start.now moves
-        → times.now ≡ times_of (start.now ∷ []) start.now moves
+        → times.now ≡ repetitions_of (start.now ∷ []) start.now moves
         → result ≡ ended_of (record { start = start.now; moves = moves }) }
 {
     let now = last_position(start, positions);
     ended_by(state_of(now), last_times(times), now.half())
 }
 
-/// How often a position stood: as often as its last occurrence since a pawn's move or a capture says.
+/// The times that a position stood: as often as its last occurrence since a pawn's move or a capture says.
 fn last_stood(p: &Position, start: &Position, later: &[Position], times: &[u32]) -> u32
     requires times { AreTimes start.now later.now times.now }
     requires behind { stood_in p.now (left_behind p.now (start.now ∷ later.now)) ≡ 0 }

@@ -1,6 +1,6 @@
 //! Laws about the definitions that contracts cite, each a clause of a function that does nothing.
 ghost use Rattle.game_record.specs.Ending.{SameLaw, StateLaw, EndingLaw};
-ghost use Rattle.game_record.specs.Line.{StandardLaw, IsShort};
+ghost use Rattle.game_record.specs.Line.{StandardLaw, PositionLineIsShort};
 
 /// The test for the same position decides the relation of the Laws (article 9.2.3).
 pub fn sameness_is_lawful()
@@ -12,7 +12,7 @@ pub fn states_are_lawful()
     ensures { StateLaw }
 {}
 
-/// How a game has ended is what the Laws say.
+/// The end of a game is what the Laws say.
 pub fn endings_are_lawful()
     ensures { EndingLaw }
 {}
@@ -24,5 +24,5 @@ pub fn standard_start_is_one()
 
 /// No `position` line has more than 6 bytes for each move and 120 for the rest.
 pub fn position_lines_are_short()
-    ensures { IsShort }
+    ensures { PositionLineIsShort }
 {}

@@ -1,51 +1,51 @@
--- What the status of a run says.
+-- The meaning of the status of a run.
 use Rattle.std.proofs.Common.{◌≡◌, ◌⊎◌, inl, inr, ◌∙◌, ℕ, List, [], ◌++◌, take, length, Option, Some, None, append-nil, refl, sym, ap, subst}
 use Rattle.std.proofs.Math.Seq.{take-length}
 use Rattle.std.specs.Io.KnownBytes.{Appends}
 use Rattle.line_io.specs.Lines.{Piece, items}
 use Rattle.line_io.specs.Runs.{whole}
-use Rattle.line_scribe.specs.declared.ending.Ending.{Ending}
-use Rattle.line_scribe.specs.declared.ending.Ending.TheVariants as endings
-use Rattle.line_scribe.specs.Ran.{Ran}
-use Rattle.line_scribe.specs.Reads.{AreRead}
-use Rattle.line_scribe.specs.Streams.{Streams}
-use Rattle.line_scribe.specs.Putting.{IsOfLine}
-use Rattle.line_scribe.specs.Scribed.{AreAll, EndsBy, EndsRightly, HasReason, IsText, WroteAll, WroteFront, WroteTo, WroteWhole}
-use Rattle.line_scribe.specs.Outcomes.{Outcome, LineReported, WroteLast}
-use Rattle.line_scribe.proofs.Fronts.{IsFront, all_front, later_of, none_later, take_front}
-use Rattle.line_scribe.proofs.Outcomes.{outcome}
+use Rattle.line_command.specs.declared.ending.Ending.{Ending}
+use Rattle.line_command.specs.declared.ending.Ending.TheVariants as endings
+use Rattle.line_command.specs.Ran.{FilterRan}
+use Rattle.line_command.specs.Reads.{AreRead}
+use Rattle.line_command.specs.Streams.{FilterStreams}
+use Rattle.line_command.specs.Putting.{IsOfLine}
+use Rattle.line_command.specs.Filtered.{AreAll, FilterEndsBy, EndsRightly, HasReason, IsText, WroteAll, WrotePrefix, WroteTo, WroteWhole}
+use Rattle.line_command.specs.Outcomes.{Outcome, LineReported, WroteLast}
+use Rattle.line_command.proofs.Prefixes.{IsPrefix, all_prefix, later_of, none_later, take_prefix}
+use Rattle.line_command.proofs.Outcomes.{outcome}
 use Rattle.session_judge.specs.declared.listener.Listener.{Listener}
-use Rattle.session_judge.specs.Talks.{opening}
+use Rattle.session_judge.specs.Talks.{opening_judgement}
 use Rattle.judge_report.specs.Reports.{report, last_lines}
-use Rattle.judge_report.specs.Reads.{Stops, Closes}
+use Rattle.judge_report.specs.Reads.{ReportStops, ReportCloses}
 use Rattle.judge_report.specs.Judging.{judges, Reported}
-use Rattle.judge_report.specs.Judged.{whole_report, due_by, due_report, AllJudged, FaultFound, FrontReported, WholeJudged, Judged}
-use Rattle.judge_report.proofs.Grows.{report_front}
+use Rattle.judge_report.specs.Judged.{whole_report, due_by, due_report, AllJudged, FaultFound, PrefixReported, WholeJudged, Judged}
+use Rattle.judge_report.proofs.Grows.{report_prefix}
 
 -- no line is the reason: all were read
-closed : (listener : Listener) (lines : List Piece) (ending : Ending) (text : List ℕ) → (IsOfLine ending → ⊥) → Reported listener lines ending text → Closes listener lines ending text
+closed : (listener : Listener) (lines : List Piece) (ending : Ending) (text : List ℕ) → (IsOfLine ending → ⊥) → Reported listener lines ending text → ReportCloses listener lines ending text
 closed listener lines ending text none (inl s) = absurd (none s.of_line)
 closed listener lines ending text none (inr c) = c.1
 
 -- a line is the reason
-stopped : (listener : Listener) (lines : List Piece) (ending : Ending) (text : List ℕ) → IsOfLine ending → Reported listener lines ending text → Stops listener lines ending text
+stopped : (listener : Listener) (lines : List Piece) (ending : Ending) (text : List ℕ) → IsOfLine ending → Reported listener lines ending text → ReportStops listener lines ending text
 stopped listener lines ending text of (inl s) = s
 stopped listener lines ending text of (inr c) = absurd (c.0 of)
 
--- A FRONT OF WHAT IS DUE
+-- A PREFIX OF WHAT IS DUE
 
 -- the text is the report that is due for these lines, if they are all, or the part of it that no later line changes
 data IsSoFar (listener : Listener) (left : Option (List ℕ)) (lines : List Piece) (text : List ℕ) : Type 0 where
   HasSoFar : (report listener lines).text ≡ text → IsSoFar listener left lines text
   HasAll : AreAll left lines → due_report listener lines ≡ text → IsSoFar listener left lines text
 
-stops_so_far : (listener : Listener) (left : Option (List ℕ)) (lines : List Piece) (ending : Ending) (text : List ℕ) → Stops listener lines ending text → IsSoFar listener left lines text
+stops_so_far : (listener : Listener) (left : Option (List ℕ)) (lines : List Piece) (ending : Ending) (text : List ℕ) → ReportStops listener lines ending text → IsSoFar listener left lines text
 stops_so_far listener left lines ending text s = HasSoFar s.text_is
 
 nothing_last : (listener : Listener) (left : Option (List ℕ)) (lines : List Piece) (text : List ℕ) → (report listener lines).text ++ [] ≡ text → IsSoFar listener left lines text
 nothing_last listener left lines text e = HasSoFar (sym (append-nil (report listener lines).text) ∙ e)
 
-closes_so_far : (listener : Listener) (left : Option (List ℕ)) (lines : List Piece) (ending : Ending) (text : List ℕ) → EndsRightly left lines ending → Closes listener lines ending text → IsSoFar listener left lines text
+closes_so_far : (listener : Listener) (left : Option (List ℕ)) (lines : List Piece) (ending : Ending) (text : List ℕ) → EndsRightly left lines ending → ReportCloses listener lines ending text → IsSoFar listener left lines text
 closes_so_far listener left lines endings.Done text w c =
     let course = report listener lines in
     HasAll w (ap (λ (e : Option Ending). due_by e course) c.goes_on ∙ c.text_is)
@@ -55,41 +55,41 @@ said_so_far : (listener : Listener) (left : Option (List ℕ)) (lines : List Pie
 said_so_far listener left lines ending text w (inl s) = stops_so_far listener left lines ending text s
 said_so_far listener left lines ending text w (inr c) = closes_so_far listener left lines ending text w c.1
 
-so_far : (listener : Listener) (left : Option (List ℕ)) (lines : List Piece) (text : List ℕ) (i : IsText judges (opening listener) lines text) → HasReason (EndsRightly left lines) i → IsSoFar listener left lines text
+so_far : (listener : Listener) (left : Option (List ℕ)) (lines : List Piece) (text : List ℕ) (i : IsText judges (opening_judgement listener) lines text) → HasReason (EndsRightly left lines) i → IsSoFar listener left lines text
 so_far listener left lines text (inl p) w = HasSoFar (p.1 listener refl).text_is
 so_far listener left lines text (inr p) w = said_so_far listener left lines p.0 text w (p.1 listener refl)
 
-module _ (listener : Listener) (U : Type 0) (start now : Streams) (code : ℕ) where
+module _ (listener : Listener) (U : Type 0) (start now : FilterStreams) (code : ℕ) where
   abbrev Wrote : List ℕ → Type 0
   Wrote text = Appends start.output.taken now.output.taken text
 
-  front_by : (lines later : List Piece) (text : List ℕ) (n : ℕ) → AreRead start now lines → IsFront text (due_report listener lines) → AreAll start.input.left (lines ++ later) → IsFront text (due_report listener (lines ++ later)) → Wrote (take n text)
-      → FrontReported listener start now
-  front_by lines later text n read r all f wrote =
-      let j = take_front n text (due_report listener lines) r in
-      let k = take_front n text (due_report listener (lines ++ later)) f in
+  prefix_by : (lines later : List Piece) (text : List ℕ) (n : ℕ) → AreRead start now lines → IsPrefix text (due_report listener lines) → AreAll start.input.left (lines ++ later) → IsPrefix text (due_report listener (lines ++ later)) → Wrote (take n text)
+      → PrefixReported listener start now
+  prefix_by lines later text n read r all f wrote =
+      let j = take_prefix n text (due_report listener lines) r in
+      let k = take_prefix n text (due_report listener (lines ++ later)) f in
       record { lines = lines; read = read; of_read = (j.0, subst Wrote j.1 wrote); later = later; all = all; written = (k.0, subst Wrote k.1 wrote) }
 
   -- the report that is due for these lines, which are followed by none
-  none_more : (lines : List Piece) (text : List ℕ) → IsFront text (due_report listener (lines ++ [])) → IsFront text (due_report listener lines)
-  none_more lines text f = subst (λ (ls : List Piece). IsFront text (due_report listener ls)) (append-nil lines) f
+  none_more : (lines : List Piece) (text : List ℕ) → IsPrefix text (due_report listener (lines ++ [])) → IsPrefix text (due_report listener lines)
+  none_more lines text f = subst (λ (ls : List Piece). IsPrefix text (due_report listener ls)) (append-nil lines) f
 
-  front_of : (lines : List Piece) (text : List ℕ) (n : ℕ) → AreRead start now lines → IsSoFar listener start.input.left lines text → Wrote (take n text) → FrontReported listener start now
-  front_of lines text n read (HasSoFar e) wrote =
+  prefix_of : (lines : List Piece) (text : List ℕ) (n : ℕ) → AreRead start now lines → IsSoFar listener start.input.left lines text → Wrote (take n text) → PrefixReported listener start now
+  prefix_of lines text n read (HasSoFar e) wrote =
       let later = later_of start.input.left lines read.of_left in
-      let of_read = subst (λ (t : List ℕ). IsFront t (due_report listener (lines ++ []))) e (report_front listener lines []) in
-      front_by lines later.0 text n read (none_more lines text of_read) later.1 (subst (λ (t : List ℕ). IsFront t (due_report listener (lines ++ later.0))) e (report_front listener lines later.0)) wrote
-  front_of lines text n read (HasAll all e) wrote =
-      let whole = subst (λ (t : List ℕ). IsFront text t) (sym e) (all_front text) in
-      front_by lines [] text n read whole (none_later start.input.left lines all) (subst (λ (ls : List Piece). IsFront text (due_report listener ls)) (sym (append-nil lines)) whole) wrote
+      let of_read = subst (λ (t : List ℕ). IsPrefix t (due_report listener (lines ++ []))) e (report_prefix listener lines []) in
+      prefix_by lines later.0 text n read (none_more lines text of_read) later.1 (subst (λ (t : List ℕ). IsPrefix t (due_report listener (lines ++ later.0))) e (report_prefix listener lines later.0)) wrote
+  prefix_of lines text n read (HasAll all e) wrote =
+      let whole = subst (λ (t : List ℕ). IsPrefix text t) (sym e) (all_prefix text) in
+      prefix_by lines [] text n read whole (none_later start.input.left lines all) (subst (λ (ls : List Piece). IsPrefix text (due_report listener ls)) (sym (append-nil lines)) whole) wrote
 
-  broken : U ⊎ WroteFront judges (opening listener) start now ⊎ WroteLast judges (opening listener) start now → U ⊎ FrontReported listener start now
+  broken : U ⊎ WrotePrefix judges (opening_judgement listener) start now ⊎ WroteLast judges (opening_judgement listener) start now → U ⊎ PrefixReported listener start now
   broken (inl u) = inl u
-  broken (inr (inl w)) = inr (front_of w.lines w.text w.front w.read (so_far listener start.input.left w.lines w.text w.is_text w.reason) w.written)
+  broken (inr (inl w)) = inr (prefix_of w.lines w.text w.prefix w.read (so_far listener start.input.left w.lines w.text w.is_text w.reason) w.written)
   broken (inr (inr w)) =
-      inr (front_of w.lines w.text (length w.text) w.read (said_so_far listener start.input.left w.lines w.ending w.text w.reason (w.says listener refl)) (subst Wrote (sym (take-length w.text)) w.written))
+      inr (prefix_of w.lines w.text (length w.text) w.read (said_so_far listener start.input.left w.lines w.ending w.text w.reason (w.says listener refl)) (subst Wrote (sym (take-length w.text)) w.written))
 
-  all_judged : WroteAll judges (opening listener) start now → AllJudged listener start now
+  all_judged : WroteAll judges (opening_judgement listener) start now → AllJudged listener start now
   all_judged w =
       let c = closed listener (items 131072 w.got) endings.Done w.text (λ x. x) (w.says listener refl) in
       record {
@@ -100,7 +100,7 @@ module _ (listener : Listener) (U : Type 0) (start now : Streams) (code : ℕ) w
         written = subst (λ (t : List ℕ). Appends start.output.taken now.output.taken t) (sym c.text_is) w.written;
       }
 
-  fault_found : (n : ℕ) → LineReported judges (opening listener) start now n → FaultFound listener start now n
+  fault_found : (n : ℕ) → LineReported judges (opening_judgement listener) start now n → FaultFound listener start now n
   fault_found n r =
       let s = stopped listener r.wrote.lines r.ending r.wrote.text r.of_line (r.wrote.says listener refl) in
       record {
@@ -110,10 +110,10 @@ module _ (listener : Listener) (U : Type 0) (start now : Streams) (code : ℕ) w
         read = r.wrote.read;
         is_fault = s.ends;
         written = subst (λ (t : List ℕ). Appends start.output.taken now.output.taken t) (sym s.text_is) r.wrote.written;
-        told = r.told;
+        announced = r.announced;
       }
 
-  whole_judged : (ending : Ending) (least : ℕ) → (IsOfLine ending → ⊥) → WroteWhole judges (opening listener) ending least start now → WholeJudged listener ending least start now
+  whole_judged : (ending : Ending) (least : ℕ) → (IsOfLine ending → ⊥) → WroteWhole judges (opening_judgement listener) ending least start now → WholeJudged listener ending least start now
   whole_judged ending least none w =
       let c = closed listener (whole 131072 w.got) ending w.text none (w.says listener refl) in
       record {
@@ -125,13 +125,13 @@ module _ (listener : Listener) (U : Type 0) (start now : Streams) (code : ℕ) w
         written = subst (λ (t : List ℕ). Appends start.output.taken now.output.taken t) (sym c.text_is) w.written;
       }
 
-  completed : ((code ≡ 0) × WroteAll judges (opening listener) start now) ⊎ LineReported judges (opening listener) start now code ⊎ (code ≡ 3)
+  completed : ((code ≡ 0) × WroteAll judges (opening_judgement listener) start now) ⊎ LineReported judges (opening_judgement listener) start now code ⊎ (code ≡ 3)
       → ((code ≡ 0) × AllJudged listener start now) ⊎ FaultFound listener start now code ⊎ (code ≡ 3)
   completed (inl d) = inl (d.0, all_judged d.1)
   completed (inr (inl r)) = inr (inl (fault_found code r))
   completed (inr (inr m)) = inr (inr m)
 
-  judged_by : Ran (λ e. EndsBy judges (opening listener) U e start now) start now code → Outcome judges (opening listener) U start now code → Judged listener U start now code
+  judged_by : FilterRan (λ e. FilterEndsBy judges (opening_judgement listener) U e start now) start now code → Outcome judges (opening_judgement listener) U start now code → Judged listener U start now code
   judged_by r o = record {
     ended = r;
     lawful = λ z. let d = o.done z in (all_judged d.0, d.1);
@@ -144,5 +144,5 @@ module _ (listener : Listener) (U : Type 0) (start now : Streams) (code : ℕ) w
     complete = λ x e l s. completed (o.complete x e l s);
   }
 
-  pub judged : Ran (λ e. EndsBy judges (opening listener) U e start now) start now code → Judged listener U start now code
-  judged r = judged_by r (outcome judges (opening listener) U start now code r)
+  pub judged : FilterRan (λ e. FilterEndsBy judges (opening_judgement listener) U e start now) start now code → Judged listener U start now code
+  judged r = judged_by r (outcome judges (opening_judgement listener) U start now code r)

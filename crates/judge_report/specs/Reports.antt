@@ -3,20 +3,20 @@ use Rattle.std.specs.Prelude.{◌≡◌, ℕ, ◌+◌, ◌==◌, ◌&&◌, ◌||
 use Rattle.std.specs.Prelude.{Bool, is_some, if◌then◌else◌, Option, Some, None}
 use Rattle.line_io.specs.Lines.{Piece, Whole, TooLong}
 use Rattle.script_lines.specs.Header.{header_of}
-use Rattle.script_lines.specs.Marks.{Mark, mark_of}
+use Rattle.script_lines.specs.Marks.{Mark, mark_spelled}
 use Rattle.script_lines.specs.StepLine.{step_of}
-use Rattle.line_scribe.specs.declared.ending.Ending.{Ending}
-use Rattle.line_scribe.specs.declared.ending.Ending.TheVariants as endings
+use Rattle.line_command.specs.declared.ending.Ending.{Ending}
+use Rattle.line_command.specs.declared.ending.Ending.TheVariants as endings
 use Rattle.session_judge.specs.declared.listener.Listener.{Listener}
-use Rattle.session_judge.specs.declared.deed.OrderKind.TheVariants as orders
-use Rattle.session_judge.specs.declared.deed.Deed.{Deed}
-use Rattle.session_judge.specs.declared.deed.Deed.TheVariants as deeds
+use Rattle.session_judge.specs.declared.dialogue_event.OrderKind.TheVariants as orders
+use Rattle.session_judge.specs.declared.dialogue_event.DialogueEvent.{DialogueEvent}
+use Rattle.session_judge.specs.declared.dialogue_event.DialogueEvent.TheVariants as dialogue_events
 use Rattle.session_judge.specs.declared.rule.Rule.{Rule}
 use Rattle.session_judge.specs.declared.search.Search.{Search}
 use Rattle.session_judge.specs.declared.talk.JudgedTalk.{JudgedTalk}
-use Rattle.session_judge.specs.Deeds.{deed_of}
+use Rattle.session_judge.specs.DialogueEvents.{dialogue_event_of}
 use Rattle.session_judge.specs.Rules.{broken}
-use Rattle.session_judge.specs.Talks.{after, opening}
+use Rattle.session_judge.specs.Talks.{judgement_after, opening_judgement}
 use Rattle.judge_report.specs.Texts.{search_report, crossings_line, lawful_line, unlawful_line}
 
 -- what a line of a log is: a mark, a line that is ignored, or neither
@@ -29,13 +29,13 @@ pub data LogLineKind : Type 0 where
 abbrev pub is_passed : ℕ → List ℕ → Bool
 is_passed number line = is_some (step_of line) || (number == 1 && is_some (header_of line))
 
-abbrev pub kind_by : Option Mark → Bool → LogLineKind
-kind_by (Some mark) passed = Marks mark
-kind_by None passed = if passed then Passes else HasNone
+abbrev pub log_line_kind_by : Option Mark → Bool → LogLineKind
+log_line_kind_by (Some mark) passed = Marks mark
+log_line_kind_by None passed = if passed then Passes else HasNone
 
-abbrev pub kind_of : ℕ → Piece → LogLineKind
-kind_of number (Whole line) = kind_by (mark_of line) (is_passed number line)
-kind_of number TooLong = HasNone
+abbrev pub kind_of_log_line : ℕ → Piece → LogLineKind
+kind_of_log_line number (Whole line) = log_line_kind_by (mark_spelled line) (is_passed number line)
+kind_of_log_line number TooLong = HasNone
 
 -- what comes of a line: the talk then, what is written for it, and whether it is the last
 pub record LineOutcome : Type 0 where
@@ -44,21 +44,21 @@ pub record LineOutcome : Type 0 where
   pub ending : Option Ending
 
 -- A `go` brings out the line of the search before it.
-abbrev pub brought_out : Option Search → Deed → List ℕ
-brought_out search (deeds.Writes (orders.Go kind)) = search_report search
-brought_out search deed = []
+abbrev pub brought_out : Option Search → DialogueEvent → List ℕ
+brought_out search (dialogue_events.Writes (orders.Go kind)) = search_report search
+brought_out search dialogue_event = []
 
 -- what comes before the last line: the line of the last search, and how many orders crossed
 abbrev pub report_before_end : JudgedTalk → List ℕ
 report_before_end t = search_report t.search ++ crossings_line t.crossings
 
-abbrev pub of_deed : JudgedTalk → ℕ → Deed → Option Rule → LineOutcome
-of_deed t number deed None = record {
-  talk = after t number deed;
-  more = brought_out t.search deed;
+abbrev pub of_dialogue_event : JudgedTalk → ℕ → DialogueEvent → Option Rule → LineOutcome
+of_dialogue_event t number dialogue_event None = record {
+  talk = judgement_after t number dialogue_event;
+  more = brought_out t.search dialogue_event;
   ending = None;
 }
-of_deed t number deed (Some rule) =
+of_dialogue_event t number dialogue_event (Some rule) =
     record {
       talk = t;
       more = report_before_end t ++ unlawful_line number rule;
@@ -66,31 +66,31 @@ of_deed t number deed (Some rule) =
     }
 
 abbrev pub of_kind : JudgedTalk → ℕ → LogLineKind → LineOutcome
-of_kind t number (Marks mark) = of_deed t number (deed_of mark) (broken t (deed_of mark))
+of_kind t number (Marks mark) = of_dialogue_event t number (dialogue_event_of mark) (broken t (dialogue_event_of mark))
 of_kind t number Passes = record { talk = t; more = []; ending = None }
 of_kind t number HasNone = record { talk = t; more = []; ending = Some (endings.NoMark number) }
 
 -- the report so far: the talk, what was written, and why no more lines are read
-pub record Course : Type 0 where
+pub record ReportCourse : Type 0 where
   pub talk : JudgedTalk
   pub text : List ℕ
   pub ending : Option Ending
 
-abbrev pub with_outcome : Course → LineOutcome → Course
+abbrev pub with_outcome : ReportCourse → LineOutcome → ReportCourse
 with_outcome c o = record { talk = o.talk; text = c.text ++ o.more; ending = o.ending }
 
-abbrev pub read_on : Option Ending → Course → ℕ → Piece → Course
+abbrev pub read_on : Option Ending → ReportCourse → ℕ → Piece → ReportCourse
 read_on (Some ending) c number piece = c
-read_on None c number piece = with_outcome c (of_kind c.talk number (kind_of number piece))
+read_on None c number piece = with_outcome c (of_kind c.talk number (kind_of_log_line number piece))
 
 -- the report on these lines, of which the first has this number
-abbrev pub over : Course → ℕ → List Piece → Course
+abbrev pub over : ReportCourse → ℕ → List Piece → ReportCourse
 over c number [] = c
 over c number (piece ∷ pieces) = over (read_on c.ending c number piece) (number + 1) pieces
 
 -- the report on the lines of a log that this one wrote
-abbrev pub report : Listener → List Piece → Course
-report listener lines = over (record { talk = opening listener; text = []; ending = None }) 1 lines
+abbrev pub report : Listener → List Piece → ReportCourse
+report listener lines = over (record { talk = opening_judgement listener; text = []; ending = None }) 1 lines
 
 -- what is written at the end of the input; nothing is written if it was not read to its end
 abbrev pub last_lines : JudgedTalk → Ending → List ℕ

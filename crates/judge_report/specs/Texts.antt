@@ -2,7 +2,7 @@
 use Rattle.std.specs.Prelude.{ℕ, List, [], ◌∷◌, ◌++◌, codes, decimal, Bool, true}
 use Rattle.std.specs.Prelude.{false, ◌==◌, if◌then◌else◌, Option, Some, None}
 use Rattle.chess_board.specs.declared.board.Move.{Move}
-use Rattle.chess_board.specs.Text.{text_of}
+use Rattle.chess_board.specs.Text.{text_of_move}
 use Rattle.peer_words.specs.declared.kinds.GoKind.{GoKind}
 use Rattle.peer_words.specs.declared.kinds.GoKind.TheVariants as kinds
 use Rattle.session_judge.specs.declared.rule.Rule.{Rule}
@@ -23,9 +23,9 @@ abbrev pub stop_text : Bool → List ℕ
 stop_text true = codes "stopped"
 stop_text false = codes "not stopped"
 
-abbrev pub shown_text : Option Move → List ℕ
-shown_text None = codes "none"
-shown_text (Some m) = text_of m
+abbrev pub shown_move_text : Option Move → List ℕ
+shown_move_text None = codes "none"
+shown_move_text (Some m) = text_of_move m
 
 -- `search K: KIND, from line A`
 abbrev pub begun_text : Search → List ℕ
@@ -34,14 +34,14 @@ begun_text s =
     ++ decimal s.begun
 
 -- `, END, STOP, M`
-abbrev pub ended_text : Search → List ℕ
-ended_text s =
+abbrev pub search_end_text : Search → List ℕ
+search_end_text s =
     codes ", " ++ end_text s.ended ++ codes ", " ++ stop_text s.stopped ++ codes ", "
-    ++ shown_text s.shown ++ line_feed ∷ []
+    ++ shown_move_text s.shown ++ line_feed ∷ []
 
 -- `search K: KIND, from line A, END, STOP, M`
 abbrev pub search_line : Search → List ℕ
-search_line s = begun_text s ++ ended_text s
+search_line s = begun_text s ++ search_end_text s
 
 -- the line of a search, if there is one
 abbrev pub search_report : Option Search → List ℕ

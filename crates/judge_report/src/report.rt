@@ -2,22 +2,22 @@
 ghost use Rattle.std.specs.Prelude.{◌≡◌, ◌+◌, ◌≤◌, [], length, IfSome};
 ghost use Rattle.line_io.specs.Lines.{Whole, TooLong};
 ghost use Rattle.line_io.specs.Out.{with};
-ghost use Rattle.session_judge.specs.Talks.{opening};
+ghost use Rattle.session_judge.specs.Talks.{opening_judgement};
 ghost use Rattle.session_judge.specs.Rules.{broken};
-ghost use Rattle.judge_report.specs.Reads.{Ends, Reads, Stands};
-ghost use Rattle.line_scribe.specs.Putting.{IsOfLine};
-ghost use Rattle.judge_report.specs.Reports.{brought_out, is_passed, kind_of, last_lines, of_deed, of_kind};
+ghost use Rattle.judge_report.specs.Reads.{ReportEnds, ReportReads, ReportSoFar};
+ghost use Rattle.line_command.specs.Putting.{IsOfLine};
+ghost use Rattle.judge_report.specs.Reports.{brought_out, is_passed, kind_of_log_line, last_lines, of_dialogue_event, of_kind};
 ghost use Rattle.judge_report.specs.declared.report.TheConstants.{LAST_LINES};
 
 use crate::text::{put_lawful, put_refusal, put_search};
+use line_command::{Ending, LineFilter};
 use line_io::Out;
-use line_scribe::{Ending, Scribe};
 use script_lines::{read_header, read_mark, read_step};
-use session_judge::{Deed, Judge, Listener, OrderKind, Search};
+use session_judge::{DialogueEvent, Judge, Listener, OrderKind, Search};
 use std::alloc::Global;
 use std::marker::Model;
 
-/// How many bytes are put for a line, or last, at most.
+/// The greatest number of bytes that are put for a line, or last.
 pub const LAST_LINES: usize = 300;
 
 /// Reports on the lines of a log: what the judge found is put as text.
@@ -35,12 +35,12 @@ impl Model for Report {
 }
 
 // Puts the line of the search before, if a `go` begins another.
-fn put_brought_out(before: Option<Search>, deed: &Deed, text: &mut Out)
+fn put_brought_out(before: Option<Search>, dialogue_event: &DialogueEvent, text: &mut Out)
     requires { length text.old.text + LAST_LINES ≤ text.old.room }
-    ensures { text.new ≡ with text.old (brought_out before deed.now) }
+    ensures { text.new ≡ with text.old (brought_out before dialogue_event.now) }
 {
-    match deed {
-        Deed::Writes(OrderKind::Go(_)) => put_search(before, text),
+    match dialogue_event {
+        DialogueEvent::Writes(OrderKind::Go(_)) => put_search(before, text),
         _ => text.put(b""),
     }
 }
@@ -55,8 +55,8 @@ fn is_passed(number: u64, line: &[u8]) -> bool
 impl Report {
     /// The report on a log that this one wrote. No line was read yet.
     pub fn new(alloc: Global, listener: Listener) -> Report
-        ensures opening { result ≡ opening listener }
-        ensures stands { Stands listener [] result [] }
+        ensures opening { result ≡ opening_judgement listener }
+        ensures stands { ReportSoFar listener [] result [] }
     {
         Report {
             judge: Judge::new(alloc, listener),
@@ -64,20 +64,28 @@ impl Report {
     }
 
     // Hears what a mark is, and puts what comes of it.
-    fn hear(&mut self, number: u64, deed: &Deed, text: &mut Out) -> Option<Ending>
+    fn hear(
+        &mut self,
+        number: u64,
+        dialogue_event: &DialogueEvent,
+        text: &mut Out,
+    ) -> Option<Ending>
         requires { length text.old.text + LAST_LINES ≤ text.old.room }
         ensures ending { result
-            ≡ (of_deed self.old number deed.now (broken self.old deed.now)).ending }
+            ≡ (of_dialogue_event self.old number dialogue_event.now (broken self.old
+            dialogue_event.now)).ending }
         ensures talk { self.new
-            ≡ (of_deed self.old number deed.now (broken self.old deed.now)).talk }
+            ≡ (of_dialogue_event self.old number dialogue_event.now (broken self.old
+            dialogue_event.now)).talk }
         ensures put { text.new ≡ with text.old
-            (of_deed self.old number deed.now (broken self.old deed.now)).more }
+            (of_dialogue_event self.old number dialogue_event.now (broken self.old
+            dialogue_event.now)).more }
         ensures of_line { IfSome result (λ ending. IsOfLine ending) }
     {
         let before = self.judge.search();
-        match self.judge.hear_deed(number, deed) {
+        match self.judge.hear_dialogue_event(number, dialogue_event) {
             Ok(()) => {
-                put_brought_out(before, deed, text);
+                put_brought_out(before, dialogue_event, text);
                 None
             }
             Err(rule) => {
@@ -91,16 +99,17 @@ impl Report {
     fn take(&mut self, number: u64, line: &[u8], text: &mut Out) -> Option<Ending>
         requires { length text.old.text + LAST_LINES ≤ text.old.room }
         ensures ending { result
-            ≡ (of_kind self.old number (kind_of number (Whole line.now))).ending }
-        ensures talk { self.new ≡ (of_kind self.old number (kind_of number (Whole line.now))).talk }
+            ≡ (of_kind self.old number (kind_of_log_line number (Whole line.now))).ending }
+        ensures talk { self.new ≡ (of_kind self.old number (kind_of_log_line number (Whole
+            line.now))).talk }
         ensures put { text.new ≡ with text.old
-            (of_kind self.old number (kind_of number (Whole line.now))).more }
+            (of_kind self.old number (kind_of_log_line number (Whole line.now))).more }
         ensures of_line { IfSome result (λ ending. IsOfLine ending) }
     {
         match read_mark(line) {
             Ok(mark) => {
-                let deed = self.judge.deed_of(&mark);
-                self.hear(number, &deed, text)
+                let dialogue_event = self.judge.dialogue_event_of(&mark);
+                self.hear(number, &dialogue_event, text)
             }
             Err(_) if is_passed(number, line) => None,
             Err(_) => Some(Ending::NoMark(number)),
@@ -112,7 +121,7 @@ impl Report {
     pub fn read_line(&mut self, number: u64, line: &[u8], text: &mut Out) -> Option<Ending>
         requires { length text.old.text + LAST_LINES ≤ text.old.room }
         ensures of_line { IfSome result (λ ending. IsOfLine ending) }
-        ensures reads { Reads number (Whole line.now) result
+        ensures reads { ReportReads number (Whole line.now) result
             self.old self.new text.old text.new }
     {
         self.take(number, line, text)
@@ -122,13 +131,13 @@ impl Report {
     pub fn read_long(&mut self, number: u64, text: &mut Out) -> Option<Ending>
         requires { length text.old.text + LAST_LINES ≤ text.old.room }
         ensures of_line { IfSome result (λ ending. IsOfLine ending) }
-        ensures reads { Reads number TooLong result self.old self.new text.old text.new }
+        ensures reads { ReportReads number TooLong result self.old self.new text.old text.new }
     {
         text.put(b"");
         Some(Ending::NoMark(number))
     }
 
-    // What comes last.
+    // The last text.
     fn close(&self, ending: Ending, text: &mut Out)
         requires { length text.old.text + LAST_LINES ≤ text.old.room }
         ensures { text.new ≡ with text.old (last_lines self.now ending) }
@@ -143,13 +152,13 @@ impl Report {
     /// the talk is lawful, if all of the log was read.
     pub fn put_last(&self, ending: Ending, text: &mut Out)
         requires { length text.old.text + LAST_LINES ≤ text.old.room }
-        ensures { Ends ending self.now text.old text.new }
+        ensures { ReportEnds ending self.now text.old text.new }
     {
         self.close(ending, text);
     }
 }
 
-impl Scribe for Report {
+impl LineFilter for Report {
     ghost use Rattle.judge_report.specs.Judging.{judges};
 
     ghost means = { judges };

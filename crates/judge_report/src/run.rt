@@ -1,12 +1,12 @@
 // The run of a judge over an input.
 ghost use Rattle.std.specs.Prelude.{◌≡◌};
-ghost use Rattle.line_scribe.specs.Diagnostics.{code_of};
-ghost use Rattle.line_scribe.specs.Streams.{streams};
+ghost use Rattle.line_command.specs.Diagnostics.{command_status};
+ghost use Rattle.line_command.specs.Streams.{filter_streams};
 ghost use Rattle.judge_report.specs.Judged.{Judged};
 
 use crate::report::Report;
+use line_command::{Ending, run_filter};
 use line_io::{Sink, Source};
-use line_scribe::{Ending, run_scribe};
 use session_judge::Listener;
 use std::alloc::Global;
 
@@ -21,8 +21,9 @@ pub fn run_judge<I: Source, O: Sink, D: Sink>(
     diag: &mut D,
 ) -> Ending
     ensures { Judged listener ((input.new ≡ input.old) × (output.new ≡ output.old))
-        (streams (I.state input.old) (O.state output.old) (D.state diag.old))
-        (streams (I.state input.new) (O.state output.new) (D.state diag.new)) (code_of result) }
+        (filter_streams (I.state input.old) (O.state output.old) (D.state diag.old))
+        (filter_streams (I.state input.new) (O.state output.new) (D.state diag.new))
+        (command_status result) }
 {
-    run_scribe(alloc, Report::new(alloc, listener), input, output, diag)
+    run_filter(alloc, Report::new(alloc, listener), input, output, diag)
 }

@@ -1,9 +1,9 @@
 // The lines of a report.
 ghost use Rattle.std.specs.Prelude.{◌≡◌, ◌+◌, ◌≤◌, ◌++◌, decimal, length};
 ghost use Rattle.line_io.specs.Out.{with};
-ghost use Rattle.chess_board.specs.Text.{promotion_text, text_of};
+ghost use Rattle.chess_board.specs.Text.{promotion_text, text_of_move};
 ghost use Rattle.judge_report.specs.Reports.{report_before_end};
-ghost use Rattle.judge_report.specs.Texts.{begun_text, count_line, crossings_line, end_text, ended_text, kind_text, lawful_line, rule_text, search_report, shown_text, stop_text, unlawful_line};
+ghost use Rattle.judge_report.specs.Texts.{begun_text, count_line, crossings_line, end_text, search_end_text, kind_text, lawful_line, rule_text, search_report, shown_move_text, stop_text, unlawful_line};
 ghost use Rattle.judge_report.specs.declared.report.TheConstants.{LAST_LINES};
 
 use chess_board::{Kind, Move};
@@ -33,12 +33,12 @@ fn kind_text(kind: GoKind) -> &'static [u8]
     }
 }
 
-/// The letter of the man that a pawn becomes.
-fn letter_of(man: Option<Kind>) -> &'static [u8]
-    ensures text { result.now ≡ promotion_text man }
+/// The letter of the piece that a pawn becomes.
+fn letter_of(occupant: Option<Kind>) -> &'static [u8]
+    ensures text { result.now ≡ promotion_text occupant }
     ensures short { length result.now ≤ 1 }
 {
-    match man {
+    match occupant {
         Some(Kind::Queen) => b"q",
         Some(Kind::Rook) => b"r",
         Some(Kind::Bishop) => b"b",
@@ -49,7 +49,7 @@ fn letter_of(man: Option<Kind>) -> &'static [u8]
 
 fn put_move(m: Move, out: &mut Out)
     requires { length out.old.text + 5 ≤ out.old.room }
-    ensures text { out.new ≡ with out.old (text_of m) }
+    ensures text { out.new ≡ with out.old (text_of_move m) }
     ensures short { length out.new.text ≤ length out.old.text + 5 }
 {
     let squares = [
@@ -82,7 +82,7 @@ fn stop_text(stopped: bool) -> &'static [u8]
 
 fn put_shown(shown: Option<Move>, out: &mut Out)
     requires { length out.old.text + 5 ≤ out.old.room }
-    ensures text { out.new ≡ with out.old (shown_text shown) }
+    ensures text { out.new ≡ with out.old (shown_move_text shown) }
     ensures short { length out.new.text ≤ length out.old.text + 5 }
 {
     match shown {
@@ -106,7 +106,7 @@ fn put_begun(search: &Search, out: &mut Out)
 // `, END, STOP, M` and the line feed
 fn put_ended(search: &Search, out: &mut Out)
     requires { length out.old.text + 60 ≤ out.old.room }
-    ensures text { out.new ≡ with out.old (ended_text search.now) }
+    ensures text { out.new ≡ with out.old (search_end_text search.now) }
     ensures short { length out.new.text ≤ length out.old.text + 60 }
 {
     out.put(b", ");

@@ -1,24 +1,24 @@
--- What one call of the reader of lines makes of the taking of lines.
+-- The effect of one call of the reader of lines on the taking of lines.
 use Rattle.std.proofs.Common.{◌≡◌, ℕ, suc, ◌+◌, ◌≤◌, ◌<◌, ◌^◌, List, [], ◌∷◌, ◌++◌, length, true, false, Bool, not, Option, Some, None, IfSome, Result, Ok, Err, IsTrue, refl, ap, sym, subst, ◌∙◌, append-nil, length-append, arith, inr}
 use Rattle.std.specs.Io.KnownBytes.{Consumes, IsAtEnd}
 use Rattle.std.proofs.KnownBytes.{Appends-trans, Consumes-trans, Appends-nil, Consumes-nil}
 use Rattle.line_io.specs.Causes.{Rose}
-use Rattle.line_io.specs.Lines.{Piece, Held, Given, Gave, NotYet, Advances, Reads, EndsAt, IsWaiting, empty_reader, flag, rest}
+use Rattle.line_io.specs.Lines.{Piece, Held, ReadGave, Gave, NotYet, ReaderAdvances, SourceGave, NothingIsLeftAtEnd, IsWaiting, empty_reader, flag, lines_to_come}
 use Rattle.line_io.specs.Lending.{outcome, AnswersWhen}
-use Rattle.line_io.specs.Runs.{Runs, begins, goes, Call, goes_on, pieces_of}
+use Rattle.line_io.specs.Runs.{SourceCalls, begins, goes, Call, reading_goes_on, lines_given}
 use Rattle.line_io.specs.Source.{Supplied}
-use Rattle.line_io.specs.Takers.{Meaning}
-use Rattle.line_io.specs.Taken.{Place, place, IsOver, Taken}
-use Rattle.line_io.specs.Turns.{Course, Reached, Drained, work}
+use Rattle.line_io.specs.LineConsumers.{ConsumerMeaning}
+use Rattle.line_io.specs.Taken.{Place, reading_place, IsOver, Taken}
+use Rattle.line_io.specs.Turns.{ReadingCourse, ConsumerReached, HasNoWholeLine, work}
 use Rattle.line_io.proofs.Runs.{so_far, at_end, at_fault, at_wait, few_calls}
 use Rattle.line_io.specs.declared.lines.Item.{Item}
 use Rattle.line_io.specs.declared.lines.Item.TheVariants as answers
 use Rattle.line_io.specs.declared.faults.ReadFault.{ReadFault}
-use Rattle.line_io.specs.declared.taker.LinesEnd.TheVariants as ends
+use Rattle.line_io.specs.declared.consumer.LinesEnd.TheVariants as ends
 
 -- what a call of `next` says
 abbrev pub Next : Held → Held → Supplied → Supplied → Result Item ReadFault → Type 0
-Next old new input input' r = (got : List ℕ) × Reads input input' got × Advances old new got (outcome r) × EndsAt old new input'.left × AnswersWhen old new got r
+Next old new input input' r = (got : List ℕ) × SourceGave input input' got × ReaderAdvances old new got (outcome r) × NothingIsLeftAtEnd old new input'.left × AnswersWhen old new got r
 
 pub next_is : (old new : Held) (input input' : Supplied) (r r' : Result Item ReadFault) → r ≡ r' → Next old new input input' r → Next old new input input' r'
 next_is old new input input' r r' e h = subst (λ (x : Result Item ReadFault). Next old new input input' x) e h
@@ -26,7 +26,7 @@ next_is old new input input' r r' e h = subst (λ (x : Result Item ReadFault). N
 call_of : (old new : Held) (input input' : Supplied) (r : Result Item ReadFault) (n : Next old new input input' r) → Call old new n.0 r
 call_of old new input input' r n = record { advances = n.2; answers = n.4 }
 
-gave_more : (a b c : Supplied) (bs cs : List ℕ) → Reads a b bs → Reads b c cs → Reads a c (bs ++ cs)
+gave_more : (a b c : Supplied) (bs cs : List ℕ) → SourceGave a b bs → SourceGave b c cs → SourceGave a c (bs ++ cs)
 gave_more a b c bs cs g h = record {
   given = Appends-trans a.given b.given c.given bs cs g.given h.given;
   left = Consumes-trans a.left b.left c.left bs cs g.left h.left;
@@ -43,45 +43,45 @@ pub over_now : (a b : Option (List ℕ)) → IsAtEnd b → IfSome a (λ _. IsAtE
 over_now None b h = tt
 over_now (Some x) b h = h
 
-over_by : (ended : Bool) (old new : Held) (input0 input input' : Supplied) (r : Result Item ReadFault) (n : Next old new input input' r) (heard : List ℕ) → old.ended ≡ ended → Reads input0 input heard → (old.ended ≡ true → IsOver input0 input) → new.ended ≡ true → IsOver input0 input'
+over_by : (ended : Bool) (old new : Held) (input0 input input' : Supplied) (r : Result Item ReadFault) (n : Next old new input input' r) (heard : List ℕ) → old.ended ≡ ended → SourceGave input0 input heard → (old.ended ≡ true → IsOver input0 input) → new.ended ≡ true → IsOver input0 input'
 over_by true old new input0 input input' r n heard o g was e = over_kept input0.left input.left input'.left heard n.0 (was o) g.left (n.2.idle (inr o)) n.1.left
 over_by false old new input0 input input' r n heard o g was e = over_now input0.left input'.left (n.3 (o, e))
 
 -- one call more
-course_more : (limit : ℕ) (old new : Held) (given : List ℕ) (pieces : List Piece) (input0 input input' : Supplied) (calls : ℕ) (r : Result Item ReadFault) (g : Given)
-    → outcome r ≡ g → IsTrue (goes_on r) → input'.faults ≡ input.faults → (n : Next old new input input' r) → Course limit old given pieces input0 input calls
-    → Course limit new (given ++ n.0) (pieces ++ pieces_of g) input0 input' (suc calls)
+course_more : (limit : ℕ) (old new : Held) (given : List ℕ) (pieces : List Piece) (input0 input input' : Supplied) (calls : ℕ) (r : Result Item ReadFault) (g : ReadGave)
+    → outcome r ≡ g → IsTrue (reading_goes_on r) → input'.faults ≡ input.faults → (n : Next old new input input' r) → ReadingCourse limit old given pieces input0 input calls
+    → ReadingCourse limit new (given ++ n.0) (pieces ++ lines_given g) input0 input' (suc calls)
 course_more limit old new given pieces input0 input input' calls r g is on same n c = record {
   gave = gave_more input0 input input' given n.0 c.gave n.1;
-  runs = subst (λ (x : Given). Runs limit new (given ++ n.0) (pieces ++ pieces_of x) (suc calls)) is (goes c.runs (call_of old new input input' r n) on);
+  runs = subst (λ (x : ReadGave). SourceCalls limit new (given ++ n.0) (pieces ++ lines_given x) (suc calls)) is (goes c.runs (call_of old new input input' r n) on);
   at_end = over_by old.ended old new input0 input input' r n given refl c.gave c.at_end;
   no_fault = same ∙ c.no_fault;
 }
 
--- the taker took what came
-pub went_on : {S O X : Type 0} (means : Meaning S O X) (limit : ℕ) (first now later : Place S O) (old new : Held) (calls number number' : ℕ) (r : Result Item ReadFault) (g : Given)
-    → outcome r ≡ g → IsTrue (goes_on r) → later.input.faults ≡ now.input.faults → Next old new now.input later.input r
-    → (h : Reached means limit first now old calls number) → number' ≡ number + length (pieces_of g)
-    → means.took first.taker first.output (h.pieces ++ pieces_of g) later.taker later.output → Reached means limit first later new (suc calls) number'
+-- the consumer took what came
+pub went_on : {S O X : Type 0} (means : ConsumerMeaning S O X) (limit : ℕ) (first now later : Place S O) (old new : Held) (calls number number' : ℕ) (r : Result Item ReadFault) (g : ReadGave)
+    → outcome r ≡ g → IsTrue (reading_goes_on r) → later.input.faults ≡ now.input.faults → Next old new now.input later.input r
+    → (h : ConsumerReached means limit first now old calls number) → number' ≡ number + length (lines_given g)
+    → means.took first.consumer first.output (h.pieces ++ lines_given g) later.consumer later.output → ConsumerReached means limit first later new (suc calls) number'
 went_on means limit first now later old new calls number number' r g is on same n h counts took = record {
   given = h.given ++ n.0;
-  pieces = h.pieces ++ pieces_of g;
+  pieces = h.pieces ++ lines_given g;
   course = course_more limit old new h.given h.pieces first.input now.input later.input calls r g is on same n h.course;
-  count = counts ∙ omega (arith, h.count, length-append h.pieces (pieces_of g));
+  count = counts ∙ omega (arith, h.count, length-append h.pieces (lines_given g));
   took = took;
 }
 
 -- no line came
-pub none_came : {S O X : Type 0} (means : Meaning S O X) (limit : ℕ) (first now : Place S O) (input : Supplied) (old new : Held) (calls number : ℕ)
+pub none_came : {S O X : Type 0} (means : ConsumerMeaning S O X) (limit : ℕ) (first now : Place S O) (input : Supplied) (old new : Held) (calls number : ℕ)
     → input.faults ≡ now.input.faults → Next old new now.input input (Ok answers.More)
-    → Reached means limit first now old calls number → Reached means limit first (place now.taker now.output input) new (suc calls) number
+    → ConsumerReached means limit first now old calls number → ConsumerReached means limit first (reading_place now.consumer now.output input) new (suc calls) number
 none_came {S} {O} {X} means limit first now input old new calls number same n h =
-    went_on means limit first now (place now.taker now.output input) old new calls number number (Ok answers.More) NotYet refl refl same n h (omega arith)
-    (subst (λ (ps : List Piece). means.took first.taker first.output ps now.taker now.output) (sym (append-nil h.pieces)) h.took)
+    went_on means limit first now (reading_place now.consumer now.output input) old new calls number number (Ok answers.More) NotYet refl refl same n h (omega arith)
+    (subst (λ (ps : List Piece). means.took first.consumer first.output ps now.consumer now.output) (sym (append-nil h.pieces)) h.took)
 
--- the taker stopped
-stops_by : {S O X : Type 0} (means : Meaning S O X) (limit : ℕ) (first now : Place S O) (held : Held) (given : List ℕ) (pieces : List Piece) (calls : ℕ) (stop : X)
-    → Course limit held given pieces first.input now.input calls → length pieces + 1 < 2 ^ 64 → means.stopped first.taker first.output pieces stop now.taker now.output
+-- the consumer stopped
+stops_by : {S O X : Type 0} (means : ConsumerMeaning S O X) (limit : ℕ) (first now : Place S O) (held : Held) (given : List ℕ) (pieces : List Piece) (calls : ℕ) (stop : X)
+    → ReadingCourse limit held given pieces first.input now.input calls → length pieces + 1 < 2 ^ 64 → means.stopped first.consumer first.output pieces stop now.consumer now.output
     → Taken means limit (ends.Stopped stop) first now
 stops_by means limit first now held given pieces calls stop c few stopped = record {
   given = given;
@@ -91,33 +91,33 @@ stops_by means limit first now held given pieces calls stop c few stopped = reco
   ends = record {
     stopped = stopped;
     ended = held.ended;
-    front = λ left live. (rest held left, so_far limit calls held given left pieces c.runs live);
+    prefix = λ left live. (lines_to_come held left, so_far limit calls held given left pieces c.runs live);
     at_end = c.at_end;
     no_fault = c.no_fault;
   };
 }
 
 -- where it was to write: nothing was read since
-pub stopped_before : {S O X : Type 0} (means : Meaning S O X) (limit : ℕ) (first now : Place S O) (s : S) (o : O) (held : Held) (calls number : ℕ) (stop : X)
-    → number + 2 < 2 ^ 64 → (h : Reached means limit first now held calls number) → means.stopped first.taker first.output h.pieces stop s o
-    → Taken means limit (ends.Stopped stop) first (place s o now.input)
+pub stopped_before : {S O X : Type 0} (means : ConsumerMeaning S O X) (limit : ℕ) (first now : Place S O) (s : S) (o : O) (held : Held) (calls number : ℕ) (stop : X)
+    → number + 2 < 2 ^ 64 → (h : ConsumerReached means limit first now held calls number) → means.stopped first.consumer first.output h.pieces stop s o
+    → Taken means limit (ends.Stopped stop) first (reading_place s o now.input)
 stopped_before means limit first now s o held calls number stop few h stopped =
-    stops_by means limit first (place s o now.input) held h.given h.pieces calls stop h.course (omega (arith, h.count)) stopped
+    stops_by means limit first (reading_place s o now.input) held h.given h.pieces calls stop h.course (omega (arith, h.count)) stopped
 
 -- at a line
-pub stopped_at : {S O X : Type 0} (means : Meaning S O X) (limit : ℕ) (first now later : Place S O) (old new : Held) (calls number : ℕ) (r : Result Item ReadFault) (piece : Piece) (stop : X)
-    → outcome r ≡ Gave piece → IsTrue (goes_on r) → later.input.faults ≡ now.input.faults → Next old new now.input later.input r
-    → number + 2 < 2 ^ 64 → (h : Reached means limit first now old calls number)
-    → means.stopped first.taker first.output (h.pieces ++ piece ∷ []) stop later.taker later.output → Taken means limit (ends.Stopped stop) first later
+pub stopped_at : {S O X : Type 0} (means : ConsumerMeaning S O X) (limit : ℕ) (first now later : Place S O) (old new : Held) (calls number : ℕ) (r : Result Item ReadFault) (piece : Piece) (stop : X)
+    → outcome r ≡ Gave piece → IsTrue (reading_goes_on r) → later.input.faults ≡ now.input.faults → Next old new now.input later.input r
+    → number + 2 < 2 ^ 64 → (h : ConsumerReached means limit first now old calls number)
+    → means.stopped first.consumer first.output (h.pieces ++ piece ∷ []) stop later.consumer later.output → Taken means limit (ends.Stopped stop) first later
 stopped_at means limit first now later old new calls number r piece stop is on same n few h stopped =
     stops_by means limit first later new (h.given ++ n.0) (h.pieces ++ piece ∷ []) (suc calls) stop
     (course_more limit old new h.given h.pieces first.input now.input later.input calls r (Gave piece) is on same n h.course)
     (omega (arith, h.count, length-append h.pieces (piece ∷ []))) stopped
 
 -- the end
-pub ended_all : {S O X : Type 0} (means : Meaning S O X) (limit : ℕ) (first now : Place S O) (input : Supplied) (old new : Held) (calls number : ℕ)
+pub ended_all : {S O X : Type 0} (means : ConsumerMeaning S O X) (limit : ℕ) (first now : Place S O) (input : Supplied) (old new : Held) (calls number : ℕ)
     → input.faults ≡ now.input.faults → Next old new now.input input (Ok answers.End) → number + 2 < 2 ^ 64
-    → Reached means limit first now old calls number → Taken means limit ends.Ended first (place now.taker now.output input)
+    → ConsumerReached means limit first now old calls number → Taken means limit ends.Ended first (reading_place now.consumer now.output input)
 ended_all means limit first now input old new calls number same n few h =
     let r : Result Item ReadFault = Ok answers.End in
     record {
@@ -134,9 +134,9 @@ ended_all means limit first now input old new calls number same n few h =
     }
 
 -- a read failed
-pub read_failed : {S O X : Type 0} (means : Meaning S O X) (limit : ℕ) (first now : Place S O) (input : Supplied) (old new : Held) (calls number : ℕ) (fault : ReadFault)
-    → Rose now.input.faults input.faults → (IsWaiting old → means.is_written now.taker) → Next old new now.input input (Err fault) → number + 2 < 2 ^ 64
-    → Reached means limit first now old calls number → Taken means limit ends.ReadFailed first (place now.taker now.output input)
+pub read_failed : {S O X : Type 0} (means : ConsumerMeaning S O X) (limit : ℕ) (first now : Place S O) (input : Supplied) (old new : Held) (calls number : ℕ) (fault : ReadFault)
+    → Rose now.input.faults input.faults → (IsWaiting old → means.is_written now.consumer) → Next old new now.input input (Err fault) → number + 2 < 2 ^ 64
+    → ConsumerReached means limit first now old calls number → Taken means limit ends.ReadFailed first (reading_place now.consumer now.output input)
 read_failed means limit first now input old new calls number fault rose written n few h =
     let r : Result Item ReadFault = Err fault in
     record {
@@ -153,13 +153,13 @@ read_failed means limit first now input old new calls number fault rose written 
     }
 
 -- before the first call
-pub reached_first : {S O X : Type 0} (means : Meaning S O X) (limit : ℕ) (held : Held) (first : Place S O) → held ≡ empty_reader limit → means.took first.taker first.output [] first.taker first.output → Reached means limit first first held 0 0
+pub reached_first : {S O X : Type 0} (means : ConsumerMeaning S O X) (limit : ℕ) (held : Held) (first : Place S O) → held ≡ empty_reader limit → means.took first.consumer first.output [] first.consumer first.output → ConsumerReached means limit first first held 0 0
 reached_first means limit held first fresh took = record {
   given = [];
   pieces = [];
   course = record {
     gave = record { given = Appends-nil first.input.given; left = Consumes-nil first.input.left };
-    runs = subst (λ (x : Held). Runs limit x [] [] 0) (sym fresh) begins;
+    runs = subst (λ (x : Held). SourceCalls limit x [] [] 0) (sym fresh) begins;
     at_end = λ e. cc;
     no_fault = refl;
   };
@@ -168,8 +168,8 @@ reached_first means limit held first fresh took = record {
 }
 
 -- after so many calls
-pub endless : {S O X : Type 0} (means : Meaning S O X) (limit : ℕ) (first now : Place S O) (held : Held) (calls number : ℕ)
-    → 8589934593 ≤ calls → number + 2 < 2 ^ 64 → Drained means limit None first now held calls number → Taken means limit ends.Endless first now
+pub endless : {S O X : Type 0} (means : ConsumerMeaning S O X) (limit : ℕ) (first now : Place S O) (held : Held) (calls number : ℕ)
+    → 8589934593 ≤ calls → number + 2 < 2 ^ 64 → HasNoWholeLine means limit None first now held calls number → Taken means limit ends.Endless first now
 endless means limit first now held calls number many fits d =
     let h = d.1.2 in
     let open_still : flag held.ended ≡ 0 = ap flag d.0.1 in

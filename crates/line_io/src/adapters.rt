@@ -11,11 +11,11 @@ pub struct ReadAdapter<R> {
 
 impl<R> ReadAdapter<R> {
     ghost use Rattle.std.specs.Prelude.{◌≡◌};
-    ghost use Rattle.line_io.specs.Adapters.{read_faults};
+    ghost use Rattle.line_io.specs.Adapters.{reader_faults};
 
     /// Over a reader, with no fault counted.
     pub fn new(reader: R) -> ReadAdapter<R>
-        ensures none { read_faults result ≡ 0 }
+        ensures none { reader_faults result ≡ 0 }
         ensures inner { result.inner ≡ reader }
     {
         ReadAdapter {
@@ -24,9 +24,9 @@ impl<R> ReadAdapter<R> {
         }
     }
 
-    /// How many reads failed. The count stays at the last value of its type.
+    /// The count of failed reads. It stays at the last value of its type.
     pub fn faults(&self) -> u64
-        ensures { result ≡ read_faults self.now }
+        ensures { result ≡ reader_faults self.now }
     {
         self.faults
     }
@@ -34,12 +34,12 @@ impl<R> ReadAdapter<R> {
 
 impl<R: Read> Source for ReadAdapter<R> {
     ghost use Rattle.std.specs.Prelude.{None};
-    ghost use Rattle.line_io.specs.Adapters.{read_faults};
+    ghost use Rattle.line_io.specs.Adapters.{reader_faults};
 
     ghost state = { λ s. record {
       given = None;
       left = R.remaining s.inner;
-      faults = read_faults s;
+      faults = reader_faults s;
     } };
 
     fn read(&mut self, buf: &mut [u8]) -> Result<usize, Failed> {
@@ -63,11 +63,11 @@ pub struct WriteAdapter<W> {
 
 impl<W> WriteAdapter<W> {
     ghost use Rattle.std.specs.Prelude.{◌≡◌};
-    ghost use Rattle.line_io.specs.Adapters.{write_faults};
+    ghost use Rattle.line_io.specs.Adapters.{writer_faults};
 
     /// Over a writer, with no fault counted.
     pub fn new(writer: W) -> WriteAdapter<W>
-        ensures none { write_faults result ≡ 0 }
+        ensures none { writer_faults result ≡ 0 }
         ensures inner { result.inner ≡ writer }
     {
         WriteAdapter {
@@ -76,18 +76,18 @@ impl<W> WriteAdapter<W> {
         }
     }
 
-    /// How many writes failed or took nothing. The count stays at the last value of its type.
+    /// The count of writes that failed or took nothing. It stays at the last value of its type.
     pub fn faults(&self) -> u64
-        ensures { result ≡ write_faults self.now }
+        ensures { result ≡ writer_faults self.now }
     {
         self.faults
     }
 }
 
 impl<W: Write> Sink for WriteAdapter<W> {
-    ghost use Rattle.line_io.specs.Adapters.{write_faults};
+    ghost use Rattle.line_io.specs.Adapters.{writer_faults};
 
-    ghost state = { λ s. record { taken = W.contents s.inner; faults = write_faults s } };
+    ghost state = { λ s. record { taken = W.contents s.inner; faults = writer_faults s } };
 
     fn write(&mut self, piece: &[u8]) -> Result<usize, Failed> {
         match self.inner.write(piece) {

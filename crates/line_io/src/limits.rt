@@ -1,4 +1,4 @@
-// How long lines may be, without their line feeds.
+// The greatest lengths of lines, without their line feeds.
 
 /// The longest line of a peer.
 pub const PEER_LINE: usize = 65_536;

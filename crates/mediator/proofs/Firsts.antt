@@ -7,7 +7,7 @@ use Rattle.event_pipe.specs.declared.message.Peer.TheVariants as peers
 use Rattle.event_pipe.specs.declared.reader.ReadEnd.{ReadEnd}
 use Rattle.event_pipe.specs.Rule.{of, has_last_event, sent_by}
 use Rattle.event_pipe.specs.Arrivals.{Arrived, piece_events, line_limit}
-use Rattle.event_pipe.specs.Message.{is_end}
+use Rattle.event_pipe.specs.Message.{is_last_event}
 use Rattle.event_pipe.proofs.Keeps.{of-append}
 use Rattle.event_pipe.proofs.Reading.{any_append}
 use Rattle.mediator.specs.First.{first_events, AreOpening, ArrivedBehind}
@@ -36,7 +36,7 @@ second_true false b h e = e
 -- the interface ends later
 pub iface_later : (first : List ℕ) (later : List Event) → AreOpening first → has_last_event (sent_by peers.Iface (first_events first ++ later)) ≡ true → has_last_event (sent_by peers.Iface later) ≡ true
 iface_later first later opening e =
-    second_true (has_last_event (first_events first)) (has_last_event (of 1 later)) opening (sym (any_append is_end (first_events first) (of 1 later)) ∙ ap has_last_event (sym (by_iface first later)) ∙ e)
+    second_true (has_last_event (first_events first)) (has_last_event (of 1 later)) opening (sym (any_append is_last_event (first_events first) (of 1 later)) ∙ ap has_last_event (sym (by_iface first later)) ∙ e)
 
 pub engine_later : (first : List ℕ) (later : List Event) → has_last_event (sent_by peers.Engine (first_events first ++ later)) ≡ true → has_last_event (sent_by peers.Engine later) ≡ true
 engine_later first later e = ap has_last_event (sym (by_engine first later)) ∙ e

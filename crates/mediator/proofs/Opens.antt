@@ -7,20 +7,20 @@ use Rattle.line_io.specs.Out.{Text}
 use Rattle.line_io.specs.Lines.{Piece, Whole, TooLong, is_feed, feed_at, piece_of}
 use Rattle.line_io.proofs.Parts.{items_first}
 use Rattle.event_pipe.specs.declared.message.Peer.TheVariants as peers
-use Rattle.event_pipe.specs.Ends.{KeepsTaker, events_taken}
+use Rattle.event_pipe.specs.Ends.{KeepsReceiver, events_taken}
 use Rattle.event_pipe.specs.declared.pipe.PipeTake.{PipeTake}
-use Rattle.event_pipe.specs.Message.{role_of_event, is_end, is_good}
-use Rattle.event_pipe.specs.Rule.{is_of, of, has_last_event, Follows}
+use Rattle.event_pipe.specs.Message.{role_of_event, is_last_event, is_good}
+use Rattle.event_pipe.specs.Rule.{is_of_role, of, has_last_event, EventMayFollow}
 use Rattle.event_pipe.specs.Arrivals.{piece_event, piece_events, line_limit}
 use Rattle.event_pipe.proofs.Reading.{any_append}
 use Rattle.event_pipe.proofs.Roles.{more_ended}
-use Rattle.host_run.specs.declared.offering.LoopEnd.{LoopEnd}
-use Rattle.host_run.specs.Streams.{Sinks}
+use Rattle.program_lifecycle.specs.declared.offering.LoopEnd.{LoopEnd}
+use Rattle.program_lifecycle.specs.Streams.{Sinks}
 use Rattle.mediator.specs.declared.looping.Sides.{Sides}
-use Rattle.mediator.specs.Meaning.{Meaning, Opens, Allows}
+use Rattle.mediator.specs.Meaning.{MediatorMeaning, Opens, Allows}
 use Rattle.mediator.specs.First.{first_events, AreOpening}
 use Rattle.mediator.specs.Looped.{Looped}
-use Rattle.mediator.specs.Reached.{AllOffered, Receives, ended_by, Reached, Opened}
+use Rattle.mediator.specs.Reached.{AllOffered, Receives, sides_ended_by, MediatorReached, Opened}
 use Rattle.mediator.proofs.Loops.{or_parts, neither, any_filter, none_failed, none_ended, reached_first, after_received, looped}
 
 -- THE FIRST LINE
@@ -74,13 +74,13 @@ none_left rest empty e h = nil_is rest (is_zero (length rest) (sym e ∙ h))
 
 -- WHAT CAME SO FAR
 
-front_going : (xs ys zs : List Event) → xs ++ ys ≡ zs → has_last_event zs ≡ false → has_last_event xs ≡ false
-front_going xs ys zs e h = (or_parts (has_last_event xs) (has_last_event ys) (sym (any_append is_end xs ys) ∙ ap has_last_event e ∙ h)).0
+prefix_going : (xs ys zs : List Event) → xs ++ ys ≡ zs → has_last_event zs ≡ false → has_last_event xs ≡ false
+prefix_going xs ys zs e h = (or_parts (has_last_event xs) (has_last_event ys) (sym (any_append is_last_event xs ys) ∙ ap has_last_event e ∙ h)).0
 
-behind_first : (first taken : List Event) (t : Event) → has_last_event first ≡ false → Follows taken t → Follows (first ++ taken) t
-behind_first first taken t going f = (more_ended (role_of_event t) first taken ∙ neither _ _ (any_filter is_end (is_of (role_of_event t)) first going) f.0, f.1, f.2)
+behind_first : (first taken : List Event) (t : Event) → has_last_event first ≡ false → EventMayFollow taken t → EventMayFollow (first ++ taken) t
+behind_first first taken t going f = (more_ended (role_of_event t) first taken ∙ neither _ _ (any_filter is_last_event (is_of_role (role_of_event t)) first going) f.0, f.1, f.2)
 
-pub opened_first : {M : Type 0} (means : Meaning M) (m0 m : M) (first : List ℕ) (taken : List Event) (held held' : Text) (b a : Sinks) (to : LoopEnd) → held.text ≡ [] → taken ≡ []
+pub opened_first : {M : Type 0} (means : MediatorMeaning M) (m0 m : M) (first : List ℕ) (taken : List Event) (held held' : Text) (b a : Sinks) (to : LoopEnd) → held.text ≡ [] → taken ≡ []
     → Opens means m0 held m held' → AllOffered (means.gave m peers.Iface) (means.gave m peers.Engine) held'.text b a none_failed to → Opened means m0 m first first taken none_ended b a to
 opened_first means m0 m first taken held held' b a to t e o f =
     record {
@@ -90,32 +90,32 @@ opened_first means m0 m first taken held held' b a to t e o f =
       none = λ n. e;
     }
 
--- the taker was left as it was
-pub kept_by : (t0 t t' : PipeTake) → t' ≡ t → KeepsTaker t0 t → KeepsTaker t0 t'
-kept_by t0 t t' e k = subst (λ (x : PipeTake). KeepsTaker t0 x) (sym e) k
+-- the receiving end was left as it was
+pub kept_by : (t0 t t' : PipeTake) → t' ≡ t → KeepsReceiver t0 t → KeepsReceiver t0 t'
+kept_by t0 t t' e k = subst (λ (x : PipeTake). KeepsReceiver t0 x) (sym e) k
 
-pub none_taken : {M : Type 0} (means : Meaning M) (m0 m : M) (first rest : List ℕ) (t t' : PipeTake) (sides : Sides) (b a : Sinks) (at : LoopEnd) → t' ≡ t → Opened means m0 m first rest (events_taken t) sides b a at
+pub none_taken : {M : Type 0} (means : MediatorMeaning M) (m0 m : M) (first rest : List ℕ) (t t' : PipeTake) (sides : Sides) (b a : Sinks) (at : LoopEnd) → t' ≡ t → Opened means m0 m first rest (events_taken t) sides b a at
     → Opened means m0 m first rest (events_taken t') sides b a at
 none_taken means m0 m first rest t t' sides b a at e x = subst (λ (y : PipeTake). Opened means m0 m first rest (events_taken y) sides b a at) (sym e) x
 
-module _ {M : Type 0} (means : Meaning M) (m0 m : M) (first rest : List ℕ) (taken : List Event) (sides : Sides) (b s : Sinks) (at : LoopEnd) (x : Opened means m0 m first rest taken sides b s at) where
-  pub still : (m' : M) (a : Sinks) (to : LoopEnd) → Reached means m0 m' x.events sides b a to → Opened means m0 m' first rest taken sides b a to
+module _ {M : Type 0} (means : MediatorMeaning M) (m0 m : M) (first rest : List ℕ) (taken : List Event) (sides : Sides) (b s : Sinks) (at : LoopEnd) (x : Opened means m0 m first rest taken sides b s at) where
+  pub still : (m' : M) (a : Sinks) (to : LoopEnd) → MediatorReached means m0 m' x.events sides b a to → Opened means m0 m' first rest taken sides b a to
   still m' a to r = record { events = x.events; reached = r; are = x.are; none = x.none }
 
   all_first : rest ≡ [] → x.events ≡ first_events first ++ taken
   all_first empty = sym (append-nil x.events) ∙ ap (λ (l : List ℕ). x.events ++ first_events l) (sym empty) ∙ x.are
 
   module _ (al : Allows means m IfaceLost) (h : (at.output && means.may m IfaceLost) ≡ false) (al' : Allows means m EngineLost) (h' : (at.engine && means.may m EngineLost) ≡ false) where
-    more : (y : Event) → Follows x.events y → Allows means m y → (m' : M) (a : Sinks) (to : LoopEnd) → Receives means y m m' s a at to → (sides' : Sides) → sides' ≡ ended_by sides y
-        → Reached means m0 m' (x.events ++ y ∷ []) sides' b a to
+    more : (y : Event) → EventMayFollow x.events y → Allows means m y → (m' : M) (a : Sinks) (to : LoopEnd) → Receives means y m m' s a at to → (sides' : Sides) → sides' ≡ sides_ended_by sides y
+        → MediatorReached means m0 m' (x.events ++ y ∷ []) sides' b a to
     more y f allows m' a to r sides' e =
-        subst (λ (z : Sides). Reached means m0 m' (x.events ++ y ∷ []) z b a to) (sym e)
+        subst (λ (z : Sides). MediatorReached means m0 m' (x.events ++ y ∷ []) z b a to) (sym e)
         (after_received means m0 m x.events sides b s at x.reached y f allows (x.events ++ y ∷ []) refl m' a to al h al' h' r)
 
     -- the next of the first lines
     pub first_came : AreOpening first → 0 < length rest → (line after : List ℕ) → line ≡ before_first is_feed rest → after ≡ after_first is_feed rest
         → (y : Event) → y ≡ piece_event peers.Iface (piece_of line_limit line) → Allows means m y → (m' : M) (a : Sinks) (to : LoopEnd) → Receives means y m m' s a at to
-        → (sides' : Sides) → sides' ≡ ended_by sides y → Opened means m0 m' first after taken sides' b a to
+        → (sides' : Sides) → sides' ≡ sides_ended_by sides y → Opened means m0 m' first after taken sides' b a to
     first_came opening some line after cut behind y is allows m' a to r sides' e =
         let none = x.none (none_is rest some) in
         let here : first_events rest ≡ y ∷ first_events after =
@@ -123,9 +123,9 @@ module _ {M : Type 0} (means : Meaning M) (m0 m : M) (first rest : List ℕ) (ta
         ∙ ap (λ (l : List ℕ). piece_event peers.Iface (piece_of line_limit line) ∷ first_events l) (sym behind) ∙ ap (λ (z : Event). z ∷ first_events after) (sym is) in
         let split : x.events ++ y ∷ first_events after ≡ first_events first ++ taken = ap (λ (es : List Event). x.events ++ es) (sym here) ∙ x.are in
         let going : has_last_event x.events ≡ false =
-        front_going x.events (y ∷ first_events after) (first_events first) (split ∙ ap (λ (es : List Event). first_events first ++ es) none ∙ append-nil (first_events first)) opening in
-        let follows : Follows x.events y =
-        (any_filter is_end (is_of (role_of_event y)) x.events going, ap is_good is ∙ good_piece line (ap has_feed cut ∙ no_feed rest), λ q. no_own (piece_of line_limit line) (ap role_of_event (sym is) ∙ q)) in
+        prefix_going x.events (y ∷ first_events after) (first_events first) (split ∙ ap (λ (es : List Event). first_events first ++ es) none ∙ append-nil (first_events first)) opening in
+        let follows : EventMayFollow x.events y =
+        (any_filter is_last_event (is_of_role (role_of_event y)) x.events going, ap is_good is ∙ good_piece line (ap has_feed cut ∙ no_feed rest), λ q. no_own (piece_of line_limit line) (ap role_of_event (sym is) ∙ q)) in
         record {
           events = x.events ++ y ∷ [];
           reached = more y follows allows m' a to r sides' e;
@@ -134,12 +134,12 @@ module _ {M : Type 0} (means : Meaning M) (m0 m : M) (first rest : List ℕ) (ta
         }
 
     -- what was taken from the channel, of which the code holds this
-    pub took : AreOpening first → rest ≡ [] → (t : Event) → Follows taken t → (y : Event) → y ≡ t → (taken' : List Event) → taken' ≡ taken ++ t ∷ [] → Allows means m y
-        → (m' : M) (a : Sinks) (to : LoopEnd) → Receives means y m m' s a at to → (sides' : Sides) → sides' ≡ ended_by sides y → Opened means m0 m' first rest taken' sides' b a to
+    pub took : AreOpening first → rest ≡ [] → (t : Event) → EventMayFollow taken t → (y : Event) → y ≡ t → (taken' : List Event) → taken' ≡ taken ++ t ∷ [] → Allows means m y
+        → (m' : M) (a : Sinks) (to : LoopEnd) → Receives means y m m' s a at to → (sides' : Sides) → sides' ≡ sides_ended_by sides y → Opened means m0 m' first rest taken' sides' b a to
     took opening empty t f y is taken' got allows m' a to r sides' e =
         let all = all_first empty in
-        let follows : Follows x.events y =
-        subst (λ (z : Event). Follows x.events z) (sym is) (subst (λ (es : List Event). Follows es t) (sym all) (behind_first (first_events first) taken t opening f)) in
+        let follows : EventMayFollow x.events y =
+        subst (λ (z : Event). EventMayFollow x.events z) (sym is) (subst (λ (es : List Event). EventMayFollow es t) (sym all) (behind_first (first_events first) taken t opening f)) in
         record {
           events = x.events ++ y ∷ [];
           reached = more y follows allows m' a to r sides' e;

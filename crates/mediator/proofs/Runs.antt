@@ -1,22 +1,22 @@
--- What a run leaves.
+-- The result of a run.
 use Rattle.std.proofs.Common.{◌≡◌, ℕ, List, ◌++◌, subst}
 use Rattle.line_io.specs.Event.{Event}
 use Rattle.event_pipe.specs.declared.message.Peer.TheVariants as peers
-use Rattle.event_pipe.specs.Ends.{Came}
+use Rattle.event_pipe.specs.Ends.{CameFromPeer}
 use Rattle.event_pipe.specs.Arrivals.{Arrived}
 use Rattle.event_pipe.proofs.Roles.{all_came}
-use Rattle.host_run.specs.Streams.{Streams}
+use Rattle.program_lifecycle.specs.Streams.{RunStreams}
 use Rattle.mediator.specs.declared.run.RunEnd.{RunEnd}
-use Rattle.mediator.specs.Meaning.{Meaning}
+use Rattle.mediator.specs.Meaning.{MediatorMeaning}
 use Rattle.mediator.specs.First.{first_events, AreOpening}
 use Rattle.mediator.specs.Looped.{Looped}
-use Rattle.mediator.specs.Ran.{Ran}
+use Rattle.mediator.specs.Ran.{MediatorRan}
 use Rattle.mediator.proofs.Firsts.{iface_later, engine_later}
 
-pub ran : {M : Type 0} (means : Meaning M) (m0 m : M) (first : List ℕ) (before after : Streams) (end : RunEnd) (later sent1 sent2 : List Event) → AreOpening first
-    → Looped means m0 m (first_events first ++ later) before.into after.into end.done → Came peers.Iface later sent1 → Came peers.Engine later sent2
+pub ran : {M : Type 0} (means : MediatorMeaning M) (m0 m : M) (first : List ℕ) (before after : RunStreams) (end : RunEnd) (later sent1 sent2 : List Event) → AreOpening first
+    → Looped means m0 m (first_events first ++ later) before.into after.into end.done → CameFromPeer peers.Iface later sent1 → CameFromPeer peers.Engine later sent2
     → Arrived peers.Iface before.input after.input sent1 end.iface → Arrived peers.Engine before.source after.source sent2 end.engine
-    → Ran means m0 m first before after end
+    → MediatorRan means m0 m first before after end
 ran means m0 m first before after end later sent1 sent2 opening looped c1 c2 a1 a2 =
     record {
       later = later;

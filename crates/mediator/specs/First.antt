@@ -19,9 +19,9 @@ AreOpening first = has_last_event (first_events first) ≡ false
 
 -- nothing stands after the last line feed
 abbrev pub AreWholeLines : List ℕ → Type 0
-AreWholeLines bytes = (bytes ≡ []) ⊎ ((front : List ℕ) × (bytes ≡ front ++ line_feed ∷ []))
+AreWholeLines bytes = (bytes ≡ []) ⊎ ((prefix : List ℕ) × (bytes ≡ prefix ++ line_feed ∷ []))
 
--- What arrives of whole first lines and of more bytes is the first lines, and then
+-- The arrivals of whole first lines and of more bytes are the first lines, and then
 -- what arrives of those bytes.
 abbrev pub FirstLinesJoin : Type 0
 FirstLinesJoin = (first got : List ℕ) → AreWholeLines first → AreOpening first

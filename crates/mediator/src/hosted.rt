@@ -1,27 +1,27 @@
 // One run of a mediator over a host.
 ghost use Rattle.std.specs.Prelude.{◌≡◌, ◌<◌, length, map, string_bytes, IfOk, IfErr, OnOk, OnErr};
 ghost use Rattle.child_engine.specs.Asked.{and_engines};
-ghost use Rattle.child_engine.specs.Hosts.{IsUnused, IsStarted, fresh_source, fresh_sink, with_run};
-ghost use Rattle.host_run.specs.Asked.{AsksFor, OpensLogs, engines_asked_by};
-ghost use Rattle.host_run.specs.Early.{AreEarly};
-ghost use Rattle.host_run.specs.Outside.{outside_of};
+ghost use Rattle.child_engine.specs.Hosts.{HostIsUnused, IsStarted, fresh_source, fresh_sink, with_run};
+ghost use Rattle.program_lifecycle.specs.Asked.{AsksFor, OpensLogs, engines_asked_by};
+ghost use Rattle.program_lifecycle.specs.Early.{FailuresAreEarly};
+ghost use Rattle.program_lifecycle.specs.Outside.{outside_of};
 ghost use Rattle.mediator.specs.First.{AreOpening};
-ghost use Rattle.mediator.specs.Ran.{AreReady};
-ghost use Rattle.mediator.specs.Mediated.{Leaves};
+ghost use Rattle.mediator.specs.Ran.{MediatorIsReady};
+ghost use Rattle.mediator.specs.Mediated.{MediatorLeaves};
 
 use crate::hosted_parts::make_parts;
 use crate::{Mediator, MediatorParts, MediatorRun, RunRequest, run_pipes};
 use child_engine::{Host, Started};
-use host_run::{
+use line_io::{Sink, Source};
+use program_lifecycle::{
     Failures, HandedStreams, Interface, Opened, close_log, either, has_failed, has_lacked_memory,
     is_open_failure, is_open_memory, only_memory, open_log, start_engine,
 };
-use line_io::{Sink, Source};
 use std::alloc::Global;
 use std::sync::Wait;
 use std::thread::Threads;
 
-// What a run needs, and the engine that was started.
+// The parts that a run needs, and the engine that was started.
 struct ReadyMediator<M, S, K, P> {
     parts: MediatorParts<M>,
     run: Started<S, K, P>,
@@ -42,17 +42,19 @@ fn run_started<
     interface: &mut Interface<I, O>,
     host: &mut H,
 ) -> Failures
-    requires parts { AreReady M.means ready.parts }
+    requires parts { MediatorIsReady M.means ready.parts }
     requires first { AreOpening request.now.first.now }
-    requires source { H.EngineSource.state ready.run.source ≡ fresh_source (H.books host.old).says }
-    requires sink { H.EngineSink.state ready.run.sink ≡ fresh_sink (H.books host.old).tells }
-    requires books { IsStarted (H.books host.old) }
-    ensures leaves { Leaves M.means ready.parts.turns.mediator request.now.first.now
-        (outside_of I.state O.state H.faults H.books interface.old host.old)
-        (outside_of I.state O.state H.faults H.books interface.new host.new)
+    requires source { H.EngineSource.state ready.run.source ≡ fresh_source (H.ledger
+        host.old).says }
+    requires sink { H.EngineSink.state ready.run.sink ≡ fresh_sink (H.ledger
+        host.old).sinks_report }
+    requires ledger { IsStarted (H.ledger host.old) }
+    ensures leaves { MediatorLeaves M.means ready.parts.turns.mediator request.now.first.now
+        (outside_of I.state O.state H.faults H.ledger interface.old host.old)
+        (outside_of I.state O.state H.faults H.ledger interface.new host.new)
         result }
     ensures asked { OpensLogs request.now.log_name.now (H.asked host.old) (H.asked host.new)
-        (H.books host.old) (H.books host.new) result }
+        (H.ledger host.old) (H.ledger host.new) result }
 {
     let ReadyMediator { parts, run } = ready;
     let Started {
@@ -105,29 +107,30 @@ fn start<M: Mediator + Drop, H: Host, R: Threads>(
     rt: &R,
     alloc: Global,
     mediator: M,
-    words: &[String],
+    arguments: &[String],
     host: &mut H,
 ) -> Result<ReadyMediator<M, H::EngineSource, H::EngineSink, H::EngineProcess>, Failures>
     requires fresh { M.means.fresh mediator }
-    requires words { 0 < length words.now }
-    requires unused { IsUnused (H.books host.old) }
-    ensures parts { IfOk result (λ ready. AreReady M.means ready.parts) }
+    requires arguments { 0 < length arguments.now }
+    requires unused { HostIsUnused (H.ledger host.old) }
+    ensures parts { IfOk result (λ ready. MediatorIsReady M.means ready.parts) }
     ensures same { IfOk result (λ ready. ready.parts.turns.mediator ≡ mediator) }
     ensures source { IfOk result (λ ready.
-        H.EngineSource.state ready.run.source ≡ fresh_source (H.books host.old).says) }
+        H.EngineSource.state ready.run.source ≡ fresh_source (H.ledger host.old).says) }
     ensures sink { IfOk result (λ ready.
-        H.EngineSink.state ready.run.sink ≡ fresh_sink (H.books host.old).tells) }
-    ensures books { OnOk result (H.books host.new ≡ with_run (H.books host.old)) }
+        H.EngineSink.state ready.run.sink ≡ fresh_sink (H.ledger host.old).sinks_report) }
+    ensures ledger { OnOk result (H.ledger host.new ≡ with_run (H.ledger host.old)) }
     ensures faults { OnOk result (H.faults host.new ≡ H.faults host.old) }
-    ensures unstarted { OnErr result (H.books host.new ≡ H.books host.old) }
+    ensures unstarted { OnErr result (H.ledger host.new ≡ H.ledger host.old) }
     ensures asked { H.asked host.new
-        ≡ and_engines (engines_asked_by result) (map string_bytes words.now) (H.asked host.old) }
-    ensures early { IfErr result (AreEarly (H.faults host.old) (H.faults host.new)) }
+        ≡ and_engines (engines_asked_by result) (map string_bytes arguments.now) (H.asked
+        host.old) }
+    ensures early { IfErr result (FailuresAreEarly (H.faults host.old) (H.faults host.new)) }
 {
     let Ok(parts) = make_parts(alloc, mediator) else {
         return Err(only_memory());
     };
-    match start_engine(rt, alloc, words, host) {
+    match start_engine(rt, alloc, arguments, host) {
         Ok(run) => Ok(ReadyMediator { parts, run }),
         Err(failures) => Err(failures),
     }
@@ -152,14 +155,14 @@ pub fn run_mediator<
 ) -> Failures
     requires fresh { M.means.fresh mediator }
     requires first { AreOpening request.now.first.now }
-    requires words { 0 < length request.now.engine.now }
-    requires unused { IsUnused (H.books host.old) }
-    ensures leaves { Leaves M.means mediator request.now.first.now
-        (outside_of I.state O.state H.faults H.books interface.old host.old)
-        (outside_of I.state O.state H.faults H.books interface.new host.new)
+    requires arguments { 0 < length request.now.engine.now }
+    requires unused { HostIsUnused (H.ledger host.old) }
+    ensures leaves { MediatorLeaves M.means mediator request.now.first.now
+        (outside_of I.state O.state H.faults H.ledger interface.old host.old)
+        (outside_of I.state O.state H.faults H.ledger interface.new host.new)
         result }
     ensures asked { AsksFor (map string_bytes request.now.engine.now) request.now.log_name.now
-        (H.asked host.old) (H.asked host.new) (H.books host.new) result }
+        (H.asked host.old) (H.asked host.new) (H.ledger host.new) result }
 {
     match start(rt, alloc, mediator, request.engine, host) {
         Ok(ready) => run_started(rt, alloc, ready, request, interface, host),

@@ -1,6 +1,6 @@
-// What a run needs beside its host.
+// The parts that a run needs beside its host.
 ghost use Rattle.std.specs.Prelude.{◌≡◌, IfOk};
-ghost use Rattle.mediator.specs.Ran.{AreReady};
+ghost use Rattle.mediator.specs.Ran.{MediatorIsReady};
 
 use crate::{Mediator, MediatorParts, TURN_ROOM, Turns};
 use event_pipe::Pipe;
@@ -13,17 +13,17 @@ pub(crate) fn make_parts<M: Mediator + Drop>(
     mediator: M,
 ) -> Result<MediatorParts<M>, NoMemory>
     requires fresh { M.means.fresh mediator }
-    ensures ready { IfOk result (λ parts. AreReady M.means parts) }
+    ensures ready { IfOk result (λ parts. MediatorIsReady M.means parts) }
     ensures same { IfOk result (λ parts. parts.turns.mediator ≡ mediator) }
 {
     let text = Out::make(alloc, TURN_ROOM)?;
-    let (iface, engine, taker) = Pipe::make(alloc)?;
+    let (iface, engine, receiving_end) = Pipe::make(alloc)?;
     Ok(MediatorParts {
         iface,
         engine,
         turns: Turns {
             mediator,
-            taker,
+            receiving_end,
             text,
         },
     })

@@ -1,4 +1,4 @@
-// What is true of first lines.
+// The facts of first lines.
 ghost use Rattle.mediator.specs.First.{FirstLinesJoin};
 
 /// A law: with whole first lines the interface's arrivals are those of the first lines and then of

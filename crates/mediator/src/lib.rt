@@ -1,4 +1,4 @@
-//! What stands between two peers, and the loop that runs it: each event that comes is a turn, whose
+//! The mediator between two peers, and the loop that runs it: each event that comes is a turn, whose
 //! lines go to both peers and into the log; and one run of it over any host.
 #![tactic(auto)]
 

@@ -3,24 +3,24 @@ ghost use Rattle.std.specs.Prelude.{◌≡◌, ◌≤◌, ◌&&◌, ◌++◌, tr
 ghost use Rattle.line_io.specs.Event.{event_of};
 ghost use Rattle.line_io.specs.Lines.{piece_of};
 ghost use Rattle.event_pipe.specs.Arrivals.{line_limit, piece_event};
-ghost use Rattle.event_pipe.specs.Ends.{IsFreshTaker, KeepsTaker, events_taken};
+ghost use Rattle.event_pipe.specs.Ends.{IsFreshReceiver, KeepsReceiver, events_taken};
 ghost use Rattle.event_pipe.specs.Message.{is_good};
 ghost use Rattle.event_pipe.specs.declared.message.Peer.TheVariants as peers;
-ghost use Rattle.host_run.specs.Streams.{sinks_of};
+ghost use Rattle.program_lifecycle.specs.Streams.{sinks_of};
 ghost use Rattle.mediator.specs.First.{AreOpening, first_events};
 ghost use Rattle.mediator.specs.Looped.{Looped};
 ghost use Rattle.mediator.specs.Meaning.{Allows};
-ghost use Rattle.mediator.specs.Reached.{AllOffered, Receives, Stepped, ended_by};
+ghost use Rattle.mediator.specs.Reached.{AllOffered, Receives, Stepped, sides_ended_by};
 ghost use Rattle.mediator.specs.declared.mediator.TheConstants.{TURN_ROOM};
 
 use crate::{Mediator, Turns};
-use cecp_lines::is_quit;
 use event_pipe::Peer;
-use host_run::{LoopEnd, offer, offer_log};
 use line_io::{Event, PEER_LINE, Sink, split_line};
+use peer_words::is_quit;
+use program_lifecycle::{LoopEnd, offer, offer_log};
 use std::sync::Wait;
 
-// Which sides have ended.
+/// The sides that have ended.
 #[derive(Clone, Copy)]
 pub struct Sides {
     pub iface: bool,
@@ -30,7 +30,7 @@ pub struct Sides {
 impl Sides {
     // The same after an event.
     fn after(self, event: &Event) -> Sides
-        ensures { result ≡ ended_by self (event_of event.now) }
+        ensures { result ≡ sides_ended_by self (event_of event.now) }
     {
         match event {
             Event::Iface(line) => Sides {
@@ -56,7 +56,7 @@ impl Sides {
     }
 }
 
-// What the last turn gave is offered: to the log, to the interface and to the engine.
+// The output of the last turn is offered: to the log, to the interface and to the engine.
 fn offer_turn<M: Mediator, O: Sink, E: Sink, L: Sink>(
     turns: &Turns<M>,
     output: &mut O,
@@ -98,7 +98,7 @@ fn loop_step<M: Mediator, O: Sink, E: Sink, L: Sink>(
         (sinks_of O.state E.state L.state output.new engine.new log.new)
         at result }
     ensures room { turns.new.text.room ≡ turns.old.text.room }
-    ensures taker { turns.new.taker ≡ turns.old.taker }
+    ensures receiving_end { turns.new.receiving_end ≡ turns.old.receiving_end }
     ensures kept { is_some log.new ≡ is_some log.old }
 {
     turns.text.clear();
@@ -123,7 +123,7 @@ fn receive<M: Mediator, O: Sink, E: Sink, L: Sink>(
         (sinks_of O.state E.state L.state output.new engine.new log.new)
         at result }
     ensures room { turns.new.text.room ≡ turns.old.text.room }
-    ensures taker { turns.new.taker ≡ turns.old.taker }
+    ensures receiving_end { turns.new.receiving_end ≡ turns.old.receiving_end }
     ensures kept { is_some log.new ≡ is_some log.old }
 {
     if !turns.mediator.may(event) {
@@ -164,12 +164,12 @@ pub fn mediate<M: Mediator, O: Sink, E: Sink, L: Sink, R: Wait>(
 ) -> LoopEnd
     requires mediator { M.means.fresh turns.old.mediator }
     requires first { AreOpening first.now }
-    requires taker { IsFreshTaker turns.old.taker }
+    requires receiving_end { IsFreshReceiver turns.old.receiving_end }
     requires room { TURN_ROOM ≤ turns.old.text.room }
-    ensures taker { KeepsTaker turns.old.taker turns.new.taker }
+    ensures receiving_end { KeepsReceiver turns.old.receiving_end turns.new.receiving_end }
     ensures kept { is_some log.new ≡ is_some log.old }
     ensures looped { Looped M.means turns.old.mediator turns.new.mediator
-        (first_events first.now ++ events_taken turns.new.taker)
+        (first_events first.now ++ events_taken turns.new.receiving_end)
         (sinks_of O.state E.state L.state output.old engine.old log.old)
         (sinks_of O.state E.state L.state output.new engine.new log.new)
         result }
@@ -201,7 +201,7 @@ pub fn mediate<M: Mediator, O: Sink, E: Sink, L: Sink, R: Wait>(
         } else if sides.have_both_ended() {
             return at;
         } else {
-            let sent = turns.taker.take(rt);
+            let sent = turns.receiving_end.take(rt);
             let event = sent.event();
             sides = sides.after(&event);
             at = receive(turns, &event, output, engine, log, at);

@@ -1,8 +1,8 @@
-// What stands between two peers.
+// The mediator between two peers.
 ghost use Rattle.std.specs.Prelude.{◌≡◌, ◌+◌, ◌≤◌, length, true};
 ghost use Rattle.line_io.specs.Event.{event_of};
 ghost use Rattle.event_pipe.specs.Message.{is_good};
-ghost use Rattle.mediator.specs.Meaning.{Meaning, Opens, Steps, Allows};
+ghost use Rattle.mediator.specs.Meaning.{MediatorMeaning, Opens, MediatorSteps, Allows};
 ghost use Rattle.mediator.specs.declared.mediator.TheConstants.{TURN_ROOM};
 
 use event_pipe::Peer;
@@ -11,10 +11,10 @@ use line_io::{Event, Out, SCRIPT_LINE};
 /// Room for what is put into the log for a turn, the first among them.
 pub const TURN_ROOM: usize = 16 * SCRIPT_LINE + 256;
 
-/// What stands between two peers: it takes one event of them at a time, and gives lines to both.
+/// The mediator between two peers: it takes one event of them at a time, and gives lines to both.
 pub trait Mediator {
-    /// What it does, turn by turn.
-    ghost means: { Meaning Self };
+    /// Its behaviour, turn by turn.
+    ghost means: { MediatorMeaning Self };
 
     /// Begins, and puts what stands first in the log.
     fn begin(&mut self, text: &mut Out)
@@ -22,7 +22,7 @@ pub trait Mediator {
         requires room { length text.old.text + TURN_ROOM ≤ text.old.room }
         ensures { Opens means self.old text.old self.new text.new };
 
-    /// Whether the event may come now.
+    /// True if the event may come now.
     fn may(&self, event: &Event) -> bool
         ensures is { result ≡ means.may self.now (event_of event.now) }
         ensures allows { Allows means self.now (event_of event.now) };
@@ -32,7 +32,7 @@ pub trait Mediator {
         requires may { means.may self.old (event_of event.now) ≡ true }
         requires good { is_good (event_of event.now) ≡ true }
         requires room { length text.old.text + TURN_ROOM ≤ text.old.room }
-        ensures { Steps means (event_of event.now) self.old text.old self.new text.new };
+        ensures { MediatorSteps means (event_of event.now) self.old text.old self.new text.new };
 
     /// The lines that the last turn gave to this peer.
     fn given(&self, peer: Peer) -> &[u8]

@@ -1,6 +1,6 @@
-// What a run is asked for.
+// The request for a run.
 
-/// What a run is asked for.
+/// The request for a run.
 #[derive(Clone, Copy)]
 pub struct RunRequest<'a> {
     /// Lines that the mediator takes as the interface's, before all that comes from either peer.

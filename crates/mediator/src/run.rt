@@ -1,23 +1,23 @@
 // Two readers beside the loop.
 ghost use Rattle.std.specs.Prelude.{◌≡◌, ◌≤◌, ◌++◌, is_some};
 ghost use Rattle.event_pipe.specs.Arrivals.{Arrived};
-ghost use Rattle.event_pipe.specs.Ends.{IsFreshSender, IsFreshTaker, events_sent, events_taken};
+ghost use Rattle.event_pipe.specs.Ends.{IsFreshSender, IsFreshReceiver, events_sent, events_taken};
 ghost use Rattle.event_pipe.specs.declared.message.Peer.TheVariants as peers;
-ghost use Rattle.host_run.specs.Streams.{sinks_of, streams_of};
+ghost use Rattle.program_lifecycle.specs.Streams.{sinks_of, streams_of};
 ghost use Rattle.mediator.specs.First.{AreOpening, first_events};
 ghost use Rattle.mediator.specs.Looped.{Looped};
-ghost use Rattle.mediator.specs.Ran.{AreReady, KeepsChannel, Ran};
+ghost use Rattle.mediator.specs.Ran.{MediatorIsReady, KeepsChannel, MediatorRan};
 ghost use Rattle.mediator.specs.declared.mediator.TheConstants.{TURN_ROOM};
 
 use crate::{Mediator, MediatorParts, Turns, mediate};
 use event_pipe::{Pipe, ReadEnd, join_three, read_pipe};
-use host_run::{HandedStreams, Interface, LoopEnd};
 use line_io::{Sink, Source};
+use program_lifecycle::{HandedStreams, Interface, LoopEnd};
 use std::alloc::Global;
 use std::sync::Wait;
 use std::thread::Threads;
 
-/// What the two readers and the loop answered.
+/// The answers of the two readers and of the loop.
 #[derive(Clone, Copy, Debug, PartialEq, Eq)]
 pub struct RunEnd {
     pub iface: ReadEnd,
@@ -49,7 +49,7 @@ fn run_beside<
     interface: &mut Interface<I, O>,
     handed: &mut HandedStreams<S, E, L>,
 ) -> RunEnd
-    requires ready { AreReady M.means parts.old }
+    requires ready { MediatorIsReady M.means parts.old }
     requires first { AreOpening first.now }
     ensures channel { KeepsChannel parts.old parts.new }
     ensures iface { Arrived peers.Iface (I.state interface.old.input) (I.state interface.new.input)
@@ -58,7 +58,7 @@ fn run_beside<
         (S.state handed.new.source) (events_sent parts.new.engine) result.engine }
     ensures kept { is_some handed.new.log ≡ is_some handed.old.log }
     ensures looped { Looped M.means parts.old.turns.mediator parts.new.turns.mediator
-        (first_events first.now ++ events_taken parts.new.turns.taker)
+        (first_events first.now ++ events_taken parts.new.turns.receiving_end)
         (sinks_of O.state E.state L.state interface.old.output handed.old.engine handed.old.log)
         (sinks_of O.state E.state L.state interface.new.output handed.new.engine handed.new.log)
         result.done }
@@ -84,7 +84,7 @@ fn run_beside<
         { read_pipe(rt, alloc, source, child) },
         &mut ||
             requires { M.means.fresh turns.now.mediator × AreOpening first.now
-                × IsFreshTaker turns.now.taker × (TURN_ROOM ≤ turns.now.text.room) }
+                × IsFreshReceiver turns.now.receiving_end × (TURN_ROOM ≤ turns.now.text.room) }
         { mediate(rt, turns, first, output, engine, log) },
     );
     RunEnd {
@@ -112,10 +112,10 @@ pub fn run_pipes<
     interface: &mut Interface<I, O>,
     handed: &mut HandedStreams<S, E, L>,
 ) -> MediatorRun<M>
-    requires ready { AreReady M.means parts }
+    requires ready { MediatorIsReady M.means parts }
     requires first { AreOpening first.now }
     ensures kept { is_some handed.new.log ≡ is_some handed.old.log }
-    ensures ran { Ran M.means parts.turns.mediator result.mediator first.now
+    ensures ran { MediatorRan M.means parts.turns.mediator result.mediator first.now
         (streams_of I.state O.state S.state E.state L.state interface.old handed.old)
         (streams_of I.state O.state S.state E.state L.state interface.new handed.new)
         result.end }
@@ -129,9 +129,9 @@ pub fn run_pipes<
     } = parts;
     let Turns {
         mediator,
-        taker,
+        receiving_end,
         text: _,
     } = turns;
-    Pipe::finish(iface, engine, taker);
+    Pipe::finish(iface, engine, receiving_end);
     MediatorRun { mediator, end }
 }

@@ -9,16 +9,16 @@ use Rattle.option_map.specs.Names.{holds}
 use Rattle.option_map.specs.Settings.{OptionSetting, features, feature_line}
 use Rattle.option_map.specs.Shown.{takes_memory, takes_cores, takes_tables}
 use Rattle.option_map.proofs.Short.{features_length}
-use Rattle.option_map.specs.Features.{shown_name, in_quotes, bit, fixed_features, by_options, option_feature, shown_options, feature_list, reply_line, reply_lines, IsShort, is_unfit, tables}
+use Rattle.option_map.specs.Features.{shown_name, in_quotes, bit, fixed_features, by_options, option_feature, shown_options, feature_list, reply_line, reply_lines, FeatureListIsShort, is_unfit, tables}
 
 shown_step : (w : Bool) (o : OptionSetting) (rest : List OptionSetting) (text : List ℕ) → text ≡ reply_lines (map option_feature rest) → (if w then [] else feature_line o ++ 10 ∷ []) ++ text ≡ reply_lines (map option_feature (cond (not w) (o ∷ rest) rest))
 shown_step true o rest text h = h
 shown_step false o rest text h = ap (λ (t : List ℕ). (feature_line o ++ 10 ∷ []) ++ t) h
 
 -- The options' lines are their replies.
-pub features_told : (os : List OptionSetting) → features os ≡ reply_lines (map option_feature (shown_options os))
-features_told [] = refl
-features_told (o ∷ os) = shown_step o.hidden o (shown_options os) (features os) (features_told os)
+pub features_reported : (os : List OptionSetting) → features os ≡ reply_lines (map option_feature (shown_options os))
+features_reported [] = refl
+features_reported (o ∷ os) = shown_step o.hidden o (shown_options os) (features os) (features_reported os)
 
 abbrev pub name_line : List ℕ → List ℕ
 name_line said = reply_line (Feature (codes "myname") (in_quotes (shown_name said)))
@@ -34,7 +34,7 @@ list_text os said =
     flat_map-append reply_line (name ∷ fixed_features ++ by_options os ++ shown) (Feature (codes "done") (codes "1") ∷ [])
     ∙ ap (λ (t : List ℕ). t ++ done_line) (flat_map-append reply_line (name ∷ fixed_features ++ by_options os) shown
     ∙ ap (λ (t : List ℕ). t ++ reply_lines shown) (flat_map-append reply_line (name ∷ fixed_features) (by_options os)))
-    ∙ ap (λ (t : List ℕ). name_line said ++ reply_lines fixed_features ++ reply_lines (by_options os) ++ t ++ done_line) (sym (features_told os))
+    ∙ ap (λ (t : List ℕ). name_line said ++ reply_lines fixed_features ++ reply_lines (by_options os) ++ t ++ done_line) (sym (features_reported os))
 
 -- the name with its line feed, put in three pieces
 pub named : (o : Text) (name : List ℕ) → with (with (with o (codes "feature myname=\"")) name) (codes "\"\n") ≡ with o (reply_line (Feature (codes "myname") (in_quotes name)))
@@ -98,7 +98,7 @@ options_length false true false = omega arith
 options_length false false true = omega arith
 options_length false false false = omega arith
 
-pub short_list : IsShort
+pub short_list : FeatureListIsShort
 short_list os said =
     let a = name_line said in
     let b = reply_lines fixed_features in

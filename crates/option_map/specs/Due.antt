@@ -1,12 +1,12 @@
 -- When the feature list is due.
 use Rattle.std.specs.Prelude.{Bool, true, false}
-use Rattle.option_map.specs.declared.talk.ProtoverAnswer.{ProtoverAnswer}
-use Rattle.option_map.specs.declared.talk.ProtoverAnswer.TheVariants.{Wait, List}
+use Rattle.option_map.specs.declared.negotiation.ProtoverAnswer.{ProtoverAnswer}
+use Rattle.option_map.specs.declared.negotiation.ProtoverAnswer.TheVariants.{Wait, List}
 
 -- what `protover` is answered by: before the engine has started, that the list comes later
-abbrev pub answer : Bool → ProtoverAnswer
-answer true = Wait
-answer false = List
+abbrev pub protover_answer : Bool → ProtoverAnswer
+protover_answer true = Wait
+protover_answer false = List
 
 -- whether the list is due after `protover`
 abbrev pub due_after : Bool → Bool → Bool

@@ -4,7 +4,7 @@ use Rattle.std.specs.Prelude.{filter, Bool, true, false, not, ◌||◌, if◌the
 use Rattle.std.specs.List.{flat_map}
 use Rattle.cecp_lines.specs.Replies.{Reply, Feature, reply_text}
 use Rattle.option_map.specs.Names.{holds}
-use Rattle.option_map.specs.Settings.{OptionSetting, kind_text, text_size}
+use Rattle.option_map.specs.Settings.{OptionSetting, setting_kind_text, text_size}
 use Rattle.option_map.specs.Shown.{takes_memory, takes_cores, takes_tables}
 use Rattle.option_map.specs.declared.feature_list.TheConstants.{MOST_NAME, COMMON_BYTES}
 use Rattle.peer_words.specs.Bytes.{quote}
@@ -49,7 +49,7 @@ by_options os =
     ∷ tables (takes_tables os)
 
 abbrev pub option_feature : OptionSetting → Reply
-option_feature o = Feature (codes "option") (in_quotes (o.name ++ kind_text o.kind))
+option_feature o = Feature (codes "option") (in_quotes (o.name ++ setting_kind_text o.kind))
 
 -- the options that are not hidden
 abbrev pub shown_options : List OptionSetting → List OptionSetting
@@ -69,8 +69,8 @@ abbrev pub reply_lines : List Reply → List ℕ
 reply_lines replies = flat_map reply_line replies
 
 -- how long the list may be
-abbrev pub IsShort : Type 0
-IsShort =
+abbrev pub FeatureListIsShort : Type 0
+FeatureListIsShort =
     (os : List OptionSetting) (said : List ℕ)
     → length (reply_lines (feature_list os said)) ≤ COMMON_BYTES + text_size os + length os
 

@@ -1,4 +1,4 @@
--- How held orders are kept: numbers, and parts of one buffer of texts.
+-- The form in which held orders are kept: numbers, and parts of one buffer of texts.
 use Rattle.std.specs.Prelude.{◌≡◌, ℕ, ◌≤◌, List, [], ◌++◌, map, length, Option, Some, None}
 use Rattle.std.specs.Fmt.{signed_decimal}
 use Rattle.std.specs.List.{AllByRecursion}
@@ -14,19 +14,19 @@ use Rattle.option_map.specs.declared.keeping.KeptOrder.{KeptOrder}
 use Rattle.option_map.specs.declared.keeping.KeptOrder.TheVariants as kept
 use Rattle.option_map.specs.declared.held.TheConstants.{MOST_ORDERS, MOST_BYTES}
 use Rattle.option_map.specs.Stored.{text_at, IsSpanIn}
-use Rattle.option_map.specs.Held.{batch_text}
+use Rattle.option_map.specs.Held.{held_batch_text}
 
 abbrev pub value_in : List ℕ → KeptValue → Option (List ℕ)
 value_in texts Nothing = None
 value_in texts (Text part) = Some (text_at texts part)
 value_in texts (Number n) = Some (signed_decimal n)
 
-abbrev pub order_in : List ℕ → KeptOrder → Order
-order_in texts kept.NewGame = NewGame
-order_in texts (kept.Set name value) = SetOption (text_at texts name) (value_in texts value)
+abbrev pub kept_order_in : List ℕ → KeptOrder → Order
+kept_order_in texts kept.NewGame = NewGame
+kept_order_in texts (kept.Set name value) = SetOption (text_at texts name) (value_in texts value)
 
 abbrev pub orders_in : List ℕ → List KeptOrder → List Order
-orders_in texts list = map (order_in texts) list
+orders_in texts list = map (kept_order_in texts) list
 
 abbrev pub IsValueIn : ℕ → KeptValue → Type 0
 IsValueIn n Nothing = Unit {0}
@@ -38,8 +38,8 @@ abbrev pub IsOrderIn : ℕ → KeptOrder → Type 0
 IsOrderIn n kept.NewGame = Unit {0}
 IsOrderIn n (kept.Set name value) = IsSpanIn n name × IsValueIn n value
 
-abbrev pub AreIn : ℕ → List KeptOrder → Type 0
-AreIn n list = AllByRecursion (IsOrderIn n) list
+abbrev pub KeptOrdersAreIn : ℕ → List KeptOrder → Type 0
+KeptOrdersAreIn n list = AllByRecursion (IsOrderIn n) list
 
 -- what is kept of the texts of an order
 abbrev pub value_bytes : Option OptionValue → List ℕ
@@ -52,9 +52,9 @@ setup_bytes setup.NewGame = []
 setup_bytes (setup.Set asked) = asked.name.now ++ value_bytes asked.value
 
 -- what holds of the buffer of texts, the buffer beside it and the orders
-pub record IsKept (texts beside : Buffer) (orders : List KeptOrder) : Type 0 where
-  pub within : AreIn (length texts.text) orders
+pub record KeptOrdersInvariant (texts beside : Buffer) (orders : List KeptOrder) : Type 0 where
+  pub within : KeptOrdersAreIn (length texts.text) orders
   pub few : length orders ≤ MOST_ORDERS
-  pub fits : length (batch_text (orders_in texts.text orders)) ≤ MOST_BYTES
+  pub fits : length (held_batch_text (orders_in texts.text orders)) ≤ MOST_BYTES
   pub room : texts.room ≡ MOST_BYTES
   pub other : beside.room ≡ MOST_BYTES

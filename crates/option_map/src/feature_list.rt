@@ -11,7 +11,7 @@ use line_io::Out;
 /// The longest name of an engine that is shown.
 pub const MOST_NAME: usize = 256;
 
-// How long the list is at most beside what it says of the options.
+// The greatest length of the list beside what it says of the options.
 const COMMON_BYTES: usize = 1_000;
 
 /// The name that is shown of an engine: what it said last, or `UCI engine` if it said nothing or a name

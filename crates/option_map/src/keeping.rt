@@ -4,7 +4,7 @@ ghost use Rattle.std.specs.Option.{option_map};
 ghost use Rattle.line_io.specs.Out.{with};
 ghost use Rattle.option_map.specs.Data.{value_seen, setup_seen};
 ghost use Rattle.option_map.specs.Stored.{text_at, IsSpanIn};
-ghost use Rattle.option_map.specs.KeptOrders.{value_in, order_in, IsValueIn, IsOrderIn, value_bytes, setup_bytes};
+ghost use Rattle.option_map.specs.KeptOrders.{value_in, kept_order_in, IsValueIn, IsOrderIn, value_bytes, setup_bytes};
 
 use crate::order::{AskedOption, OptionValue, SetupOrder};
 use crate::setting::TextSpan;
@@ -40,7 +40,7 @@ fn value_in(texts: &[u8], value: KeptValue) -> Option<OptionValue<'_>>
 /// A kept order with its texts.
 pub(crate) fn setup_in(texts: &[u8], order: KeptOrder) -> SetupOrder<'_>
     requires { IsOrderIn (length texts.now) order }
-    ensures { setup_seen result ≡ order_in texts.now order }
+    ensures { setup_seen result ≡ kept_order_in texts.now order }
 {
     match order {
         KeptOrder::NewGame => SetupOrder::NewGame,
@@ -82,7 +82,7 @@ fn keep_value(value: Option<OptionValue>, texts: &mut Out) -> KeptValue
 pub(crate) fn keep(setup: SetupOrder, texts: &mut Out) -> KeptOrder
     requires { length texts.old.text + length (setup_bytes setup) ≤ texts.old.room }
     ensures texts { texts.new ≡ with texts.old (setup_bytes setup.entry) }
-    ensures order { order_in texts.new.text result ≡ setup_seen setup.entry }
+    ensures order { kept_order_in texts.new.text result ≡ setup_seen setup.entry }
     ensures within { IsOrderIn (length texts.new.text) result }
 {
     match setup {

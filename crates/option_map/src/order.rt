@@ -2,9 +2,9 @@
 ghost use Rattle.std.specs.Prelude.{◌≡◌, ◌≤◌, ◌+◌, length, nat_le, Some};
 ghost use Rattle.std.specs.Fmt.{signed_decimal};
 ghost use Rattle.line_io.specs.Out.{with};
-ghost use Rattle.uci_lines.specs.Orders.{order_text, optional_now};
+ghost use Rattle.uci_lines.specs.Orders.{uci_order_text, optional_now};
 ghost use Rattle.uci_lines.specs.Orders as orders;
-ghost use Rattle.option_map.specs.Held.{are_for_same, order_line};
+ghost use Rattle.option_map.specs.Held.{held_for_same, held_order_line};
 
 use crate::held::MOST_BYTES;
 use crate::measure::number_length;
@@ -17,10 +17,10 @@ const BUTTON_BYTES: usize = 15;
 
 const SETTING_BYTES: usize = 22;
 
-/// How long the order that a line asks for is at most.
+/// The greatest length of the order that a line asks for.
 pub const ORDER_BYTES: usize = PEER_LINE + 164;
 
-/// What an option is set to.
+/// The value that an option is set to.
 #[derive(Clone, Copy, PartialEq, Eq)]
 pub enum OptionValue<'a> {
     Text(&'a [u8]),
@@ -43,24 +43,24 @@ pub enum SetupOrder<'a> {
 
 fn put_order(name: &[u8], value: Option<&[u8]>, out: &mut Out)
     requires { length out.old.text
-        + length (order_text (orders.SetOption name.now (optional_now value))) ≤ out.old.room }
+        + length (uci_order_text (orders.SetOption name.now (optional_now value))) ≤ out.old.room }
     ensures { out.new
-        ≡ with out.old (order_text (orders.SetOption name.now (optional_now value.entry))) }
+        ≡ with out.old (uci_order_text (orders.SetOption name.now (optional_now value.entry))) }
 {
     write_order(&Order::SetOption { name, value }, out);
 }
 
 fn put_number(name: &[u8], n: i64, out: &mut Out)
     requires { length out.old.text
-        + length (order_text (orders.SetOption name.now (Some (signed_decimal n))))
+        + length (uci_order_text (orders.SetOption name.now (Some (signed_decimal n))))
         ≤ out.old.room }
     ensures { out.new
-        ≡ with out.old (order_text (orders.SetOption name.now (Some (signed_decimal n)))) }
+        ≡ with out.old (uci_order_text (orders.SetOption name.now (Some (signed_decimal n)))) }
 {
     put_order(name, Some(Buffer::new().format(n).as_bytes()), out);
 }
 
-// Whether three lengths have a sum within a length.
+// True if three lengths have a sum within a length.
 fn is_sum_within(first: usize, second: usize, third: usize, most: usize) -> bool
     ensures { result ≡ nat_le (first + second + third) most }
 {
@@ -72,9 +72,9 @@ impl AskedOption<'_> {
 
     /// Writes the order, with no line feed.
     pub fn write(&self, out: &mut Out)
-        requires { length out.old.text + length (order_text (order_seen self.now))
+        requires { length out.old.text + length (uci_order_text (order_seen self.now))
             ≤ out.old.room }
-        ensures { out.new ≡ with out.old (order_text (order_seen self.now)) }
+        ensures { out.new ≡ with out.old (uci_order_text (order_seen self.now)) }
     {
         match self.value {
             None => put_order(self.name, None, out),
@@ -83,7 +83,7 @@ impl AskedOption<'_> {
         }
     }
 
-    // Whether its text has at most so many bytes.
+    // True if its text has at most so many bytes.
     fn is_within(&self, most: usize) -> bool
         ensures { result ≡ nat_le (order_size self.now.name.now self.now.value) most }
     {
@@ -98,7 +98,7 @@ impl AskedOption<'_> {
         }
     }
 
-    // How many bytes its text has.
+    // The length of its text in bytes.
     fn size(&self) -> usize
         requires { order_size self.now.name.now self.now.value ≤ MOST_BYTES }
         ensures { result ≡ order_size self.now.name.now self.now.value }
@@ -115,9 +115,9 @@ impl SetupOrder<'_> {
     ghost use Rattle.option_map.specs.Data.{setup_seen};
 
     fn write(&self, out: &mut Out)
-        requires { length out.old.text + length (order_text (setup_seen self.now))
+        requires { length out.old.text + length (uci_order_text (setup_seen self.now))
             ≤ out.old.room }
-        ensures { out.new ≡ with out.old (order_text (setup_seen self.now)) }
+        ensures { out.new ≡ with out.old (uci_order_text (setup_seen self.now)) }
     {
         match self {
             SetupOrder::NewGame => write_order(&Order::NewGame, out),
@@ -127,17 +127,18 @@ impl SetupOrder<'_> {
 
     /// Writes the order and its line feed.
     pub(crate) fn write_line(&self, out: &mut Out)
-        requires { length out.old.text + length (order_line (setup_seen self.now)) ≤ out.old.room }
-        ensures { out.new ≡ with out.old (order_line (setup_seen self.now)) }
+        requires { length out.old.text + length (held_order_line (setup_seen self.now)) ≤
+            out.old.room }
+        ensures { out.new ≡ with out.old (held_order_line (setup_seen self.now)) }
     {
         self.write(out);
         out.put(b"\n");
     }
 
-    /// Whether its text has at most so many bytes.
-    #[tactic(auto, unfolding(uci_lines::specs::Orders::order_text))]
+    /// True if its text has at most so many bytes.
+    #[tactic(auto, unfolding(uci_lines::specs::Orders::uci_order_text))]
     pub(crate) fn is_within(&self, most: usize) -> bool
-        ensures { result ≡ nat_le (length (order_text (setup_seen self.now))) most }
+        ensures { result ≡ nat_le (length (uci_order_text (setup_seen self.now))) most }
     {
         match self {
             SetupOrder::NewGame => b"ucinewgame".len() <= most,
@@ -145,11 +146,11 @@ impl SetupOrder<'_> {
         }
     }
 
-    /// How many bytes its text has.
-    #[tactic(auto, unfolding(uci_lines::specs::Orders::order_text))]
+    /// The length of its text in bytes.
+    #[tactic(auto, unfolding(uci_lines::specs::Orders::uci_order_text))]
     pub(crate) fn size(&self) -> usize
-        requires { length (order_text (setup_seen self.now)) ≤ MOST_BYTES }
-        ensures { result ≡ length (order_text (setup_seen self.now)) }
+        requires { length (uci_order_text (setup_seen self.now)) ≤ MOST_BYTES }
+        ensures { result ≡ length (uci_order_text (setup_seen self.now)) }
     {
         match self {
             SetupOrder::NewGame => b"ucinewgame".len(),
@@ -157,9 +158,9 @@ impl SetupOrder<'_> {
         }
     }
 
-    /// Whether both are for a game, or for the value of the same option.
+    /// True if both are for a game, or for the value of the same option.
     pub(crate) fn is_for_same(&self, other: &SetupOrder) -> bool
-        ensures { result ≡ are_for_same (setup_seen self.now) (setup_seen other.now) }
+        ensures { result ≡ held_for_same (setup_seen self.now) (setup_seen other.now) }
     {
         match (self, other) {
             (SetupOrder::NewGame, SetupOrder::NewGame) => true,

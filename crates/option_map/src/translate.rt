@@ -5,7 +5,7 @@ ghost use Rattle.std.specs.Option.{option_map, option_and_then};
 ghost use Rattle.std.specs.Str.{bytes_eq};
 ghost use Rattle.peer_words.specs.Numbers.{signed_number};
 ghost use Rattle.line_io.specs.Out.{with};
-ghost use Rattle.uci_lines.specs.Orders.{order_of, order_text, optional_now};
+ghost use Rattle.uci_lines.specs.Orders.{uci_order_of, uci_order_text, optional_now};
 ghost use Rattle.uci_lines.specs.Orders as orders;
 ghost use Rattle.cecp_lines.specs.Messages.{message_of};
 ghost use Rattle.option_map.specs.Choices.{chosen, choices_in};

@@ -8,13 +8,13 @@ use line_io::{Failed, MemSink};
 use std::alloc::Global;
 use std::sync::atomic::AtomicU64;
 
-// Whether the words are these texts.
-fn are_texts(words: &[String], texts: &[&str]) -> bool {
-    if words.len() != texts.len() {
+// True if the words are these texts.
+fn are_texts(arguments: &[String], texts: &[&str]) -> bool {
+    if arguments.len() != texts.len() {
         return false;
     }
-    for (word, text) in words.iter().zip(texts) {
-        if word.as_str() != *text {
+    for (argument, text) in arguments.iter().zip(texts) {
+        if argument.as_str() != *text {
             return false;
         }
     }
@@ -58,21 +58,21 @@ impl<'a> PacedHost<'a> {
         }
     }
 
-    /// What the engines took that were closed.
+    /// The bytes that the closed engines took.
     pub fn wrote(&self) -> &[u8] {
         self.wrote.as_slice()
     }
 
-    /// What the logs took that were closed, and a line for each run whose engine waited for the log
+    /// The bytes that the closed logs took, and a line for each run whose engine waited for the log
     /// in vain.
     pub fn logged(&self) -> &[u8] {
         self.logged.as_slice()
     }
 
-    /// Whether it was asked for so many engines, each with these words, and for one log of this name.
-    pub fn was_asked_for(&self, engines: usize, words: &[&str], log_name: &str) -> bool {
+    /// True if it was asked for so many engines, each with these arguments, and for one log of this name.
+    pub fn was_asked_for(&self, engines: usize, arguments: &[&str], log_name: &str) -> bool {
         for asked in self.host.engines() {
-            if !are_texts(asked.as_slice(), words) {
+            if !are_texts(asked.as_slice(), arguments) {
                 return false;
             }
         }
@@ -83,7 +83,7 @@ impl<'a> PacedHost<'a> {
 impl<'a> Host for PacedHost<'a> {
     ghost use Rattle.std.specs.Prelude.{◌≡◌, ◌<◌, length};
     ghost use Rattle.child_engine.specs.Hosts.{ClosesBy, with_closed_run};
-    ghost use Rattle.child_engine.specs.Memory.{asked_of, books_of, shown_by_source, shown_by_sink};
+    ghost use Rattle.child_engine.specs.Memory.{asked_of, memory_ledger, shown_by_memory_source, shown_by_sink};
 
     type EngineSource = PacedSource<'a>;
 
@@ -95,20 +95,20 @@ impl<'a> Host for PacedHost<'a> {
 
     ghost faults = { λ h. h.host.faults };
 
-    ghost books = { λ h. books_of h.host };
+    ghost ledger = { λ h. memory_ledger h.host };
 
     ghost asked = { λ h. asked_of h.host };
 
     fn start(
         &mut self,
         alloc: Global,
-        words: &[String],
+        arguments: &[String],
     ) -> Result<Started<PacedSource<'a>, MemSink, ()>, HostFault> {
         let Started {
             source,
             sink,
             process: (),
-        } = self.host.start(alloc, words)?;
+        } = self.host.start(alloc, arguments)?;
         let source = PacedSource::new(source, self.lines, self.dues);
         Ok(Started {
             source,
@@ -123,12 +123,14 @@ impl<'a> Host for PacedHost<'a> {
     }
 
     fn close(&mut self, run: Started<PacedSource<'a>, MemSink, ()>) -> Result<(), Failed>
-        requires { length (books_of self.old.host).runs < (books_of self.old.host).runs_out }
-        ensures books { books_of self.new.host ≡ with_closed_run (books_of self.old.host)
-            (shown_by_source run.entry.source.source) (shown_by_sink run.entry.sink) }
+        requires { length (memory_ledger self.old.host).runs < (memory_ledger
+            self.old.host).runs_out }
+        ensures ledger { memory_ledger self.new.host ≡ with_closed_run (memory_ledger self.old.host)
+            (shown_by_memory_source run.entry.source.source) (shown_by_sink run.entry.sink) }
         ensures asked { asked_of self.new.host ≡ asked_of self.old.host }
         ensures cause { ClosesBy self.old.host.faults self.new.host.faults
-            (shown_by_source run.entry.source.source).faults (shown_by_sink run.entry.sink).faults
+            (shown_by_memory_source run.entry.source.source).faults (shown_by_sink
+            run.entry.sink).faults
             result }
     {
         let Started {

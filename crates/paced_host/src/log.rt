@@ -4,7 +4,7 @@ ghost use Rattle.std.specs.Prelude.{◌≡◌};
 use line_io::{Failed, MemSink, Sink};
 use std::sync::atomic::{AtomicU64, Ordering};
 
-// How many line feeds there are.
+// The number of line feeds.
 fn feeds_in(piece: &[u8]) -> u64 {
     let mut count: u64 = 0;
     for byte in piece {

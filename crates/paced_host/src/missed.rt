@@ -1,13 +1,13 @@
-// What is said of a wait for the log that was in vain.
+// The message on a wait for the log that was in vain.
 ghost use Rattle.std.specs.Prelude.{◌≤◌, length};
 
 use itoa::Buffer;
 use std::sync::atomic::{AtomicU64, Ordering};
 
-// How often the log is looked at before a wait is in vain.
+// The number of looks at the log before a wait is in vain.
 const LOOKS: u64 = 1_000_000_000;
 
-/// Whether the log took so many lines before the last look at it.
+/// True if the log took so many lines before the last look at it.
 pub fn has_come(lines: &AtomicU64, wanted: u64) -> bool {
     for _ in 0..LOOKS {
         if lines.load(Ordering::SeqCst) >= wanted {

@@ -36,9 +36,9 @@ impl<'a> PacedSource<'a> {
 }
 
 impl<'a> Source for PacedSource<'a> {
-    ghost use Rattle.child_engine.specs.Memory.{shown_by_source};
+    ghost use Rattle.child_engine.specs.Memory.{shown_by_memory_source};
 
-    ghost state = { λ s. shown_by_source s.source };
+    ghost state = { λ s. shown_by_memory_source s.source };
 
     fn read(&mut self, buf: &mut [u8]) -> Result<usize, Failed> {
         if self.missed.is_none() {

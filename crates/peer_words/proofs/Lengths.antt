@@ -4,7 +4,7 @@ use Rattle.std.proofs.lemmas.List.{length-drop}
 use Rattle.std.proofs.lemmas.List.Folds.{length-prefix_len}
 use Rattle.std.proofs.lemmas.List.Sums.{prefix_len-le-length}
 use Rattle.std.proofs.lemmas.Bool.Decides.{nat_tests}
-use Rattle.peer_words.specs.Tokens.{is_white, is_blank, trim_left, trim_right, trimmed, token_end, first_token, rest, tokens}
+use Rattle.peer_words.specs.Tokens.{is_white, is_blank, trim_left, trim_right, trimmed, token_end, first_token, rest_after_token, tokens}
 use Rattle.peer_words.proofs.TokenLists.{tokens_some, tokens_none}
 
 left_step : (w : Bool) (x : ℕ) (xs t : List ℕ) → length t ≤ length xs → length (cond w t (x ∷ xs)) ≤ suc (length xs)
@@ -26,7 +26,7 @@ trim_right_length (x ∷ xs) = right_step (is_white x && is_blank xs) x xs (trim
 pub trimmed_length : (xs : List ℕ) → length (trimmed xs) ≤ length xs
 trimmed_length xs = omega (arith, trim_right_length (trim_left xs), trim_left_length xs)
 
-pub rest_shorter : (line : List ℕ) (c : ℕ) (cs : List ℕ) → first_token line ≡ c ∷ cs → length (rest line) < length line
+pub rest_shorter : (line : List ℕ) (c : ℕ) (cs : List ℕ) → first_token line ≡ c ∷ cs → length (rest_after_token line) < length line
 rest_shorter line c cs e =
     let t = trim_left line in
     let end : length (first_token line) ≡ token_end t = length-prefix_len (λ b. not (is_white b)) t in
@@ -39,13 +39,13 @@ pub none_first : (line word : List ℕ) → word ≡ first_token line → eqb (l
 none_first line [] e h = tokens_none line (sym e)
 none_first line (c ∷ cs) e h = absurd (grind (arith, nat_tests))
 
-pub some_first : (line word others : List ℕ) → word ≡ first_token line → others ≡ rest line → eqb (length word) 0 ≡ false → tokens line ≡ word ∷ tokens others
+pub some_first : (line word others : List ℕ) → word ≡ first_token line → others ≡ rest_after_token line → eqb (length word) 0 ≡ false → tokens line ≡ word ∷ tokens others
 some_first line [] others e f h = absurd (cc)
 some_first line (c ∷ cs) others e f h = tokens_some line c cs (sym e) ∙ ap (λ t. (c ∷ cs) ∷ tokens t) (sym f)
 
-pub some_shorter : (line word others : List ℕ) → word ≡ first_token line → others ≡ rest line → eqb (length word) 0 ≡ false → length others < length line
+pub some_shorter : (line word others : List ℕ) → word ≡ first_token line → others ≡ rest_after_token line → eqb (length word) 0 ≡ false → length others < length line
 some_shorter line [] others e f h = absurd (cc)
-some_shorter line (c ∷ cs) others e f h = let s : length (rest line) < length line = rest_shorter line c cs (sym e) in rw f s
+some_shorter line (c ∷ cs) others e f h = let s : length (rest_after_token line) < length line = rest_shorter line c cs (sym e) in rw f s
 
-pub rest_length : (line : List ℕ) → length (rest line) ≤ length line
+pub rest_length : (line : List ℕ) → length (rest_after_token line) ≤ length line
 rest_length line = let t = trim_left line in omega (arith, trimmed_length (drop (token_end t) t), length-drop (token_end t) t, trim_left_length line)

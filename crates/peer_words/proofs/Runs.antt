@@ -5,7 +5,7 @@ use Rattle.std.proofs.lemmas.List.{append-nil}
 use Rattle.std.specs.List.{list_all, prefix_len, before_first}
 use Rattle.std.proofs.lemmas.Bool.{and_parts, not-true}
 use Rattle.std.proofs.lemmas.Bool.Decides.{nat_tests}
-use Rattle.peer_words.specs.Tokens.{is_white, is_token, trim_left, trimmed, token_end, first_token, rest, trim_right}
+use Rattle.peer_words.specs.Tokens.{is_white, is_token, trim_left, trimmed, token_end, first_token, rest_after_token, trim_right}
 
 pub all_of : (p q : ℕ → Bool) → ((c : ℕ) → p c ≡ true → q c ≡ true) → (xs : List ℕ) → list_all p xs ≡ true → list_all q xs ≡ true
 all_of p q f [] h = refl
@@ -42,7 +42,7 @@ token_first t more w h e =
     let stop : prefix_len (λ b. not (is_white b)) (t ++ (w ∷ more)) ≡ length t = prefix_stops (λ b. not (is_white b)) t w more (black t h) (rw e refl) in
     ap (before_first is_white) (starts_black t (w ∷ more) h) ∙ ap (λ n. take n (t ++ (w ∷ more))) stop ∙ take-append_seam t (w ∷ more)
 
-pub token_rest : (t more : List ℕ) (w : ℕ) → is_token t ≡ true → is_white w ≡ true → rest (t ++ (w ∷ more)) ≡ trimmed more
+pub token_rest : (t more : List ℕ) (w : ℕ) → is_token t ≡ true → is_white w ≡ true → rest_after_token (t ++ (w ∷ more)) ≡ trimmed more
 token_rest t more w h e =
     let stop : prefix_len (λ b. not (is_white b)) (t ++ (w ∷ more)) ≡ length t = prefix_stops (λ b. not (is_white b)) t w more (black t h) (rw e refl) in
     ap (λ line. trimmed (drop (token_end line) line)) (starts_black t (w ∷ more) h)
@@ -57,7 +57,7 @@ token_alone t h =
     let left : trim_left t ≡ t = sym (ap trim_left (append-nil t)) ∙ starts_black t [] h ∙ append-nil t in
     ap (before_first is_white) left ∙ ap (λ n. take n t) whole ∙ take-length t
 
-pub token_alone_rest : (t : List ℕ) → is_token t ≡ true → rest t ≡ []
+pub token_alone_rest : (t : List ℕ) → is_token t ≡ true → rest_after_token t ≡ []
 token_alone_rest t h =
     let whole : prefix_len (λ b. not (is_white b)) t ≡ length t = prefix_whole (λ b. not (is_white b)) t (black t h) in
     let left : trim_left t ≡ t = sym (ap trim_left (append-nil t)) ∙ starts_black t [] h ∙ append-nil t in

@@ -1,4 +1,4 @@
--- How large the numbers are that texts spell.
+-- The sizes of the numbers that texts spell.
 use Rattle.std.proofs.Common.{◌≡◌, ℕ, zero, suc, ◌+◌, ◌-◌, ◌*◌, ◌^◌, ◌<◌, ◌≤◌, List, [], ◌∷◌, Bool, true, false, ◌&&◌, cond, ltb, leb, length, take, drop, position, Option, Some, None, refl, sym, subst, arith, lit<}
 use Rattle.std.proofs.Math.Nat.{pow-le-pow_right}
 use Rattle.std.proofs.lemmas.Nat.{mul-le}
@@ -22,9 +22,9 @@ all_digits (c ∷ cs) h = let both = and_parts (is_ascii_digit c) (list_all is_a
 
 value_small : (most : ℕ) (t : List ℕ) → is_digits most t ≡ true → digits_value 10 t < 10 ^ most
 value_small most t h =
-    let front = and_parts (ltb 0 (length t) && leb (length t) most) (list_all is_ascii_digit t) h in
-    let within : length t ≤ most = grind (arith, nat_tests, and_parts (ltb 0 (length t)) (leb (length t) most) front.0) in
-    let small : digits_value 10 t < 10 ^ length t = digits_value-lt 10 t (all_digits t front.1) in
+    let prefix = and_parts (ltb 0 (length t) && leb (length t) most) (list_all is_ascii_digit t) h in
+    let within : length t ≤ most = grind (arith, nat_tests, and_parts (ltb 0 (length t)) (leb (length t) most) prefix.0) in
+    let small : digits_value 10 t < 10 ^ length t = digits_value-lt 10 t (all_digits t prefix.1) in
     let wide : 10 ^ length t ≤ 10 ^ most = pow-le-pow_right (lit< tt) within in
     omega arith
 

@@ -4,7 +4,7 @@ use Rattle.std.proofs.Math.Seq.{take-append_seam, drop-append_seam, take-length,
 use Rattle.std.proofs.lemmas.Bool.Decides.{nat_tests}
 use Rattle.std.specs.List.{list_all, slice_split, onto_first, join_with_byte, before_first}
 use Rattle.std.proofs.lemmas.Bool.{and_parts, not-true}
-use Rattle.peer_words.specs.Tokens.{is_white, is_blank, is_token, trim_left, trim_right, trimmed, token_end, first_token, rest, tokens}
+use Rattle.peer_words.specs.Tokens.{is_white, is_blank, is_token, trim_left, trim_right, trimmed, token_end, first_token, rest_after_token, tokens}
 use Rattle.peer_words.proofs.Runs.{black, prefix_stops, prefix_whole}
 
 -- the tokens among the parts between white space
@@ -86,17 +86,17 @@ tokens_joined (t ∷ u ∷ ts) h =
 
 -- a line without white space, or cut at its first white space
 record Cut (xs : List ℕ) : Type 0 where
-  pub front : List ℕ
+  pub prefix : List ℕ
   pub white : ℕ
   pub more : List ℕ
-  pub is : xs ≡ front ++ (white ∷ more)
-  pub black : list_all (λ b. not (is_white b)) front ≡ true
+  pub is : xs ≡ prefix ++ (white ∷ more)
+  pub black : list_all (λ b. not (is_white b)) prefix ≡ true
   pub is_white : is_white white ≡ true
 
 cut_step : (white : Bool) (x : ℕ) (xs : List ℕ) → is_white x ≡ white → (list_all (λ b. not (is_white b)) xs ≡ true) ⊎ Cut xs → (list_all (λ b. not (is_white b)) (x ∷ xs) ≡ true) ⊎ Cut (x ∷ xs)
-cut_step true x xs e h = inr (record { front = []; white = x; more = xs; is = refl; black = refl; is_white = e })
+cut_step true x xs e h = inr (record { prefix = []; white = x; more = xs; is = refl; black = refl; is_white = e })
 cut_step false x xs e (inl h) = inl (rw (e, h) refl)
-cut_step false x xs e (inr c) = inr (record { front = x ∷ c.front; white = c.white; more = c.more; is = ap (λ ys. x ∷ ys) c.is; black = rw (e, c.black) refl; is_white = c.is_white })
+cut_step false x xs e (inr c) = inr (record { prefix = x ∷ c.prefix; white = c.white; more = c.more; is = ap (λ ys. x ∷ ys) c.is; black = rw (e, c.black) refl; is_white = c.is_white })
 
 cut : (xs : List ℕ) → (list_all (λ b. not (is_white b)) xs ≡ true) ⊎ Cut xs
 cut [] = inl refl
@@ -107,8 +107,8 @@ pub record Begins (xs : List ℕ) (t : List ℕ) : Type 0 where
   pub token : is_token t ≡ true
   pub list : tokens xs ≡ t ∷ tokens (drop (token_end xs) xs)
 
-front_of : (xs more : List ℕ) (w : ℕ) → list_all (λ b. not (is_white b)) xs ≡ true → is_white w ≡ true → token_end (xs ++ (w ∷ more)) ≡ length xs
-front_of xs more w h e = prefix_stops (λ b. not (is_white b)) xs w more h (rw e refl)
+prefix_of : (xs more : List ℕ) (w : ℕ) → list_all (λ b. not (is_white b)) xs ≡ true → is_white w ≡ true → token_end (xs ++ (w ∷ more)) ≡ length xs
+prefix_of xs more w h e = prefix_stops (λ b. not (is_white b)) xs w more h (rw e refl)
 
 above_zero : (n : ℕ) → ltb 0 (suc n) ≡ true
 above_zero n = grind (arith, nat_tests)
@@ -119,7 +119,7 @@ some_token (x ∷ t) c cs e h = rw (above_zero (length t), h) refl
 
 begins_cut : (t more : List ℕ) (w c : ℕ) (cs : List ℕ) → list_all (λ b. not (is_white b)) t ≡ true → is_white w ≡ true → before_first is_white (t ++ (w ∷ more)) ≡ c ∷ cs → Begins (t ++ (w ∷ more)) (c ∷ cs)
 begins_cut t more w c cs h e f =
-    let end = front_of t more w h e in
+    let end = prefix_of t more w h e in
     let same : t ≡ c ∷ cs = sym (ap (λ n. take n (t ++ (w ∷ more))) end ∙ take-append_seam t (w ∷ more)) ∙ f in
     let token : is_token t ≡ true = some_token t c cs same h in
     record {
@@ -139,20 +139,20 @@ begins_black xs c cs h f =
 
 begins_at : (xs : List ℕ) (c : ℕ) (cs : List ℕ) → (list_all (λ b. not (is_white b)) xs ≡ true) ⊎ Cut xs → before_first is_white xs ≡ c ∷ cs → Begins xs (c ∷ cs)
 begins_at xs c cs (inl h) f = begins_black xs c cs h f
-begins_at xs c cs (inr k) f = subst (λ (ys : List ℕ). Begins ys (c ∷ cs)) (sym k.is) (begins_cut k.front k.more k.white c cs k.black k.is_white (sym (ap (before_first is_white) k.is) ∙ f))
+begins_at xs c cs (inr k) f = subst (λ (ys : List ℕ). Begins ys (c ∷ cs)) (sym k.is) (begins_cut k.prefix k.more k.white c cs k.black k.is_white (sym (ap (before_first is_white) k.is) ∙ f))
 
 -- A line's tokens are its first token, if it has one, and the tokens of the rest.
 pub first_is_token : (line : List ℕ) (c : ℕ) (cs : List ℕ) → first_token line ≡ c ∷ cs → is_token (c ∷ cs) ≡ true
 first_is_token line c cs e = (begins_at (trim_left line) c cs (cut (trim_left line)) e).token
 
-pub tokens_some : (line : List ℕ) (c : ℕ) (cs : List ℕ) → first_token line ≡ c ∷ cs → tokens line ≡ (c ∷ cs) ∷ tokens (rest line)
+pub tokens_some : (line : List ℕ) (c : ℕ) (cs : List ℕ) → first_token line ≡ c ∷ cs → tokens line ≡ (c ∷ cs) ∷ tokens (rest_after_token line)
 tokens_some line c cs e =
     sym (tokens_trim_left line) ∙ (begins_at (trim_left line) c cs (cut (trim_left line)) e).list
     ∙ ap (λ us. (c ∷ cs) ∷ us) (sym (tokens_trimmed (drop (token_end (trim_left line)) (trim_left line))))
 
-left_step : (white : Bool) (x y : ℕ) (xs ys rest : List ℕ) → is_white x ≡ white → cond white rest (x ∷ xs) ≡ y ∷ ys → (rest ≡ y ∷ ys → is_white y ≡ false) → is_white y ≡ false
-left_step true x y xs ys rest e f h = h f
-left_step false x y xs ys rest e f h = let same : x ≡ y = cc in sym (ap is_white same) ∙ e
+left_step : (white : Bool) (x y : ℕ) (xs ys rest_after_token : List ℕ) → is_white x ≡ white → cond white rest_after_token (x ∷ xs) ≡ y ∷ ys → (rest_after_token ≡ y ∷ ys → is_white y ≡ false) → is_white y ≡ false
+left_step true x y xs ys rest_after_token e f h = h f
+left_step false x y xs ys rest_after_token e f h = let same : x ≡ y = cc in sym (ap is_white same) ∙ e
 
 left_black : (xs : List ℕ) (y : ℕ) (ys : List ℕ) → trim_left xs ≡ y ∷ ys → is_white y ≡ false
 left_black [] y ys e = absurd (cc)

@@ -1,4 +1,4 @@
--- What trimming does at the last byte, and that it does nothing a second time.
+-- The effect of trimming at the last byte, and that it does nothing a second time.
 use Rattle.std.proofs.Common.{◌≡◌, ℕ, ◌+◌, List, [], ◌∷◌, ◌++◌, Bool, true, false, ◌&&◌, cond, length, take, get_or, refl, ◌∙◌, sym, ap, arith}
 use Rattle.std.proofs.lemmas.List.{take_more, take_all}
 use Rattle.std.proofs.lemmas.List.Folds.{list_all-append}
@@ -6,23 +6,23 @@ use Rattle.std.specs.List.{list_all}
 use Rattle.std.proofs.lemmas.Bool.{and_parts}
 use Rattle.peer_words.specs.Tokens.{is_white, is_blank, trim_left, trim_right, trimmed}
 
-chosen : (a b w : Bool) (x : ℕ) (front all : List ℕ) → w ≡ true → cond (a && (b && (w && true))) [] (x ∷ front) ≡ cond (a && b) [] (x ∷ front)
-chosen true true w x front all e = rw e refl
-chosen true false w x front all e = refl
-chosen false b w x front all e = refl
+chosen : (a b w : Bool) (x : ℕ) (prefix all : List ℕ) → w ≡ true → cond (a && (b && (w && true))) [] (x ∷ prefix) ≡ cond (a && b) [] (x ∷ prefix)
+chosen true true w x prefix all e = rw e refl
+chosen true false w x prefix all e = refl
+chosen false b w x prefix all e = refl
 
 kept : (a b w : Bool) (none some : List ℕ) → w ≡ false → cond (a && (b && (w && true))) none some ≡ some
 kept true true w none some e = rw e refl
 kept true false w none some e = refl
 kept false b w none some e = refl
 
-pub drops_white : (front : List ℕ) (c : ℕ) → is_white c ≡ true → trim_right (front ++ (c ∷ [])) ≡ trim_right front
+pub drops_white : (prefix : List ℕ) (c : ℕ) → is_white c ≡ true → trim_right (prefix ++ (c ∷ [])) ≡ trim_right prefix
 drops_white [] c e = rw e refl
-drops_white (x ∷ front) c e = ap (λ t. cond (is_white x && list_all is_white (front ++ (c ∷ []))) [] (x ∷ t)) (drops_white front c e) ∙ rw list_all-append (chosen (is_white x) (list_all is_white front) (is_white c) x (trim_right front) [] e)
+drops_white (x ∷ prefix) c e = ap (λ t. cond (is_white x && list_all is_white (prefix ++ (c ∷ []))) [] (x ∷ t)) (drops_white prefix c e) ∙ rw list_all-append (chosen (is_white x) (list_all is_white prefix) (is_white c) x (trim_right prefix) [] e)
 
-pub keeps_black : (front : List ℕ) (c : ℕ) → is_white c ≡ false → trim_right (front ++ (c ∷ [])) ≡ front ++ (c ∷ [])
+pub keeps_black : (prefix : List ℕ) (c : ℕ) → is_white c ≡ false → trim_right (prefix ++ (c ∷ [])) ≡ prefix ++ (c ∷ [])
 keeps_black [] c e = rw e refl
-keeps_black (x ∷ front) c e = ap (λ t. cond (is_white x && list_all is_white (front ++ (c ∷ []))) [] (x ∷ t)) (keeps_black front c e) ∙ rw list_all-append (kept (is_white x) (list_all is_white front) (is_white c) [] (x ∷ (front ++ (c ∷ []))) e)
+keeps_black (x ∷ prefix) c e = ap (λ t. cond (is_white x && list_all is_white (prefix ++ (c ∷ []))) [] (x ∷ t)) (keeps_black prefix c e) ∙ rw list_all-append (kept (is_white x) (list_all is_white prefix) (is_white c) [] (x ∷ (prefix ++ (c ∷ []))) e)
 
 last_apart : (xs : List ℕ) (n : ℕ) → length xs ≡ n + 1 → take n xs ++ (get_or xs n 0 ∷ []) ≡ xs
 last_apart xs n e = sym (take_more xs n 0 (omega arith)) ∙ take_all (n + 1) xs (omega arith)

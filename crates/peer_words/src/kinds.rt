@@ -1,6 +1,6 @@
 // The kinds of a search.
 
-/// What a search is for: a move to be played, pondering, analysis.
+/// The purpose of a search: a move to be played, pondering, analysis.
 #[derive(Clone, Copy, Debug, PartialEq, Eq)]
 pub enum GoKind {
     Move,

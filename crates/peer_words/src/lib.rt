@@ -1,4 +1,4 @@
-//! What the grammars of both peers share: tokens, numbers, tables of words and the kinds of a search.
+//! The common parts of the grammars of both peers: tokens, numbers, tables of words and the kinds of a search.
 #![tactic(auto)]
 
 mod kinds;
@@ -11,4 +11,6 @@ pub use numbers::{
     MINUTE, SECOND, read_centis, read_count, read_digits, read_number, read_seconds, read_signed,
 };
 pub use tables::named;
-pub use tokens::{is_white, next_token, split_at_white, split_token, trim, trim_end, trim_start};
+pub use tokens::{
+    is_quit, is_white, next_token, split_at_white, split_token, trim, trim_end, trim_start,
+};

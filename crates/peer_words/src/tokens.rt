@@ -1,7 +1,7 @@
 // White space, tokens and rests.
 ghost use Rattle.std.specs.Prelude.{◌≡◌, ◌≤◌, ◌+◌, ◌<◌, ◌∷◌, [], length, drop, position, MatchOption, IfSome};
 ghost use Rattle.std.specs.List.{before_first};
-ghost use Rattle.peer_words.specs.Tokens.{is_white, trim_left, trim_right, trimmed, token_end, first_token, rest, tokens};
+ghost use Rattle.peer_words.specs.Tokens.{is_white, trim_left, trim_right, trimmed, token_end, first_token, rest_after_token, tokens};
 
 /// Blank, tab or CR.
 pub fn is_white(byte: u8) -> bool
@@ -51,7 +51,7 @@ fn white_at(text: &[u8]) -> Option<usize>
     text.iter().position(|b| is_white(*b))
 }
 
-/// What is before the first white space, and what begins with it; all and nothing if there is
+/// The text before the first white space, and the text that begins with it; all and nothing if there is
 /// none.
 pub fn split_at_white(text: &[u8]) -> (&[u8], &[u8])
     ensures token { result.0.now ≡ before_first is_white text.now }
@@ -66,7 +66,7 @@ pub fn split_at_white(text: &[u8]) -> (&[u8], &[u8])
 /// The first token of a line, empty if there is none, and the trimmed rest after it.
 pub fn split_token(line: &[u8]) -> (&[u8], &[u8])
     ensures token { result.0.now ≡ first_token line.now }
-    ensures rest { result.1.now ≡ rest line.now }
+    ensures rest { result.1.now ≡ rest_after_token line.now }
 {
     let (token, after) = split_at_white(trim_start(line));
     (token, trim(after))
@@ -84,4 +84,13 @@ pub fn next_token(text: &[u8]) -> Option<(&[u8], &[u8])>
     } else {
         Some((token, others))
     }
+}
+
+ghost use Rattle.peer_words.specs.Quit.{is_quit};
+
+/// True if a line says `quit`, in either protocol: its first token does, and the rest is not read.
+pub fn is_quit(line: &[u8]) -> bool
+    ensures { result ≡ is_quit line.now }
+{
+    split_token(line).0 == b"quit".as_slice()
 }

@@ -8,7 +8,7 @@ use chess_board::Position;
 use fen_text::read_fen;
 use std::io;
 
-/// How many lines of so many legal moves there are from a position, and one more move.
+/// The number of lines of so many legal moves from a position, and one more move.
 fn count_lines(position: &Position, more: u8) -> u64 {
     let moves = position.moves();
     if more == 0 {

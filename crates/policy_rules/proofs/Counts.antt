@@ -8,7 +8,7 @@ use Rattle.policy_rules.specs.declared.settings.TheConstants.{MOST_MOVES}
 use Rattle.policy_rules.specs.declared.settings.Settings.{Settings}
 use Rattle.policy_rules.specs.declared.scores.Scores.{Scores}
 use Rattle.policy_rules.specs.Policy.{IsProper}
-use Rattle.policy_rules.specs.Scores.{Score, AtMost, LastAtMost, Resigns, AcceptsDraw, lost_bound, is_at_most, run_after, score_counts, last_at_most, CountsTell, TestsTell}
+use Rattle.policy_rules.specs.Scores.{Score, AtMost, LastAtMost, Resigns, AcceptsDraw, lost_bound, is_at_most, run_after, score_counts, last_at_most, CountsMatchScores, TestsMatchPolicy}
 
 pub settings_kept : (o : Settings) (xs : List Score) → (score_counts o xs).settings ≡ o
 settings_kept o [] = refl
@@ -52,27 +52,27 @@ step : (n r : ℕ) (b : Bool) → suc n ≤ MOST_MOVES → leb (suc n) (run_afte
 step n r true l = longer n r l
 step n r false l = never n
 
-pub tells : (bound : ℤ) (n : ℕ) (xs : List Score) → n ≤ MOST_MOVES → Decides (leb n (run_of (is_at_most bound) xs)) (LastAtMost n bound xs)
-tells bound zero xs l = (λ e. tt, λ u. none_needed _)
-tells bound (suc n) [] l = grind (arith, nat_tests, never)
-tells bound (suc n) (x ∷ xs) l =
+pub reports : (bound : ℤ) (n : ℕ) (xs : List Score) → n ≤ MOST_MOVES → Decides (leb n (run_of (is_at_most bound) xs)) (LastAtMost n bound xs)
+reports bound zero xs l = (λ e. tt, λ u. none_needed _)
+reports bound (suc n) [] l = grind (arith, nat_tests, never)
+reports bound (suc n) (x ∷ xs) l =
     subst (λ b. Decides b (AtMost bound x × LastAtMost n bound xs)) (sym (step n (run_of (is_at_most bound) xs) (is_at_most bound x) l))
-    (Decides-and _ _ (at_most bound x) (tells bound n xs (omega arith)))
+    (Decides-and _ _ (at_most bound x) (reports bound n xs (omega arith)))
 
 pub draws : (o : Settings) (xs : List Score) (s : Scores) → IsProper o → s ≡ score_counts o xs → IsTrue (leb s.settings.resign_moves s.level) ↔ AcceptsDraw o xs
 draws o xs s p e =
     subst (λ (v : Scores). Decides (leb v.settings.resign_moves v.level) (AcceptsDraw o xs)) (sym e)
     (subst (λ (v : Settings). Decides (leb v.resign_moves (score_counts o xs).level) (AcceptsDraw o xs)) (sym (settings_kept o xs))
     (subst (λ n. Decides (leb o.resign_moves n) (AcceptsDraw o xs)) (sym (level_is o xs))
-    (tells (pos 0) o.resign_moves xs p.few_moves)))
+    (reports (pos 0) o.resign_moves xs p.few_moves)))
 
 -- the same of the lost ones, if resigning is on
-lost_tells : (o : Settings) (xs : List Score) (s : Scores) → IsProper o → s ≡ score_counts o xs → Decides (s.settings.resign && leb s.settings.resign_moves s.lost) (Resigns o xs)
-lost_tells o xs s p e =
+lost_reports : (o : Settings) (xs : List Score) (s : Scores) → IsProper o → s ≡ score_counts o xs → Decides (s.settings.resign && leb s.settings.resign_moves s.lost) (Resigns o xs)
+lost_reports o xs s p e =
     subst (λ (v : Scores). Decides (v.settings.resign && leb v.settings.resign_moves v.lost) (Resigns o xs)) (sym e)
     (subst (λ (v : Settings). Decides (v.resign && leb v.resign_moves (score_counts o xs).lost) (Resigns o xs)) (sym (settings_kept o xs))
     (subst (λ n. Decides (o.resign && leb o.resign_moves n) (Resigns o xs)) (sym (lost_is o xs))
-    (Decides-and _ _ (λ q. q, λ q. q) (tells (lost_bound o) o.resign_moves xs p.few_moves))))
+    (Decides-and _ _ (λ q. q, λ q. q) (reports (lost_bound o) o.resign_moves xs p.few_moves))))
 
 both_are : {P : Type 0} (a b : Bool) → Decides (a && b) P → a ≡ true → Decides b P
 both_are true b d e = d
@@ -83,34 +83,34 @@ one_fails true b d e = grind arith
 one_fails false b d e = d
 
 pub resigns_on : (o : Settings) (xs : List Score) (s : Scores) → IsProper o → s ≡ score_counts o xs → s.settings.resign ≡ true → IsTrue (leb s.settings.resign_moves s.lost) ↔ Resigns o xs
-resigns_on o xs s p e on = both_are s.settings.resign (leb s.settings.resign_moves s.lost) (lost_tells o xs s p e) on
+resigns_on o xs s p e on = both_are s.settings.resign (leb s.settings.resign_moves s.lost) (lost_reports o xs s p e) on
 
 pub resigns_off : (o : Settings) (xs : List Score) (s : Scores) → IsProper o → s ≡ score_counts o xs → s.settings.resign ≡ false → IsTrue s.settings.resign ↔ Resigns o xs
-resigns_off o xs s p e off = one_fails s.settings.resign (leb s.settings.resign_moves s.lost) (lost_tells o xs s p e) off
+resigns_off o xs s p e off = one_fails s.settings.resign (leb s.settings.resign_moves s.lost) (lost_reports o xs s p e) off
 
 -- THE TESTS
 
-list_tells : (bound : ℤ) (n : ℕ) (xs : List Score) → Decides (last_at_most n bound xs) (LastAtMost n bound xs)
-list_tells bound zero xs = (λ e. tt, λ u. refl)
-list_tells bound (suc n) [] = grind arith
-list_tells bound (suc n) (x ∷ xs) = Decides-and _ _ (at_most bound x) (list_tells bound n xs)
+list_reports : (bound : ℤ) (n : ℕ) (xs : List Score) → Decides (last_at_most n bound xs) (LastAtMost n bound xs)
+list_reports bound zero xs = (λ e. tt, λ u. refl)
+list_reports bound (suc n) [] = grind arith
+list_reports bound (suc n) (x ∷ xs) = Decides-and _ _ (at_most bound x) (list_reports bound n xs)
 
-pub tests_tell : TestsTell
-tests_tell o xs = (Decides-and _ _ (λ q. q, λ q. q) (list_tells (lost_bound o) o.resign_moves xs), list_tells (pos 0) o.resign_moves xs)
+pub tests_match : TestsMatchPolicy
+tests_match o xs = (Decides-and _ _ (λ q. q, λ q. q) (list_reports (lost_bound o) o.resign_moves xs), list_reports (pos 0) o.resign_moves xs)
 
 -- a run is long enough if and only if the last scores pass
-run_tells : (bound : ℤ) (n : ℕ) (xs : List Score) → n ≤ MOST_MOVES → leb n (run_of (is_at_most bound) xs) ≡ last_at_most n bound xs
-run_tells bound zero xs l = none_needed _
-run_tells bound (suc n) [] l = never n
-run_tells bound (suc n) (x ∷ xs) l =
-    step n (run_of (is_at_most bound) xs) (is_at_most bound x) l ∙ ap (λ b. is_at_most bound x && b) (run_tells bound n xs (omega arith))
+run_reports : (bound : ℤ) (n : ℕ) (xs : List Score) → n ≤ MOST_MOVES → leb n (run_of (is_at_most bound) xs) ≡ last_at_most n bound xs
+run_reports bound zero xs l = none_needed _
+run_reports bound (suc n) [] l = never n
+run_reports bound (suc n) (x ∷ xs) l =
+    step n (run_of (is_at_most bound) xs) (is_at_most bound x) l ∙ ap (λ b. is_at_most bound x && b) (run_reports bound n xs (omega arith))
 
-pub counts_tell : CountsTell
-counts_tell o xs p = (
+pub counts_match : CountsMatchScores
+counts_match o xs p = (
   ap (λ (v : Settings). v.resign && leb v.resign_moves (score_counts o xs).lost) (settings_kept o xs)
       ∙ ap (λ n. o.resign && leb o.resign_moves n) (lost_is o xs)
-      ∙ ap (λ b. o.resign && b) (run_tells (lost_bound o) o.resign_moves xs p.few_moves),
+      ∙ ap (λ b. o.resign && b) (run_reports (lost_bound o) o.resign_moves xs p.few_moves),
   ap (λ (v : Settings). leb v.resign_moves (score_counts o xs).level) (settings_kept o xs)
       ∙ ap (λ n. leb o.resign_moves n) (level_is o xs)
-      ∙ run_tells (pos 0) o.resign_moves xs p.few_moves,
+      ∙ run_reports (pos 0) o.resign_moves xs p.few_moves,
 )

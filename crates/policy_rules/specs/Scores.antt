@@ -1,4 +1,4 @@
--- What the policy says of the scores of the moves that the engine showed.
+-- The policy's rule on the scores of the moves that the engine showed.
 use Rattle.std.specs.Prelude.{◌≡◌, ◌↔◌, IsTrue, ◌+◌, ℕ, zero, suc, ℤ, ◌≤ℤ◌, int_le}
 use Rattle.std.specs.Prelude.{pos, neg_ℤ, List, [], ◌∷◌, Bool, true, false, ◌&&◌}
 use Rattle.std.specs.Prelude.{if◌then◌else◌, nat_lt, nat_le, Option, Some, None}
@@ -85,16 +85,16 @@ resigns_by counts = counts.settings.resign && nat_le counts.settings.resign_move
 abbrev pub accepts_by : Scores → Bool
 accepts_by counts = nat_le counts.settings.resign_moves counts.level
 
--- What the counts say is what the scores say, if the settings are proper.
-abbrev pub CountsTell : Type 0
-CountsTell =
+-- The counts say what the scores say, if the settings are proper.
+abbrev pub CountsMatchScores : Type 0
+CountsMatchScores =
     (settings : Settings) (scores : List Score) → IsProper settings
     → (resigns_by (score_counts settings scores) ≡ does_resign settings scores)
     × (accepts_by (score_counts settings scores) ≡ does_accept settings scores)
 
 -- The tests on scores hold if and only if the policy says so.
-abbrev pub TestsTell : Type 0
-TestsTell =
+abbrev pub TestsMatchPolicy : Type 0
+TestsMatchPolicy =
     (settings : Settings) (scores : List Score)
     → (IsTrue (does_resign settings scores) ↔ Resigns settings scores)
     × (IsTrue (does_accept settings scores) ↔ AcceptsDraw settings scores)

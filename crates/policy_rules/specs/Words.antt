@@ -1,4 +1,4 @@
--- What words NAME=VALUE choose.
+-- The choices of words NAME=VALUE.
 use Rattle.std.specs.Prelude.{ℕ, ◌+◌, List, [], ◌∷◌, map, take, drop, position, Bool, true, false}
 use Rattle.std.specs.Prelude.{◌&&◌, ◌==◌, if◌then◌else◌, nat_le, codes, Option, Some, None}
 use Rattle.std.specs.List.{before_first}
@@ -7,7 +7,7 @@ use Rattle.std.specs.Map.{lookup}
 use Rattle.std.specs.Str.{bytes_eq}
 use Rattle.peer_words.specs.Bytes.{equals}
 use Rattle.peer_words.specs.Numbers.{digits}
-use Rattle.policy_rules.specs.Table.{name_of, range_of, settings, with_choice}
+use Rattle.policy_rules.specs.Table.{name_of, range_of_setting, settings, with_choice}
 use Rattle.policy_rules.specs.declared.settings.Settings.{Settings}
 use Rattle.policy_rules.specs.declared.table.Setting.{Setting}
 use Rattle.policy_rules.specs.declared.table.Range.{Range}
@@ -31,14 +31,14 @@ within least most None = None
 within least most (Some n) = if nat_le least n && nat_le n most then Some n else None
 
 -- a number of so many digits at most, within the range
-abbrev pub number_in : ℕ → ℕ → ℕ → List ℕ → Option ℕ
-number_in places least most text = within least most (digits places text)
+abbrev pub number_in_range : ℕ → ℕ → ℕ → List ℕ → Option ℕ
+number_in_range places least most text = within least most (digits places text)
 
 -- the value of a range that a text spells
-abbrev pub value_in : Range → List ℕ → Option Value
-value_in ranges.Truth text = option_map (λ b. Truth b) (truth_in text)
-value_in (ranges.Number least most) text =
-    option_map (λ n. Number n) (number_in NUMBER_PLACES least most text)
+abbrev pub range_value : Range → List ℕ → Option Value
+range_value ranges.Truth text = option_map (λ b. Truth b) (truth_in text)
+range_value (ranges.Number least most) text =
+    option_map (λ n. Number n) (number_in_range NUMBER_PLACES least most text)
 
 abbrev pub is_equals : ℕ → Bool
 is_equals b = b == equals
@@ -50,7 +50,7 @@ name_in word = before_first is_equals word
 abbrev pub choice_for : Setting → List ℕ → Option Choice
 choice_for setting text =
     option_map (λ value. record { setting = setting; value = value })
-    (value_in (range_of setting) text)
+    (range_value (range_of_setting setting) text)
 
 abbrev pub choice_at : Option ℕ → List ℕ → Option Choice
 choice_at None word = None

@@ -71,7 +71,7 @@ impl Scores {
         self.level = 0;
     }
 
-    /// Whether the game is resigned after the move that was shown last.
+    /// True if the game is resigned after the move that was shown last.
     pub fn resigns(&self) -> bool
         ensures value { result ≡ resigns_by self.now }
         ensures exact { (settings : SomeSettings) (scores : List Score) → IsProper settings
@@ -80,7 +80,7 @@ impl Scores {
         self.settings.resign && self.lost >= self.settings.resign_moves
     }
 
-    /// Whether a draw that the opponent offers is accepted.
+    /// True if a draw that the opponent offers is accepted.
     pub fn accepts_draw(&self) -> bool
         ensures value { result ≡ accepts_by self.now }
         ensures exact { (settings : SomeSettings) (scores : List Score) → IsProper settings

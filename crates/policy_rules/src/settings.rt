@@ -8,32 +8,32 @@ pub const MOST_MOVES: u32 = 1_000;
 /// The worst score that may be asked for, in hundredths of a pawn.
 pub const MOST_SCORE: u32 = 100_000;
 
-/// How many scores in a row usually decide.
+/// The usual number of scores in a row that decide.
 pub const USUAL_MOVES: u32 = 3;
 
-/// How bad each of them usually is at least.
+/// The usual least loss that each of them shows.
 pub const USUAL_SCORE: u32 = 600;
 
-/// What the words of a program choose. A field has a row in the table of `table.rt`.
+/// The choices of a program's arguments. A field has a row in the table of `table.rt`.
 #[derive(Clone, Copy, PartialEq, Eq)]
 pub struct Settings {
-    /// Whether the bridge resigns for the engine.
+    /// True if the bridge resigns for the engine.
     pub resign: bool,
-    /// How many scores in a row decide, 1 to `MOST_MOVES`.
+    /// The scores in a row that decide, 1 to `MOST_MOVES`.
     pub resign_moves: u32,
-    /// How bad each of them is at least, in hundredths of a pawn, 0 to `MOST_SCORE`.
+    /// The least loss that each shows, in hundredths of a pawn, 0 to `MOST_SCORE`.
     pub resign_score: u32,
-    /// Whether thinking is shown while the engine ponders.
+    /// True if thinking is shown while the engine ponders.
     pub show_ponder: bool,
-    /// Whether settings that come before the engine's options are known wait for them.
+    /// True if settings that come before the engine's options are known wait for them.
     pub early_settings: bool,
-    /// Whether an engine that is gone resigns the game in which it owes a move.
+    /// True if an engine that is gone resigns the game in which it owes a move.
     pub resign_when_gone: bool,
-    /// Whether the policy answers an offer of a draw; else it gets silence.
+    /// True if the policy answers an offer of a draw; else it gets silence.
     pub handle_draws: bool,
-    /// Whether the moves of thinking lines are in standard algebraic notation.
+    /// True if the moves of thinking lines are in standard algebraic notation.
     pub show_san: bool,
-    /// Whether the options that limit the engine's strength are shown.
+    /// True if the options that limit the engine's strength are shown.
     pub strength_options: bool,
 }
 

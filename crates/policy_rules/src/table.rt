@@ -1,8 +1,8 @@
 // The table of settings.
 ghost use Rattle.std.specs.Prelude.{◌≡◌, Some};
 ghost use Rattle.policy_rules.specs.Policy.{usual, IsProper};
-ghost use Rattle.policy_rules.specs.Table.{IsWithin, has_usual_rest, is_same, is_true, is_usual, is_usual_in, name_of, number_of, range_of, usual_text, value_of, with_choice};
-ghost use Rattle.policy_rules.specs.Words.{value_in};
+ghost use Rattle.policy_rules.specs.Table.{IsWithinRange, has_usual_rest, is_same_value, is_true, is_usual, is_usual_in, name_of, number_of_value, range_of_setting, usual_text, setting_value, with_choice};
+ghost use Rattle.policy_rules.specs.Words.{range_value};
 ghost use Rattle.policy_rules.specs.declared.table.Range.TheVariants as ranges;
 
 use crate::settings::{MOST_MOVES, MOST_SCORE, Settings};
@@ -34,7 +34,7 @@ pub const SETTINGS: [Setting; 9] = [
     Setting::StrengthOptions,
 ];
 
-/// How many of them every header states. A header of version 2 states no others.
+/// The number of them that every header states. A header of version 2 states no others.
 pub const FIRST_SETTINGS: usize = 4;
 
 /// The values that a setting may have.
@@ -51,7 +51,7 @@ pub enum Value {
     Number(u32),
 }
 
-/// What a word NAME=VALUE chooses.
+/// The choice of a word NAME=VALUE.
 #[derive(Clone, Copy)]
 pub struct Choice {
     pub setting: Setting,
@@ -95,10 +95,11 @@ impl Setting {
     /// Its row of the table.
     pub fn row(self) -> SettingRow
         ensures name { result.name.now ≡ name_of self }
-        ensures range { result.range ≡ range_of self }
+        ensures range { result.range ≡ range_of_setting self }
         ensures usual { result.usual.now ≡ usual_text self }
         // This text is read as the usual value.
-        ensures read { value_in (range_of self) (usual_text self) ≡ Some (value_of usual self) }
+        ensures read { range_value (range_of_setting self) (usual_text self) ≡ Some
+            (setting_value usual self) }
     {
         match self {
             Setting::Resign => truth("Resign", "false"),
@@ -125,7 +126,7 @@ impl Value {
     }
 
     fn number(self) -> u32
-        ensures { result ≡ number_of self }
+        ensures { result ≡ number_of_value self }
     {
         match self {
             Value::Truth(_) => 0,
@@ -137,8 +138,8 @@ impl Value {
 impl Settings {
     /// The value of a setting.
     pub fn value(&self, setting: Setting) -> Value
-        ensures value { result ≡ value_of self.now setting }
-        ensures within { IsProper self.now → IsWithin (range_of setting) result }
+        ensures value { result ≡ setting_value self.now setting }
+        ensures within { IsProper self.now → IsWithinRange (range_of_setting setting) result }
     {
         match setting {
             Setting::Resign => Value::Truth(self.resign),
@@ -156,7 +157,8 @@ impl Settings {
     /// The settings with one chosen anew.
     pub fn with(self, choice: Choice) -> Settings
         ensures chosen { result ≡ with_choice self choice }
-        ensures proper { IsProper self → IsWithin (range_of choice.setting) choice.value
+        ensures proper { IsProper self → IsWithinRange (range_of_setting choice.setting)
+            choice.value
             → IsProper result }
     {
         let Choice { setting, value } = choice;
@@ -175,14 +177,14 @@ impl Settings {
         settings
     }
 
-    /// Whether the settings after the first ones all have their usual values.
+    /// True if the settings after the first ones all have their usual values.
     pub fn has_usual_rest(&self) -> bool
         ensures { result ≡ has_usual_rest self.now }
     {
         self.is_usual_in(&SETTINGS[FIRST_SETTINGS..])
     }
 
-    // Whether each of these settings has its usual value.
+    // True if each of these settings has its usual value.
     fn is_usual_in(&self, settings: &[Setting]) -> bool
         ensures { result ≡ is_usual_in settings.now self.now }
     {
@@ -197,7 +199,7 @@ impl Settings {
 }
 
 fn is_same(left: Value, right: Value) -> bool
-    ensures { result ≡ is_same left right }
+    ensures { result ≡ is_same_value left right }
 {
     match (left, right) {
         (Value::Truth(left), Value::Truth(right)) => left == right,

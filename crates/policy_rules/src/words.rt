@@ -1,12 +1,12 @@
 // Words NAME=VALUE.
 ghost use Rattle.std.specs.Prelude.{◌≡◌, ◌==◌, ◌≤◌, position, IfSome};
-ghost use Rattle.policy_rules.specs.Table.{IsWithin, range_of};
-ghost use Rattle.policy_rules.specs.Words.{choice_of, is_equals, name_in, number_in, setting_named, truth_in, value_in};
+ghost use Rattle.policy_rules.specs.Table.{IsWithinRange, range_of_setting};
+ghost use Rattle.policy_rules.specs.Words.{choice_of, is_equals, name_in, number_in_range, setting_named, truth_in, range_value};
 
 use crate::table::{Choice, Range, SETTINGS, Setting, Value};
 use peer_words::read_digits;
 
-/// How many digits the number of a setting has at most.
+/// The greatest number of digits of the number of a setting.
 const NUMBER_PLACES: usize = 6;
 
 impl Setting {
@@ -40,7 +40,7 @@ fn read_truth(text: &[u8]) -> Option<bool>
 /// The number within a range that a text of so many digits at most spells, if it spells one.
 pub fn read_number(text: &[u8], places: usize, least: u32, most: u32) -> Option<u32>
     requires { places ≤ 18 }
-    ensures value { result ≡ number_in places least most text.now }
+    ensures value { result ≡ number_in_range places least most text.now }
     ensures range { IfSome result (λ n. (least ≤ n) × (n ≤ most)) }
 {
     let number = read_digits(text, places)?;
@@ -54,8 +54,8 @@ pub fn read_number(text: &[u8], places: usize, least: u32, most: u32) -> Option<
 impl Range {
     // The value within this range that a text spells, if it spells one.
     fn read(self, text: &[u8]) -> Option<Value>
-        ensures value { result ≡ value_in self text.now }
-        ensures within { IfSome result (λ value. IsWithin self value) }
+        ensures value { result ≡ range_value self text.now }
+        ensures within { IfSome result (λ value. IsWithinRange self value) }
     {
         match self {
             Range::Truth => Some(Value::Truth(read_truth(text)?)),
@@ -85,10 +85,11 @@ pub fn name_in(word: &[u8]) -> &[u8]
     }
 }
 
-/// What a word NAME=VALUE chooses, if it is one.
+/// The choice of a word NAME=VALUE, if it is one.
 pub fn read_choice(word: &[u8]) -> Option<Choice>
     ensures value { result ≡ choice_of word.now }
-    ensures within { IfSome result (λ choice. IsWithin (range_of choice.setting) choice.value) }
+    ensures within { IfSome result (λ choice. IsWithinRange (range_of_setting choice.setting)
+        choice.value) }
 {
     let at = equals_at(word)?;
     let setting = Setting::named(&word[..at])?;

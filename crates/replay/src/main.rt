@@ -2,7 +2,7 @@
 #![tactic(auto)]
 
 use line_io::{ReadAdapter, WriteAdapter};
-use program_edges::{About, answer_about, words_of};
+use program_command_line::{About, answer_about, arguments_of};
 use replay_tool::{refuse_for_memory, replay_main};
 use std::process::ExitCode;
 
@@ -25,12 +25,12 @@ fn main(rt: HostRuntime) -> ExitCode {
     let mut input = ReadAdapter::new(rt.stdin());
     let mut output = WriteAdapter::new(rt.stdout());
     let mut diag = WriteAdapter::new(rt.stderr());
-    let status = match words_of(&rt, rt.alloc(), usize::MAX) {
-        Ok(words) => match answer_about(rt.alloc(), words.as_slice(), &ABOUT, &mut output) {
+    let status = match arguments_of(&rt, rt.alloc(), usize::MAX) {
+        Ok(arguments) => match answer_about(rt.alloc(), arguments.as_slice(), &ABOUT, &mut output) {
             Some(status) => status,
             None => replay_main(
                 rt.alloc(),
-                words.as_slice(),
+                arguments.as_slice(),
                 &mut input,
                 &mut output,
                 &mut diag,

@@ -1,46 +1,46 @@
--- What each command comes to.
+-- The result of each command.
 use Rattle.std.proofs.Common.{◌≡◌, ℕ, List, Option, Some, None, sym, subst}
 use Rattle.session_judge.specs.declared.listener.Listener.{Listener}
 use Rattle.policy_rules.specs.declared.settings.Settings.{Settings}
-use Rattle.replay_commands.specs.Checked.{Checked}
-use Rattle.replay_commands.specs.Commands.{ReplayRequest}
-use Rattle.replay_commands.specs.Commands as asked
-use Rattle.replay_tool.specs.Does.{Does}
-use Rattle.replay_commands.specs.Drilled.{Drilled}
+use Rattle.replay_commands_on_core.specs.Checked.{Checked}
+use Rattle.replay_commands_on_core.specs.Commands.{ReplayRequest}
+use Rattle.replay_commands_on_core.specs.Commands as asked
+use Rattle.replay_tool.specs.Does.{ReplayDoes}
+use Rattle.replay_commands_on_core.specs.Drilled.{Drilled}
 use Rattle.replay_tool.specs.Driving.{DrivesTheOrdered}
-use Rattle.replay_commands.specs.Listed.{Listed}
-use Rattle.replay_commands.specs.OwnScripts.{JudgesOwnTalk, MigratesOwnScripts}
-use Rattle.line_scribe.specs.Ran.{Refused}
-use Rattle.replay_commands.specs.Replayed.{Replayed}
-use Rattle.line_scribe.specs.Streams.{Streams}
+use Rattle.replay_commands_on_core.specs.Listed.{Listed}
+use Rattle.replay_commands_on_core.specs.OwnScripts.{JudgesOwnTalk, MigratesOwnScripts}
+use Rattle.line_command.specs.Ran.{Refused}
+use Rattle.replay_commands_on_core.specs.Replayed.{Replayed}
+use Rattle.line_command.specs.Streams.{FilterStreams}
 use Rattle.judge_report.specs.Judged.{Judged}
-use Rattle.script_commands.specs.Migrated.{Migrated}
-use Rattle.script_commands.specs.Revived.{Revived}
-use Rattle.script_commands.specs.Driven.{Driven}
-use Rattle.script_commands.specs.Scripts.{events_of}
-use Rattle.lawful_talk.specs.Runs.{HearsTheOrdered}
+use Rattle.replay_commands_without_core.specs.Migrated.{Migrated}
+use Rattle.replay_commands_without_core.specs.Revived.{ReviveCommandIs}
+use Rattle.replay_commands_without_core.specs.Driven.{DriveCommandIs}
+use Rattle.replay_commands_without_core.specs.Scripts.{driven_events}
+use Rattle.judge_and_driver_laws.specs.Runs.{HearsTheOrdered}
 use Rattle.line_io.specs.Lines.{items}
 use Rattle.line_io.specs.declared.limits.TheConstants.{SCRIPT_LINE}
-use Rattle.session_writer.specs.GamesWritten.{GamesWritten}
-use Rattle.session_writer.specs.PositionsWritten.{PositionsWritten}
-use Rattle.replay_commands.proofs.Answers as ran
-use Rattle.replay_commands.proofs.Verdicts as checks
-use Rattle.replay_commands.proofs.Listing as listing
-use Rattle.replay_commands.proofs.Drilling as drilling
-use Rattle.replay_commands.proofs.OwnTalk.{judges_own_talk}
-use Rattle.replay_commands.proofs.OwnMigrations.{migrates_own}
-use Rattle.line_scribe.proofs.Telling as told
+use Rattle.session_export.specs.GamesWritten.{GamesWritten}
+use Rattle.session_export.specs.PositionsWritten.{PositionsWritten}
+use Rattle.replay_commands_on_core.proofs.Answers as ran
+use Rattle.replay_commands_on_core.proofs.Verdicts as checks
+use Rattle.replay_commands_on_core.proofs.Listing as listing
+use Rattle.replay_commands_on_core.proofs.Drilling as drilling
+use Rattle.replay_commands_on_core.proofs.OwnTalk.{judges_own_talk}
+use Rattle.replay_commands_on_core.proofs.OwnMigrations.{migrates_own}
+use Rattle.line_command.proofs.Announcing as announced
 
-module _ (unread kept silent : Type 0) (start now : Streams) (code : ℕ) where
+module _ (unread kept silent : Type 0) (start now : FilterStreams) (code : ℕ) where
   abbrev D : Option ReplayRequest → Type 0
-  D command = Does command unread kept silent start now code
+  D command = ReplayDoes command unread kept silent start now code
 
   pub is_done : (a b : Option ReplayRequest) → a ≡ b → D b → D a
   is_done a b e d = subst D (sym e) d
 
   -- the same with the code as a status has it
-  pub at_code : (command : Option ReplayRequest) (k : ℕ) → k ≡ code → D command → Does command unread kept silent start now k
-  at_code command k e d = subst (λ (x : ℕ). Does command unread kept silent start now x) (sym e) d
+  pub at_code : (command : Option ReplayRequest) (k : ℕ) → k ≡ code → D command → ReplayDoes command unread kept silent start now k
+  at_code command k e d = subst (λ (x : ℕ). ReplayDoes command unread kept silent start now x) (sym e) d
 
   pub usage : (command : Option ReplayRequest) → D command → command ≡ None → Refused unread kept start now code
   usage command d e = subst D e d
@@ -63,10 +63,10 @@ module _ (unread kept silent : Type 0) (start now : Streams) (code : ℕ) where
   pub judged_own : (command : Option ReplayRequest) → D command → (listener : Listener) → command ≡ Some (asked.Judge listener) → JudgesOwnTalk listener start now code
   judged_own command d listener e = judges_own_talk listener (unread × kept) start now code (judged command d listener e)
 
-  pub revived : (command : Option ReplayRequest) → D command → (lives : ℕ) → command ≡ Some (asked.Revive lives) → Revived lives (unread × kept) start now code
+  pub revived : (command : Option ReplayRequest) → D command → (lives : ℕ) → command ≡ Some (asked.Revive lives) → ReviveCommandIs lives (unread × kept) start now code
   revived command d lives e = subst D e d
 
-  pub driven : (command : Option ReplayRequest) → D command → command ≡ Some asked.Drive → Driven (unread × kept) start now code
+  pub driven : (command : Option ReplayRequest) → D command → command ≡ Some asked.Drive → DriveCommandIs (unread × kept) start now code
   driven command d e = subst D e d
 
   pub driven_ordered : HearsTheOrdered → (command : Option ReplayRequest) → D command → command ≡ Some asked.Drive → DrivesTheOrdered start now code
@@ -79,7 +79,7 @@ module _ (unread kept silent : Type 0) (start now : Streams) (code : ℕ) where
         text = all.text;
         driven = all.driven;
         written = all.written;
-        heard = law o taken (events_of (items SCRIPT_LINE all.got)) all.driven.script.after going all.driven.script.goes;
+        heard = law o taken (driven_events (items SCRIPT_LINE all.got)) all.driven.script.after going all.driven.script.goes;
       }
 
   pub games_written : (command : Option ReplayRequest) → D command → (o : Settings) → command ≡ Some (asked.Games o) → GamesWritten o unread kept start now code
@@ -95,7 +95,7 @@ module _ (unread kept silent : Type 0) (start now : Streams) (code : ℕ) where
   drilled command d number count e = let x : D (Some (asked.Drill number count)) = subst D e d in drilling.drilled number count unread kept silent start now code x.0 x.1
 
   pub memory : (command : Option ReplayRequest) → D command → code ≡ 3 → unread × kept
-  memory None d z = absurd (told.no_told code start.diag now.diag 2 _ 3 (λ e. cc) (λ e. cc) d.told z)
+  memory None d z = absurd (announced.no_announced code start.diag now.diag 2 _ 3 (λ e. cc) (λ e. cc) d.announced z)
   memory (Some (asked.Replay o)) d z = ran.memory o unread kept start now code d.1 z
   memory (Some (asked.Check o)) d z = checks.memory o unread kept start now d.0 code d.1 z
   memory (Some (asked.Drill number count)) d z = (d.0, drilling.wants _ _ _ _ _ _ _ _ _ d.1 z)

@@ -2,57 +2,60 @@
 ghost use Rattle.std.specs.Prelude.{◌≡◌, ℕ, List, Some, None};
 ghost use Rattle.policy_rules.specs.declared.settings.Settings.{Settings as AnySettings};
 ghost use Rattle.session_judge.specs.declared.listener.Listener.{Listener as AnyListener};
-ghost use Rattle.replay_commands.specs.Checked.{Checked};
-ghost use Rattle.replay_commands.specs.Commands as asked;
-ghost use Rattle.replay_commands.specs.Commands.{command_of, texts};
-ghost use Rattle.line_scribe.specs.Diagnostics.{code_of, tail_of};
-ghost use Rattle.replay_tool.specs.Does.{Does};
+ghost use Rattle.replay_commands_on_core.specs.Checked.{Checked};
+ghost use Rattle.replay_commands_on_core.specs.Commands as asked;
+ghost use Rattle.replay_commands_on_core.specs.Commands.{replay_command_of, argument_bytes};
+ghost use Rattle.line_command.specs.Diagnostics.{command_status, tail_of};
+ghost use Rattle.replay_tool.specs.Does.{ReplayDoes};
 ghost use Rattle.replay_tool.specs.Driving.{DrivesTheOrdered};
-ghost use Rattle.replay_commands.specs.Drilled.{Drilled};
-ghost use Rattle.replay_commands.specs.Listed.{Listed};
-ghost use Rattle.replay_commands.specs.OwnScripts.{JudgesOwnTalk, MigratesOwnScripts};
-ghost use Rattle.replay_commands.specs.Laws.{HaveLaws};
-ghost use Rattle.line_scribe.specs.Ran.{Refused};
-ghost use Rattle.replay_commands.specs.Replayed.{Replayed};
-ghost use Rattle.line_scribe.specs.Streams.{streams};
+ghost use Rattle.replay_commands_on_core.specs.Drilled.{Drilled};
+ghost use Rattle.replay_commands_on_core.specs.Listed.{Listed};
+ghost use Rattle.replay_commands_on_core.specs.OwnScripts.{JudgesOwnTalk, MigratesOwnScripts};
+ghost use Rattle.replay_commands_on_core.specs.Laws.{HaveLaws};
+ghost use Rattle.line_command.specs.Ran.{Refused};
+ghost use Rattle.replay_commands_on_core.specs.Replayed.{Replayed};
+ghost use Rattle.line_command.specs.Streams.{filter_streams};
 ghost use Rattle.judge_report.specs.Judged.{Judged};
-ghost use Rattle.script_commands.specs.Migrated.{Migrated};
-ghost use Rattle.script_commands.specs.Revived.{Revived};
-ghost use Rattle.script_commands.specs.Driven.{Driven};
-ghost use Rattle.session_writer.specs.GamesWritten.{GamesWritten};
-ghost use Rattle.session_writer.specs.PositionsWritten.{PositionsWritten};
+ghost use Rattle.replay_commands_without_core.specs.Migrated.{Migrated};
+ghost use Rattle.replay_commands_without_core.specs.Revived.{ReviveCommandIs};
+ghost use Rattle.replay_commands_without_core.specs.Driven.{DriveCommandIs};
+ghost use Rattle.session_export.specs.GamesWritten.{GamesWritten};
+ghost use Rattle.session_export.specs.PositionsWritten.{PositionsWritten};
 
+use judge_and_driver_laws::engines_hear_the_ordered;
 use judge_report::run_judge;
-use lawful_talk::engines_hear_the_ordered;
+use line_command::{Ending, report_without_buffer};
 use line_io::{Sink, Source, Status};
-use line_scribe::{Ending, tell_short};
 use policy_rules::Settings;
-use replay_commands::{ReplayCommand, list_moves, play_drill, read_command, run_check, run_replay};
-use script_commands::{migrate, run_drive, run_revive};
-use session_writer::{write_games, write_positions};
+use replay_commands_on_core::{
+    ReplayCommand, list_moves, play_drill, read_command, run_check, run_replay,
+};
+use replay_commands_without_core::{migrate, run_drive, run_revive};
+use session_export::{write_games, write_positions};
 use std::alloc::Global;
 
-// What holds of every session with these settings, and with those of a header.
+// The laws of every session with these settings, and with those of a header.
 fn session_laws(settings: Settings)
     ensures { HaveLaws settings }
 {
     let _ = settings;
 }
 
-// Runs the command of the words.
-fn run_words<I: Source, O: Sink, D: Sink>(
+// Runs the command of the arguments.
+fn run_arguments<I: Source, O: Sink, D: Sink>(
     alloc: Global,
-    words: &[Vec<u8>],
+    arguments: &[Vec<u8>],
     input: &mut I,
     output: &mut O,
     diag: &mut D,
 ) -> Ending
-    ensures { Does (command_of (texts words.now))
+    ensures { ReplayDoes (replay_command_of (argument_bytes arguments.now))
         (input.new ≡ input.old) (output.new ≡ output.old) (diag.new ≡ diag.old)
-        (streams (I.state input.old) (O.state output.old) (D.state diag.old))
-        (streams (I.state input.new) (O.state output.new) (D.state diag.new)) (code_of result) }
+        (filter_streams (I.state input.old) (O.state output.old) (D.state diag.old))
+        (filter_streams (I.state input.new) (O.state output.new) (D.state diag.new))
+        (command_status result) }
 {
-    match read_command(words) {
+    match read_command(arguments) {
         Some(ReplayCommand::Replay(settings)) => {
             session_laws(settings);
             run_replay(alloc, &settings, input, output, diag)
@@ -72,8 +75,8 @@ fn run_words<I: Source, O: Sink, D: Sink>(
         Some(ReplayCommand::Drill { number, count }) => play_drill(
             alloc, number, count, output, diag,
         ),
-        Some(ReplayCommand::Moves(words)) => list_moves(alloc, words, output, diag),
-        None => tell_short(Ending::Usage, diag),
+        Some(ReplayCommand::Moves(arguments)) => list_moves(alloc, arguments, output, diag),
+        None => report_without_buffer(Ending::Usage, diag),
     }
 }
 
@@ -114,98 +117,101 @@ fn run_words<I: Source, O: Sink, D: Sink>(
 /// either.
 ///
 /// The statuses are 0; 1 if `check` found a difference, or `judge` a mark that breaks a rule; 2 if
-/// the words are others, if a line of the input has no mark, is out of step or its event may not
+/// the arguments are others, if a line of the input has no mark, is out of step or its event may not
 /// come, or if the text spells no position; 3 if there is no memory at the beginning; 4 and 5 if
 /// reading and writing failed; and 6 if the input is too long.
 pub fn replay_main<I: Source, O: Sink, D: Sink>(
     alloc: Global,
-    words: &[Vec<u8>],
+    arguments: &[Vec<u8>],
     input: &mut I,
     output: &mut O,
     diag: &mut D,
 ) -> Status
-    ensures usage { command_of (texts words.now) ≡ None
+    ensures usage { replay_command_of (argument_bytes arguments.now) ≡ None
         → Refused (input.new ≡ input.old) (output.new ≡ output.old)
-        (streams (I.state input.old) (O.state output.old) (D.state diag.old))
-        (streams (I.state input.new) (O.state output.new) (D.state diag.new)) result.code }
+        (filter_streams (I.state input.old) (O.state output.old) (D.state diag.old))
+        (filter_streams (I.state input.new) (O.state output.new) (D.state diag.new)) result.code }
     ensures memory { result.code ≡ 3 → (input.new ≡ input.old) × (output.new ≡ output.old) }
     ensures replay { (settings : AnySettings)
-        → command_of (texts words.now) ≡ Some (asked.Replay settings)
+        → replay_command_of (argument_bytes arguments.now) ≡ Some (asked.Replay settings)
         → Replayed settings (input.new ≡ input.old) (output.new ≡ output.old)
-        (streams (I.state input.old) (O.state output.old) (D.state diag.old))
-        (streams (I.state input.new) (O.state output.new) (D.state diag.new)) result.code }
+        (filter_streams (I.state input.old) (O.state output.old) (D.state diag.old))
+        (filter_streams (I.state input.new) (O.state output.new) (D.state diag.new)) result.code }
     ensures check { (settings : AnySettings)
-        → command_of (texts words.now) ≡ Some (asked.Check settings)
+        → replay_command_of (argument_bytes arguments.now) ≡ Some (asked.Check settings)
         → Checked settings (input.new ≡ input.old) (output.new ≡ output.old)
-        (streams (I.state input.old) (O.state output.old) (D.state diag.old))
-        (streams (I.state input.new) (O.state output.new) (D.state diag.new)) result.code }
+        (filter_streams (I.state input.old) (O.state output.old) (D.state diag.old))
+        (filter_streams (I.state input.new) (O.state output.new) (D.state diag.new)) result.code }
     ensures migrate { (settings : AnySettings)
-        → command_of (texts words.now) ≡ Some (asked.Migrate settings)
+        → replay_command_of (argument_bytes arguments.now) ≡ Some (asked.Migrate settings)
         → Migrated settings (input.new ≡ input.old) (output.new ≡ output.old)
-        (streams (I.state input.old) (O.state output.old) (D.state diag.old))
-        (streams (I.state input.new) (O.state output.new) (D.state diag.new)) result.code }
+        (filter_streams (I.state input.old) (O.state output.old) (D.state diag.old))
+        (filter_streams (I.state input.new) (O.state output.new) (D.state diag.new)) result.code }
     ensures migrate_own { (settings : AnySettings)
-        → command_of (texts words.now) ≡ Some (asked.Migrate settings)
+        → replay_command_of (argument_bytes arguments.now) ≡ Some (asked.Migrate settings)
         → MigratesOwnScripts settings
-        (streams (I.state input.old) (O.state output.old) (D.state diag.old))
-        (streams (I.state input.new) (O.state output.new) (D.state diag.new)) result.code }
+        (filter_streams (I.state input.old) (O.state output.old) (D.state diag.old))
+        (filter_streams (I.state input.new) (O.state output.new) (D.state diag.new)) result.code }
     ensures judge { (listener : AnyListener)
-        → command_of (texts words.now) ≡ Some (asked.Judge listener)
+        → replay_command_of (argument_bytes arguments.now) ≡ Some (asked.Judge listener)
         → Judged listener ((input.new ≡ input.old) × (output.new ≡ output.old))
-        (streams (I.state input.old) (O.state output.old) (D.state diag.old))
-        (streams (I.state input.new) (O.state output.new) (D.state diag.new)) result.code }
+        (filter_streams (I.state input.old) (O.state output.old) (D.state diag.old))
+        (filter_streams (I.state input.new) (O.state output.new) (D.state diag.new)) result.code }
     ensures judge_own { (listener : AnyListener)
-        → command_of (texts words.now) ≡ Some (asked.Judge listener)
+        → replay_command_of (argument_bytes arguments.now) ≡ Some (asked.Judge listener)
         → JudgesOwnTalk listener
-        (streams (I.state input.old) (O.state output.old) (D.state diag.old))
-        (streams (I.state input.new) (O.state output.new) (D.state diag.new)) result.code }
-    ensures revive { (lives : ℕ) → command_of (texts words.now) ≡ Some (asked.Revive lives)
-        → Revived lives ((input.new ≡ input.old) × (output.new ≡ output.old))
-        (streams (I.state input.old) (O.state output.old) (D.state diag.old))
-        (streams (I.state input.new) (O.state output.new) (D.state diag.new)) result.code }
-    ensures drive { command_of (texts words.now) ≡ Some asked.Drive
-        → Driven ((input.new ≡ input.old) × (output.new ≡ output.old))
-        (streams (I.state input.old) (O.state output.old) (D.state diag.old))
-        (streams (I.state input.new) (O.state output.new) (D.state diag.new)) result.code }
-    ensures drive_own { command_of (texts words.now) ≡ Some asked.Drive → DrivesTheOrdered
-        (streams (I.state input.old) (O.state output.old) (D.state diag.old))
-        (streams (I.state input.new) (O.state output.new) (D.state diag.new)) result.code }
+        (filter_streams (I.state input.old) (O.state output.old) (D.state diag.old))
+        (filter_streams (I.state input.new) (O.state output.new) (D.state diag.new)) result.code }
+    ensures revive { (lives : ℕ) → replay_command_of (argument_bytes arguments.now) ≡ Some
+        (asked.Revive lives)
+        → ReviveCommandIs lives ((input.new ≡ input.old) × (output.new ≡ output.old))
+        (filter_streams (I.state input.old) (O.state output.old) (D.state diag.old))
+        (filter_streams (I.state input.new) (O.state output.new) (D.state diag.new)) result.code }
+    ensures drive { replay_command_of (argument_bytes arguments.now) ≡ Some asked.Drive
+        → DriveCommandIs ((input.new ≡ input.old) × (output.new ≡ output.old))
+        (filter_streams (I.state input.old) (O.state output.old) (D.state diag.old))
+        (filter_streams (I.state input.new) (O.state output.new) (D.state diag.new)) result.code }
+    ensures drive_own { replay_command_of (argument_bytes arguments.now) ≡ Some asked.Drive →
+        DrivesTheOrdered
+        (filter_streams (I.state input.old) (O.state output.old) (D.state diag.old))
+        (filter_streams (I.state input.new) (O.state output.new) (D.state diag.new)) result.code }
     ensures games { (settings : AnySettings)
-        → command_of (texts words.now) ≡ Some (asked.Games settings)
+        → replay_command_of (argument_bytes arguments.now) ≡ Some (asked.Games settings)
         → GamesWritten settings (input.new ≡ input.old) (output.new ≡ output.old)
-        (streams (I.state input.old) (O.state output.old) (D.state diag.old))
-        (streams (I.state input.new) (O.state output.new) (D.state diag.new)) result.code }
+        (filter_streams (I.state input.old) (O.state output.old) (D.state diag.old))
+        (filter_streams (I.state input.new) (O.state output.new) (D.state diag.new)) result.code }
     ensures positions { (settings : AnySettings)
-        → command_of (texts words.now) ≡ Some (asked.Positions settings)
+        → replay_command_of (argument_bytes arguments.now) ≡ Some (asked.Positions settings)
         → PositionsWritten settings (input.new ≡ input.old) (output.new ≡ output.old)
-        (streams (I.state input.old) (O.state output.old) (D.state diag.old))
-        (streams (I.state input.new) (O.state output.new) (D.state diag.new)) result.code }
+        (filter_streams (I.state input.old) (O.state output.old) (D.state diag.old))
+        (filter_streams (I.state input.new) (O.state output.new) (D.state diag.new)) result.code }
     ensures moves { (text : List ℕ)
-        → command_of (texts words.now) ≡ Some (asked.Moves text)
+        → replay_command_of (argument_bytes arguments.now) ≡ Some (asked.Moves text)
         → Listed text (input.new ≡ input.old) (output.new ≡ output.old) (diag.new ≡ diag.old)
-        (streams (I.state input.old) (O.state output.old) (D.state diag.old))
-        (streams (I.state input.new) (O.state output.new) (D.state diag.new)) result.code }
+        (filter_streams (I.state input.old) (O.state output.old) (D.state diag.old))
+        (filter_streams (I.state input.new) (O.state output.new) (D.state diag.new)) result.code }
     ensures drill { (number count : ℕ)
-        → command_of (texts words.now) ≡ Some (asked.Drill number count)
+        → replay_command_of (argument_bytes arguments.now) ≡ Some (asked.Drill number count)
         → Drilled number count (input.new ≡ input.old) (output.new ≡ output.old)
         (diag.new ≡ diag.old)
-        (streams (I.state input.old) (O.state output.old) (D.state diag.old))
-        (streams (I.state input.new) (O.state output.new) (D.state diag.new)) result.code }
+        (filter_streams (I.state input.old) (O.state output.old) (D.state diag.old))
+        (filter_streams (I.state input.new) (O.state output.new) (D.state diag.new)) result.code }
 {
     engines_hear_the_ordered();
     Status {
-        code: run_words(alloc, words, input, output, diag).code(),
+        code: run_arguments(alloc, arguments, input, output, diag).code(),
     }
 }
 
 /// Reports that there was no memory for the words.
 pub fn refuse_for_memory<D: Sink>(diag: &mut D) -> Status
-    ensures { Told result.code 3 (tail_of endings.NoMemory) (D.state diag.old) (D.state diag.new) }
+    ensures { DiagnosticWritten result.code 3 (tail_of endings.NoMemory) (D.state diag.old)
+        (D.state diag.new) }
 {
     Status {
-        code: tell_short(Ending::NoMemory, diag).code(),
+        code: report_without_buffer(Ending::NoMemory, diag).code(),
     }
 }
 
-ghost use Rattle.line_scribe.specs.Told.{Told};
-ghost use Rattle.line_scribe.specs.declared.ending.Ending.TheVariants as endings;
+ghost use Rattle.line_command.specs.DiagnosticWritten.{DiagnosticWritten};
+ghost use Rattle.line_command.specs.declared.ending.Ending.TheVariants as endings;

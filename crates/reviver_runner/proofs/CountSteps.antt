@@ -1,20 +1,20 @@
--- What counts of faults tell, step by step.
+-- The meaning of counts of faults, step by step.
 use Rattle.std.proofs.Common.{◌≡◌, ◌∙◌, ℕ, zero, suc, ◌+◌, ◌<◌, List, [], ◌∷◌, ◌++◌, drop, length, Bool, true, false, refl, sym, ap, subst, ◌||◌, arith, Result, Ok, Err}
 use Rattle.std.specs.Result.{is_err}
-use Rattle.line_io.specs.Causes.{Rose, HasCause}
+use Rattle.line_io.specs.Causes.{Rose, ErrorIsCounted}
 use Rattle.line_io.specs.Source.{Supplied, Received}
-use Rattle.event_pipe.specs.Counts.{Tells}
+use Rattle.event_pipe.specs.Counts.{CountsFault}
 use Rattle.child_engine.specs.Hosts.{RisesBy}
 use Rattle.reviver_runner.specs.declared.life.LifeRun.{LifeRun}
 use Rattle.reviver_runner.specs.declared.lives.LivesTally.{LivesTally}
-use Rattle.reviver_runner.specs.Closing.{read_faults, write_faults}
+use Rattle.reviver_runner.specs.Closing.{run_source_faults, run_sink_faults}
 use Rattle.reviver_runner.specs.Lives.{AreTallied}
 
 -- of two parts
-pub tells_sum : (a b : ℕ) (x y : Bool) → Tells 0 a x → Tells 0 b y → Tells 0 (a + b) (x || y)
-tells_sum a b true y t u = let r = t.rose refl in record { later = omega arith; rose = λ _. omega (arith, r); same = λ f. cc }
-tells_sum a b false true t u = let r = u.rose refl in record { later = omega arith; rose = λ _. omega (arith, r); same = λ f. cc }
-tells_sum a b false false t u = let p = t.same refl in let q = u.same refl in record { later = omega arith; rose = λ f. cc; same = λ _. omega (arith, p, q) }
+pub reports_sum : (a b : ℕ) (x y : Bool) → CountsFault 0 a x → CountsFault 0 b y → CountsFault 0 (a + b) (x || y)
+reports_sum a b true y t u = let r = t.rose refl in record { later = omega arith; rose = λ _. omega (arith, r); same = λ f. cc }
+reports_sum a b false true t u = let r = u.rose refl in record { later = omega arith; rose = λ _. omega (arith, r); same = λ f. cc }
+reports_sum a b false false t u = let p = t.same refl in let q = u.same refl in record { later = omega arith; rose = λ f. cc; same = λ _. omega (arith, p, q) }
 
 pub rises_none : (a : ℕ) → RisesBy 0 a a
 rises_none a = record { later = omega arith; same = λ _. refl; rose = λ h. absurd (omega (arith, h)) }
@@ -40,7 +40,7 @@ rises_both p q a b c x y =
     }
 
 -- waiting failed before, or fails now
-pub cause_more : {T E : Type 0} (a b c : ℕ) (x y : Bool) (r : Result T E) → Tells a b x → HasCause b c r → y ≡ (x || is_err r) → Tells a c y
+pub cause_more : {T E : Type 0} (a b c : ℕ) (x y : Bool) (r : Result T E) → CountsFault a b x → ErrorIsCounted b c r → y ≡ (x || is_err r) → CountsFault a c y
 cause_more a b c true y r t h e =
     let up = t.rose refl in
     let later = h.later in
@@ -56,24 +56,24 @@ cause_more a b c false y (Err v) t h e =
 
 -- ONE MORE RUN
 
-reads_last : {S K : Type 0} (source : S → Supplied) (runs : List (LifeRun S K)) (run : LifeRun S K) → read_faults source (runs ++ run ∷ []) ≡ read_faults source runs + (source run.source).faults
+reads_last : {S K : Type 0} (source : S → Supplied) (runs : List (LifeRun S K)) (run : LifeRun S K) → run_source_faults source (runs ++ run ∷ []) ≡ run_source_faults source runs + (source run.source).faults
 reads_last source [] run = omega arith
 reads_last source (x ∷ runs) run = let more = reads_last source runs run in omega (arith, more)
 
-writes_last : {S K : Type 0} (sink : K → Received) (runs : List (LifeRun S K)) (run : LifeRun S K) → write_faults sink (runs ++ run ∷ []) ≡ write_faults sink runs + (sink run.sink).faults
+writes_last : {S K : Type 0} (sink : K → Received) (runs : List (LifeRun S K)) (run : LifeRun S K) → run_sink_faults sink (runs ++ run ∷ []) ≡ run_sink_faults sink runs + (sink run.sink).faults
 writes_last sink [] run = omega arith
 writes_last sink (x ∷ runs) run = let more = writes_last sink runs run in omega (arith, more)
 
 pub tallied_more : {S K : Type 0} (source : S → Supplied) (sink : K → Received) (runs runs' : List (LifeRun S K)) (run : LifeRun S K) (tally tally' : LivesTally) (read write : Bool)
-    → runs' ≡ runs ++ run ∷ [] → Tells 0 (source run.source).faults read → Tells 0 (sink run.sink).faults write
+    → runs' ≡ runs ++ run ∷ [] → CountsFault 0 (source run.source).faults read → CountsFault 0 (sink run.sink).faults write
     → tally'.engine_read ≡ (tally.engine_read || read) → tally'.engine_write ≡ (tally.engine_write || write)
     → AreTallied source sink runs tally → AreTallied source sink runs' tally'
 tallied_more source sink runs runs' run tally tally' read write e r w er ew t =
-    let rs : read_faults source runs' ≡ read_faults source runs + (source run.source).faults = ap (λ (x : List (LifeRun _ _)). read_faults source x) e ∙ reads_last source runs run in
-    let ws : write_faults sink runs' ≡ write_faults sink runs + (sink run.sink).faults = ap (λ (x : List (LifeRun _ _)). write_faults sink x) e ∙ writes_last sink runs run in
+    let rs : run_source_faults source runs' ≡ run_source_faults source runs + (source run.source).faults = ap (λ (x : List (LifeRun _ _)). run_source_faults source x) e ∙ reads_last source runs run in
+    let ws : run_sink_faults sink runs' ≡ run_sink_faults sink runs + (sink run.sink).faults = ap (λ (x : List (LifeRun _ _)). run_sink_faults sink x) e ∙ writes_last sink runs run in
     record {
-      reads = subst (λ b. Tells 0 (read_faults source runs') b) (sym er) (subst (λ n. Tells 0 n (tally.engine_read || read)) (sym rs) (tells_sum _ _ _ _ t.reads r));
-      writes = subst (λ b. Tells 0 (write_faults sink runs') b) (sym ew) (subst (λ n. Tells 0 n (tally.engine_write || write)) (sym ws) (tells_sum _ _ _ _ t.writes w));
+      reads = subst (λ b. CountsFault 0 (run_source_faults source runs') b) (sym er) (subst (λ n. CountsFault 0 n (tally.engine_read || read)) (sym rs) (reports_sum _ _ _ _ t.reads r));
+      writes = subst (λ b. CountsFault 0 (run_sink_faults sink runs') b) (sym ew) (subst (λ n. CountsFault 0 n (tally.engine_write || write)) (sym ws) (reports_sum _ _ _ _ t.writes w));
     }
 
 -- a list that is what is left of it without its first

@@ -1,24 +1,24 @@
 -- After the last life.
-use Rattle.std.proofs.Common.{◌≡◌, ℕ, List, [], ◌∷◌, ◌++◌, map, codes, Bool, true, false, cond, not, ◌||◌, Option, Some, None, refl, sym, ap, subst, ◌∙◌, arith, append-nil, append_assoc}
+use Rattle.std.proofs.Common.{◌≡◌, ℕ, List, [], ◌∷◌, ◌++◌, map, codes, Bool, true, false, cond, not, ◌||◌, Option, Some, None, refl, sym, ap, subst, ◌∙◌, arith, nat_lt, append-nil, append_assoc}
 use Rattle.std.proofs.lemmas.List.{map-append}
 use Rattle.std.proofs.lemmas.List.Elements.{filter-append}
 use Rattle.std.proofs.lemmas.List.Folds.{list_any-append}
 use Rattle.line_io.specs.Event.{Event, Iface, IfaceLong, IfaceEnd}
-use Rattle.cecp_lines.specs.Quit.{is_quit}
+use Rattle.peer_words.specs.Quit.{is_quit}
 use Rattle.engine_revival.specs.Orders.{RevivalOrder as AnyOrder}
 use Rattle.engine_revival.specs.Asked.{order_of_line}
 use Rattle.engine_revival.specs.declared.state.RevivalState.{RevivalState}
 use Rattle.engine_revival.specs.declared.words.DialogueState.{DialogueState}
 use Rattle.engine_revival.specs.declared.words.LifeState.{LifeState}
 use Rattle.engine_revival.specs.declared.words.LifeState.TheVariants as life
-use Rattle.engine_revival.specs.Lists.{batch_text}
+use Rattle.engine_revival.specs.Lists.{revival_batch_text}
 use Rattle.engine_revival.specs.Steps.{is_ended, quit_to, read_at_once, accepted_at_once, upper_if_accepted, at_once, due_to, due_orders, settled_orders, state_after_line, state_after_reading, state_if_accepted, with_quit, after_at_once}
-use Rattle.engine_revival.specs.Calls.{Order, after, child_of}
-use Rattle.engine_revival.specs.Script.{may_happen, state_after, state_behind, event_text}
-use Rattle.reviver_runner.specs.Looped.{Shown, PlayedUp}
-use Rattle.host_run.specs.Streams.{Offered}
-use Rattle.reviver_runner.specs.Played.{event_up, event_child, lines_to_child, is_heard, is_order, is_close, has_close, as_long, is_told, told_of, ends_in}
-use Rattle.reviver_runner.specs.Drained.{Drained}
+use Rattle.engine_revival.specs.Calls.{Order, revival_after, child_of}
+use Rattle.engine_revival.specs.Script.{may_happen, revival_state_after, state_behind, revival_event_text}
+use Rattle.reviver_runner.specs.Looped.{LoopState, PlayedUp}
+use Rattle.program_lifecycle.specs.Streams.{Offered}
+use Rattle.reviver_runner.specs.Played.{event_up, event_child, lines_to_child, is_heard, is_order, is_life_end_mark, has_close, as_long, is_heard_order, reported_of, ends_in}
+use Rattle.reviver_runner.specs.Drained.{InterfaceDrained}
 use Rattle.reviver_runner.proofs.Appends.{up_none, up_one, up_both, child_append}
 use Rattle.reviver_runner.proofs.LifeSteps.{ends_append}
 use Rattle.reviver_runner.proofs.SettledSteps.{settled_over}
@@ -59,7 +59,7 @@ at_once_over : (s : RevivalState) (line : List ℕ) → s.life ≡ life.Over →
 at_once_over s line h = either_none (is_quit line) _ _ (ap (λ (l : LifeState). quit_to s.quit l) h ∙ quit_to_over s.quit) (read_over s (order_of_line line) h)
 
 settled_none : (s : RevivalState) → s.life ≡ life.Over → settled_orders s ≡ []
-settled_none s h = ap (λ (l : LifeState). due_orders (due_to l s.quit s.upper) s.unsent s.search) h
+settled_none s h = ap (λ (l : LifeState). due_orders (due_to l s.quit s.upper (nat_lt 0 s.held_ready)) s.unsent s.held_ready s.search) h
 
 accepting_over : (up : Option DialogueState) (s : RevivalState) (order : AnyOrder) → s.life ≡ life.Over → (state_if_accepted up s order).life ≡ life.Over
 accepting_over None s order h = h
@@ -77,9 +77,9 @@ ordering_over : (s : RevivalState) (line : List ℕ) → s.life ≡ life.Over �
 ordering_over s line h = either_over (is_quit line) (with_quit s) (state_after_reading s (order_of_line line)) h (reading_over s (order_of_line line) h)
 
 order_child : (s : RevivalState) (line : List ℕ) → s.life ≡ life.Over → child_of s (Order line) ≡ []
-order_child s line h = ap batch_text (ap (λ (l : List AnyOrder). l ++ settled_orders (state_after_line s line)) (at_once_over s line h) ∙ settled_none (state_after_line s line) (ordering_over s line h))
+order_child s line h = ap revival_batch_text (ap (λ (l : List AnyOrder). l ++ settled_orders (state_after_line s line)) (at_once_over s line h) ∙ settled_none (state_after_line s line) (ordering_over s line h))
 
-order_over : (s : RevivalState) (line : List ℕ) → s.life ≡ life.Over → (after s (Order line)).life ≡ life.Over
+order_over : (s : RevivalState) (line : List ℕ) → s.life ≡ life.Over → (revival_after s (Order line)).life ≡ life.Over
 order_over s line h = settled_over (state_after_line s line) (ordering_over s line h)
 
 event_child_over : (s : RevivalState) (e : Event) → is_order e ≡ true → s.life ≡ life.Over → event_child s e ≡ []
@@ -87,7 +87,7 @@ event_child_over s (Iface line) o h = order_child s line h
 event_child_over s IfaceEnd o h = order_child s (codes "quit") h
 event_child_over s e o h = cc
 
-event_over : (s : RevivalState) (e : Event) → is_order e ≡ true → s.life ≡ life.Over → (state_after s e).life ≡ life.Over
+event_over : (s : RevivalState) (e : Event) → is_order e ≡ true → s.life ≡ life.Over → (revival_state_after s e).life ≡ life.Over
 event_over s (Iface line) o h = order_over s line h
 event_over s IfaceEnd o h = order_over s (codes "quit") h
 event_over s e o h = cc
@@ -95,26 +95,26 @@ event_over s e o h = cc
 -- ONE EVENT OF THE INTERFACE
 
 -- nothing was heard
-passed_by : (a b : Shown) → b ≡ record a { events = b.events } → PlayedUp a b []
-passed_by a b same = let none = up_none a in subst (λ (s : Shown). PlayedUp a s []) (sym same) (record { may = none.may; state_is = none.state_is; up = none.up; marks = none.marks })
+passed_by : (a b : LoopState) → b ≡ record a { events = b.events } → PlayedUp a b []
+passed_by a b same = let none = up_none a in subst (λ (s : LoopState). PlayedUp a s []) (sym same) (record { may = none.may; state_is = none.state_is; up = none.up; marks = none.marks })
 
 order_open : (e : Event) → is_order e ≡ true → has_close (e ∷ []) ≡ false
 order_open (Iface line) h = refl
 order_open IfaceEnd h = refl
 order_open e h = cc
 
-order_told : (e : Event) → is_order e ≡ true → map as_long (e ∷ []) ≡ told_of (e ∷ [])
-order_told (Iface line) h = refl
-order_told IfaceEnd h = refl
-order_told e h = cc
+order_reported : (e : Event) → is_order e ≡ true → map as_long (e ∷ []) ≡ reported_of (e ∷ [])
+order_reported (Iface line) h = refl
+order_reported IfaceEnd h = refl
+order_reported e h = cc
 
 order_ends : (e : Event) → is_order e ≡ true → ends_in (e ∷ []) ≡ 0
 order_ends (Iface line) h = refl
 order_ends IfaceEnd h = refl
 order_ends e h = cc
 
-pub drained_order : (a b : Shown) (e : Event) → is_order e ≡ true → a.state.life ≡ life.Over → b.events ≡ a.events ++ e ∷ [] → b.state ≡ state_after a.state e
-    → Offered a.failed.output b.failed.output a.output b.output (event_up a.state e) → Offered a.failed.log b.failed.log a.log b.log (event_text a.state e) → Drained a b
+pub drained_order : (a b : LoopState) (e : Event) → is_order e ≡ true → a.state.life ≡ life.Over → b.events ≡ a.events ++ e ∷ [] → b.state ≡ revival_state_after a.state e
+    → Offered a.failed.output b.failed.output a.output b.output (event_up a.state e) → Offered a.failed.log b.failed.log a.log b.log (revival_event_text a.state e) → InterfaceDrained a b
 drained_order a b e order over took z u v =
     record {
       events = e ∷ [];
@@ -125,17 +125,17 @@ drained_order a b e order over took z u v =
       unwritten = append-nil (event_child a.state e) ∙ event_child_over a.state e order over;
       got = e ∷ [];
       taken_is = took;
-      got_are = order_told e order;
+      got_are = order_reported e order;
       ends = order_ends e order;
     }
 
-pub drained_passed : (a b : Shown) → a.state.life ≡ life.Over → b ≡ record a { events = b.events } → b.events ≡ a.events ++ IfaceLong ∷ [] → Drained a b
+pub drained_passed : (a b : LoopState) → a.state.life ≡ life.Over → b ≡ record a { events = b.events } → b.events ≡ a.events ++ IfaceLong ∷ [] → InterfaceDrained a b
 drained_passed a b over same took =
     record {
       events = [];
       played = passed_by a b same;
-      over = ap (λ (x : Shown). x.state.life) same ∙ over;
-      begun = ap (λ (x : Shown). x.state.begun) same;
+      over = ap (λ (x : LoopState). x.state.life) same ∙ over;
+      begun = ap (λ (x : LoopState). x.state.begun) same;
       open_ended = refl;
       unwritten = refl;
       got = IfaceLong ∷ [];
@@ -144,7 +144,7 @@ drained_passed a b over same took =
       ends = refl;
     }
 
-pub drained_none : (a : Shown) → a.state.life ≡ life.Over → Drained a a
+pub drained_none : (a : LoopState) → a.state.life ≡ life.Over → InterfaceDrained a a
 drained_none a over =
     record {
       events = [];
@@ -159,19 +159,19 @@ drained_none a over =
       ends = refl;
     }
 
-pub drained_both : (a b c : Shown) → Drained a b → Drained b c → Drained a c
+pub drained_both : (a b c : LoopState) → InterfaceDrained a b → InterfaceDrained b c → InterfaceDrained a c
 drained_both a b c x y =
     record {
       events = x.events ++ y.events;
       played = up_both a b c x.events y.events x.played y.played;
       over = y.over;
       begun = y.begun ∙ x.begun;
-      open_ended = list_any-append is_close x.events y.events ∙ ap (λ (b : Bool). b || has_close y.events) x.open_ended ∙ y.open_ended;
+      open_ended = list_any-append is_life_end_mark x.events y.events ∙ ap (λ (b : Bool). b || has_close y.events) x.open_ended ∙ y.open_ended;
       unwritten =
           child_append a.state x.events y.events ∙ ap (λ (t : List ℕ). t ++ lines_to_child (state_behind a.state x.events) y.events) x.unwritten
           ∙ ap (λ (z : RevivalState). lines_to_child z y.events) (sym x.played.state_is) ∙ y.unwritten;
       got = x.got ++ y.got;
       taken_is = y.taken_is ∙ ap (λ (t : List Event). t ++ y.got) x.taken_is ∙ append_assoc a.events x.got y.got;
-      got_are = map-append as_long x.events y.events ∙ ap (λ (t : List Event). t ++ map as_long y.events) x.got_are ∙ ap (λ (t : List Event). told_of x.got ++ t) y.got_are ∙ sym (filter-append is_told x.got y.got);
+      got_are = map-append as_long x.events y.events ∙ ap (λ (t : List Event). t ++ map as_long y.events) x.got_are ∙ ap (λ (t : List Event). reported_of x.got ++ t) y.got_are ∙ sym (filter-append is_heard_order x.got y.got);
       ends = let all = ends_append x.got y.got in let one = x.ends in let two = y.ends in omega (arith, all, one, two);
     }

@@ -12,21 +12,21 @@ use Rattle.line_io.specs.Source.{Supplied, Received}
 use Rattle.child_engine.specs.Hosts.{fresh_source, fresh_sink}
 use Rattle.child_engine.specs.declared.host.HostFault.{HostFault}
 use Rattle.engine_revival.specs.declared.state.RevivalState.{RevivalState}
-use Rattle.engine_revival.specs.Script.{state_after, state_behind}
+use Rattle.engine_revival.specs.Script.{revival_state_after, state_behind}
 use Rattle.event_pipe.specs.Arrivals.{is_read_fault}
 use Rattle.event_pipe.specs.declared.reader.ReadEnd.{ReadEnd}
-use Rattle.host_run.specs.Readers.{lacked_memory}
-use Rattle.host_run.specs.Streams.{Offered}
+use Rattle.program_lifecycle.specs.Readers.{lacked_memory}
+use Rattle.program_lifecycle.specs.Streams.{Offered}
 use Rattle.reviver_runner.specs.declared.life.LifeRun.{LifeRun}
 use Rattle.reviver_runner.specs.declared.lives.LivesTally.{LivesTally}
 use Rattle.reviver_runner.specs.declared.turns.NextLife.{NextLife}
 use Rattle.reviver_runner.specs.declared.turns.NextLife.TheVariants as nexts
-use Rattle.reviver_runner.specs.Played.{event_child, lines_to_child, heard_of, is_close, has_close, is_refusal, has_refusal, as_long, is_told, told_of, ends_in}
-use Rattle.reviver_runner.specs.Looped.{Shown, LoopedLife}
+use Rattle.reviver_runner.specs.Played.{event_child, lines_to_child, events_for_revival, is_life_end_mark, has_close, is_refusal, has_refusal, as_long, is_heard_order, reported_of, ends_in}
+use Rattle.reviver_runner.specs.Looped.{LoopState, LoopedLife}
 use Rattle.reviver_runner.specs.Reading.{ReadLife, LinesOf}
-use Rattle.reviver_runner.specs.Lives.{AreTallied, Follows, Life, IsLife, life_events, ToLives, to_none, to_next, to_lives, Lived, HasLived, GoesOn, LivesOn, mark_of, is_refused, IsNext, Ended}
-use Rattle.reviver_runner.specs.Closing.{told_of_runs}
-use Rattle.reviver_runner.specs.Drained.{Drained}
+use Rattle.reviver_runner.specs.Lives.{AreTallied, LifeFollows, Life, IsLife, life_events, ToLives, to_none, to_next, to_lives, Lived, HasLived, LivesGoOn, LivesOn, life_end_mark, is_refused, IsNextLife, Ended}
+use Rattle.reviver_runner.specs.Closing.{shown_runs}
+use Rattle.reviver_runner.specs.Drained.{InterfaceDrained}
 use Rattle.reviver_runner.proofs.Appends.{offered_both, took, up_both}
 use Rattle.reviver_runner.proofs.Stays.{events_stay}
 use Rattle.reviver_runner.proofs.CountSteps.{tallied_more}
@@ -35,24 +35,24 @@ use Rattle.reviver_runner.proofs.CountSteps.{tallied_more}
 
 to_append : (to : ToLives) (s : RevivalState) (es fs : List Event) → to_lives to s (es ++ fs) ≡ to_lives (to_lives to s es) (state_behind s es) fs
 to_append to s [] fs = refl
-to_append to s (e ∷ es) fs = to_append (to_next (is_close e) to (event_child s e)) (state_after s e) es fs
+to_append to s (e ∷ es) fs = to_append (to_next (is_life_end_mark e) to (event_child s e)) (revival_state_after s e) es fs
 
 -- WITHOUT A MARK
 
-pub no_mark_heard : (es : List Event) → has_close (heard_of es) ≡ false
+pub no_mark_heard : (es : List Event) → has_close (events_for_revival es) ≡ false
 no_mark_heard [] = refl
 no_mark_heard (Open ∷ es) = no_mark_heard es
 no_mark_heard (x ∷ es) = no_mark_heard es
 
 -- where there is no mark, what is heard is what is told
-pub heard_told : (es : List Event) → has_close es ≡ false → map as_long (heard_of es) ≡ told_of es
-heard_told [] h = refl
-heard_told (Iface line ∷ es) h = ap (λ (l : List Event). Iface line ∷ l) (heard_told es h)
-heard_told (IfaceEnd ∷ es) h = ap (λ (l : List Event). IfaceEnd ∷ l) (heard_told es h)
-heard_told (Engine line ∷ es) h = ap (λ (l : List Event). Engine line ∷ l) (heard_told es h)
-heard_told (EngineLong ∷ es) h = cc
-heard_told (EngineEnd ∷ es) h = cc
-heard_told (x ∷ es) h = heard_told es h
+pub heard_reported : (es : List Event) → has_close es ≡ false → map as_long (events_for_revival es) ≡ reported_of es
+heard_reported [] h = refl
+heard_reported (Iface line ∷ es) h = ap (λ (l : List Event). Iface line ∷ l) (heard_reported es h)
+heard_reported (IfaceEnd ∷ es) h = ap (λ (l : List Event). IfaceEnd ∷ l) (heard_reported es h)
+heard_reported (Engine line ∷ es) h = ap (λ (l : List Event). Engine line ∷ l) (heard_reported es h)
+heard_reported (EngineLong ∷ es) h = cc
+heard_reported (EngineEnd ∷ es) h = cc
+heard_reported (x ∷ es) h = heard_reported es h
 
 pub no_ends : (es : List Event) → has_close es ≡ false → ends_in es ≡ 0
 no_ends [] h = refl
@@ -75,12 +75,12 @@ ends_append (x ∷ es) fs = ends_append es fs
 more_text : (ended : List (List ℕ)) (a b c d : List ℕ) → d ≡ b ++ c → ◌≡◌ {A = ToLives} (record { ended = ended; present = (a ++ b) ++ c }) (record { ended = ended; present = a ++ d })
 more_text ended a b c d h = ap (λ (l : List ℕ). record { ended = ended; present = l }) (append_assoc a b c ∙ ap (λ (l : List ℕ). a ++ l) (sym h))
 
-one_text : (b : Bool) (to : ToLives) (s : RevivalState) (e : Event) (es : List Event) → is_close e ≡ b → b ≡ false
-    → to_lives (to_next false to (event_child s e)) (state_after s e) es ≡ record { ended = to.ended; present = (to.present ++ event_child s e) ++ lines_to_child (state_after s e) es }
-    → to_lives to s (e ∷ es) ≡ record { ended = to.ended; present = to.present ++ (event_child s e ++ lines_to_child (state_after s e) es) }
+one_text : (b : Bool) (to : ToLives) (s : RevivalState) (e : Event) (es : List Event) → is_life_end_mark e ≡ b → b ≡ false
+    → to_lives (to_next false to (event_child s e)) (revival_state_after s e) es ≡ record { ended = to.ended; present = (to.present ++ event_child s e) ++ lines_to_child (revival_state_after s e) es }
+    → to_lives to s (e ∷ es) ≡ record { ended = to.ended; present = to.present ++ (event_child s e ++ lines_to_child (revival_state_after s e) es) }
 one_text true to s e es h f x = cc
 one_text false to s e es h f x =
-    ap (λ (k : Bool). to_lives (to_next k to (event_child s e)) (state_after s e) es) h ∙ x ∙ more_text to.ended to.present (event_child s e) (lines_to_child (state_after s e) es) _ refl
+    ap (λ (k : Bool). to_lives (to_next k to (event_child s e)) (revival_state_after s e) es) h ∙ x ∙ more_text to.ended to.present (event_child s e) (lines_to_child (revival_state_after s e) es) _ refl
 
 none_text : (to : ToLives) → to ≡ record { ended = to.ended; present = to.present ++ [] }
 none_text to = ap (λ (l : List ℕ). record { ended = to.ended; present = l }) (sym (append-nil to.present))
@@ -88,7 +88,7 @@ none_text to = ap (λ (l : List ℕ). record { ended = to.ended; present = l }) 
 pub present_text : (to : ToLives) (s : RevivalState) (es : List Event) → has_close es ≡ false → to_lives to s es ≡ record { ended = to.ended; present = to.present ++ lines_to_child s es }
 present_text to s [] h = none_text to
 present_text to s (e ∷ es) h =
-    one_text (is_close e) to s e es refl (or_parts (is_close e) (has_close es) h).0 (present_text (to_next false to (event_child s e)) (state_after s e) es (or_parts (is_close e) (has_close es) h).1)
+    one_text (is_life_end_mark e) to s e es refl (or_parts (is_life_end_mark e) (has_close es) h).0 (present_text (to_next false to (event_child s e)) (revival_state_after s e) es (or_parts (is_life_end_mark e) (has_close es) h).1)
 
 -- LISTS WITH ONE MORE
 
@@ -104,56 +104,56 @@ or_false false false = refl
 any_last : (p : Life → Bool) (xs : List Life) (x : Life) → list_any p (xs ++ x ∷ []) ≡ (list_any p xs || p x)
 any_last p xs x = list_any-append p xs (x ∷ []) ∙ or_false (list_any p xs) (p x)
 
-mark_long : {S K : Type 0} (next : NextLife S K) → as_long (mark_of next) ≡ EngineLong
+mark_long : {S K : Type 0} (next : NextLife S K) → as_long (life_end_mark next) ≡ EngineLong
 mark_long (nexts.Life run) = refl
 mark_long nexts.Over = refl
 mark_long (nexts.Refused fault) = refl
 
-mark_closes : {S K : Type 0} (next : NextLife S K) → is_close (mark_of next) ≡ true
+mark_closes : {S K : Type 0} (next : NextLife S K) → is_life_end_mark (life_end_mark next) ≡ true
 mark_closes (nexts.Life run) = refl
 mark_closes nexts.Over = refl
 mark_closes (nexts.Refused fault) = refl
 
-mark_refuses : {S K : Type 0} (next : NextLife S K) → has_refusal (mark_of next ∷ []) ≡ is_refused next
+mark_refuses : {S K : Type 0} (next : NextLife S K) → has_refusal (life_end_mark next ∷ []) ≡ is_refused next
 mark_refuses (nexts.Life run) = refl
 mark_refuses nexts.Over = refl
 mark_refuses (nexts.Refused fault) = refl
 
 -- WHAT WAS HEARD OF A LIFE
 
-pub got_told : {S K : Type 0} (es : List Event) (next : NextLife S K) → has_close es ≡ false → map as_long (heard_of es ++ mark_of next ∷ []) ≡ told_of (es ++ EngineLong ∷ [])
-got_told es next h =
-    map-append as_long (heard_of es) (mark_of next ∷ []) ∙ ap (λ (l : List Event). l ++ as_long (mark_of next) ∷ []) (heard_told es h)
-    ∙ ap (λ (e : Event). told_of es ++ e ∷ []) (mark_long next) ∙ sym (filter-append is_told es (EngineLong ∷ []))
+pub got_reported : {S K : Type 0} (es : List Event) (next : NextLife S K) → has_close es ≡ false → map as_long (events_for_revival es ++ life_end_mark next ∷ []) ≡ reported_of (es ++ EngineLong ∷ [])
+got_reported es next h =
+    map-append as_long (events_for_revival es) (life_end_mark next ∷ []) ∙ ap (λ (l : List Event). l ++ as_long (life_end_mark next) ∷ []) (heard_reported es h)
+    ∙ ap (λ (e : Event). reported_of es ++ e ∷ []) (mark_long next) ∙ sym (filter-append is_heard_order es (EngineLong ∷ []))
 
 pub got_one : (es : List Event) → has_close es ≡ false → ends_in (es ++ EngineLong ∷ []) ≡ 1
 got_one es h = let none = no_ends es h in let more = ends_append es (EngineLong ∷ []) in omega (arith, none, more)
 
-next_from : {S K : Type 0} (source : S → Supplied) (sink : K → Received) (says : Option (List ℕ)) (tells : Bool) (a b : Shown) (next : NextLife S K) (z : RevivalState) → a.state ≡ z → Ended source sink says tells a b next
-    → IsNext source sink says tells (event_child z (mark_of next)) next b.failed.engine
-next_from source sink says tells a b next z e x = subst (λ (y : RevivalState). IsNext source sink says tells (event_child y (mark_of next)) next b.failed.engine) e x.next_is
+next_from : {S K : Type 0} (source : S → Supplied) (sink : K → Received) (says : Option (List ℕ)) (sinks_report : Bool) (a b : LoopState) (next : NextLife S K) (z : RevivalState) → a.state ≡ z → Ended source sink says sinks_report a b next
+    → IsNextLife source sink says sinks_report (event_child z (life_end_mark next)) next b.failed.engine
+next_from source sink says sinks_report a b next z e x = subst (λ (y : RevivalState). IsNextLife source sink says sinks_report (event_child y (life_end_mark next)) next b.failed.engine) e x.next_is
 
-pub follows_lives : {S K : Type 0} (s s' : RevivalState) (x : NextLife S K) → Follows s s' x → s'.lives ≡ s.lives
+pub follows_lives : {S K : Type 0} (s s' : RevivalState) (x : NextLife S K) → LifeFollows s s' x → s'.lives ≡ s.lives
 follows_lives s s' (nexts.Life run) h = h.2
 follows_lives s s' nexts.Over h = h.0
 follows_lives s s' (nexts.Refused fault) h = h.0
 
 -- a life, and what follows of its end
-module _ {S K : Type 0} (source : S → Supplied) (sink : K → Received) (says : Option (List ℕ)) (tells : Bool) (a b c : Shown) (sent sent' : List Event) (runs runs' : List (LifeRun S K)) (tally tally' : LivesTally)
+module _ {S K : Type 0} (source : S → Supplied) (sink : K → Received) (says : Option (List ℕ)) (sinks_report : Bool) (a b c : LoopState) (sent sent' : List Event) (runs runs' : List (LifeRun S K)) (tally tally' : LivesTally)
     (run last : LifeRun S K) (next : NextLife S K) (end : ReadEnd)
-    (looped : LoopedLife a b (sink run.sink) (sink last.sink)) (over : Ended source sink says tells b c next) (read : ReadLife (source run.source) (source last.source) sent sent' end) where
+    (looped : LoopedLife a b (sink run.sink) (sink last.sink)) (over : Ended source sink says sinks_report b c next) (read : ReadLife (source run.source) (source last.source) sent sent' end) where
   lives_stay : c.state.lives ≡ a.state.lives
   lives_stay = follows_lives b.state c.state next over.follows ∙ ap (λ (y : RevivalState). y.lives) looped.played.up.state_is ∙ (events_stay a.state looped.events).lives
 
   pub lives_on : runs' ≡ runs ++ last ∷ [] → tally'.engine_read ≡ (tally.engine_read || is_read_fault end) → tally'.engine_write ≡ (tally.engine_write || b.failed.engine) → tally'.memory ≡ (tally.memory || lacked_memory end)
-      → LivesOn source sink says tells a c sent sent' runs runs' tally tally' run next
+      → LivesOn source sink says sinks_report a c sent sent' runs runs' tally tally' run next
   lives_on more reads writes memory = record {
-    events = heard_of looped.events;
+    events = events_for_revival looped.events;
     unended = no_mark_heard looped.events;
-    played = up_both a b c (heard_of looped.events) (mark_of next ∷ []) looped.played.up over.played;
+    played = up_both a b c (events_for_revival looped.events) (life_end_mark next ∷ []) looped.played.up over.played;
     got = looped.events ++ EngineLong ∷ [];
     taken_is = over.same ∙ looped.taken_is;
-    got_are = got_told looped.events next looped.unended;
+    got_are = got_reported looped.events next looped.unended;
     ends = got_one looped.events looped.unended;
     last = last;
     runs_are = more;
@@ -167,14 +167,14 @@ module _ {S K : Type 0} (source : S → Supplied) (sink : K → Received) (says 
     writes = writes;
     memory = memory;
     lives = lives_stay;
-    next_is = next_from source sink says tells b c next (state_behind a.state (heard_of looped.events)) looped.played.up.state_is over;
+    next_is = next_from source sink says sinks_report b c next (state_behind a.state (events_for_revival looped.events)) looped.played.up.state_is over;
   }
 
 -- ONE MORE LIFE
 
-module _ {S K : Type 0} (source : S → Supplied) (sink : K → Received) (says : Option (List ℕ)) (tells : Bool) (a b c : Shown) (sent sent' : List Event) (runs runs' : List (LifeRun S K)) (tally tally' : LivesTally)
+module _ {S K : Type 0} (source : S → Supplied) (sink : K → Received) (says : Option (List ℕ)) (sinks_report : Bool) (a b c : LoopState) (sent sent' : List Event) (runs runs' : List (LifeRun S K)) (tally tally' : LivesTally)
     (run : LifeRun S K) (next : NextLife S K)
-    (goes : GoesOn source sink says tells a b sent runs tally run) (more : LivesOn source sink says tells b c sent sent' runs runs' tally tally' run next) where
+    (goes : LivesGoOn source sink says sinks_report a b sent runs tally run) (more : LivesOn source sink says sinks_report b c sent sent' runs runs' tally tally' run next) where
   abbrev pub text : List ℕ
   text = goes.text ++ lines_to_child b.state more.events
 
@@ -188,26 +188,26 @@ module _ {S K : Type 0} (source : S → Supplied) (sink : K → Received) (says 
     broken = more.broken;
   }
 
-  offered_all : Offered false more.broken (fresh_sink tells) (sink more.last.sink) text
+  offered_all : Offered false more.broken (fresh_sink sinks_report) (sink more.last.sink) text
   offered_all = offered_both false b.failed.engine more.broken _ _ _ goes.text (lines_to_child b.state more.events) goes.begun.offered more.offered
 
   lines_now : LinesOf (fresh_source says) (source more.last.source) more.lines more.end
   lines_now = subst (λ (x : Supplied). LinesOf x (source more.last.source) more.lines more.end) goes.begun.unread more.read
 
-  is_life : IsLife says tells life_now
-  is_life = record { lines = lines_now; text = took more.broken (fresh_sink tells) (sink more.last.sink) text offered_all }
+  is_life : IsLife says sinks_report life_now
+  is_life = record { lines = lines_now; text = took more.broken (fresh_sink sinks_report) (sink more.last.sink) text offered_all }
 
   abbrev pub lives : List Life
   lives = goes.lived.lives
 
-  abbrev pub so_far : Lived says tells a b sent goes.lived.lives goes.text false
+  abbrev pub so_far : Lived says sinks_report a b sent goes.lived.lives goes.text false
   so_far = goes.lived.so_far
 
   abbrev pub events' : List Event
-  events' = more.events ++ mark_of next ∷ []
+  events' = more.events ++ life_end_mark next ∷ []
 
   abbrev pub next_text : List ℕ
-  next_text = event_child (state_behind b.state more.events) (mark_of next)
+  next_text = event_child (state_behind b.state more.events) (life_end_mark next)
 
   abbrev pub to_now : ToLives
   to_now = record { ended = map (λ (x : Life). x.text) lives; present = goes.text }
@@ -217,21 +217,21 @@ module _ {S K : Type 0} (source : S → Supplied) (sink : K → Received) (says 
       to_append to_none a.state so_far.events events'
       ∙ ap (λ (to : ToLives). to_lives to (state_behind a.state so_far.events) events') so_far.given
       ∙ ap (λ (x : RevivalState). to_lives to_now x events') (sym so_far.played.state_is)
-      ∙ to_append to_now b.state more.events (mark_of next ∷ [])
-      ∙ ap (λ (to : ToLives). to_lives to (state_behind b.state more.events) (mark_of next ∷ [])) (present_text to_now b.state more.events more.unended)
+      ∙ to_append to_now b.state more.events (life_end_mark next ∷ [])
+      ∙ ap (λ (to : ToLives). to_lives to (state_behind b.state more.events) (life_end_mark next ∷ [])) (present_text to_now b.state more.events more.unended)
       ∙ ap (λ (x : Bool). to_next x (record { ended = map (λ (x : Life). x.text) lives; present = text }) next_text) (mark_closes next)
       ∙ ap (λ (ts : List (List ℕ)). record { ended = ts; present = next_text }) (sym (map-append (λ (x : Life). x.text) lives (life_now ∷ [])))
 
   refusal_next : has_refusal (so_far.events ++ events') ≡ is_refused next
   refusal_next =
       list_any-append is_refusal so_far.events events' ∙ ap (λ (x : Bool). x || has_refusal events') so_far.refusal
-      ∙ list_any-append is_refusal more.events (mark_of next ∷ []) ∙ ap (λ (x : Bool). x || has_refusal (mark_of next ∷ [])) (no_refusal more.events more.unended)
+      ∙ list_any-append is_refusal more.events (life_end_mark next ∷ []) ∙ ap (λ (x : Bool). x || has_refusal (life_end_mark next ∷ [])) (no_refusal more.events more.unended)
       ∙ mark_refuses next
 
-  taken_next : map as_long (so_far.events ++ events') ≡ told_of c.events
+  taken_next : map as_long (so_far.events ++ events') ≡ reported_of c.events
   taken_next =
-      map-append as_long so_far.events events' ∙ ap (λ (x : List Event). x ++ map as_long events') so_far.taken_are ∙ ap (λ (x : List Event). told_of b.events ++ x) more.got_are
-      ∙ sym (filter-append is_told b.events more.got) ∙ ap told_of (sym more.taken_is)
+      map-append as_long so_far.events events' ∙ ap (λ (x : List Event). x ++ map as_long events') so_far.taken_are ∙ ap (λ (x : List Event). reported_of b.events ++ x) more.got_are
+      ∙ sym (filter-append is_heard_order b.events more.got) ∙ ap reported_of (sym more.taken_is)
 
   ends_next : ends_in c.events ≡ length (lives ++ life_now ∷ [])
   ends_next =
@@ -247,7 +247,7 @@ module _ {S K : Type 0} (source : S → Supplied) (sink : K → Received) (says 
       ∙ ap (λ (x : List Event). life_events lives ++ x) (sym (append-nil (more.lines ++ EngineLong ∷ [])))
       ∙ sym (flat_map-append (λ (x : Life). x.lines ++ EngineLong ∷ []) lives (life_now ∷ []))
 
-  lived_next : Lived says tells a c sent' (lives ++ life_now ∷ []) next_text (is_refused next)
+  lived_next : Lived says sinks_report a c sent' (lives ++ life_now ∷ []) next_text (is_refused next)
   lived_next = record {
     events = so_far.events ++ events';
     played = up_both a b c so_far.events events' so_far.played more.played;
@@ -256,18 +256,18 @@ module _ {S K : Type 0} (source : S → Supplied) (sink : K → Received) (says 
     taken_are = taken_next;
     ends = ends_next;
     sent_are = sent_next;
-    lived = all_append (IsLife says tells) lives life_now so_far.lived is_life;
+    lived = all_append (IsLife says sinks_report) lives life_now so_far.lived is_life;
   }
 
   tallied_next : AreTallied source sink runs' tally'
   tallied_next = tallied_more source sink runs runs' more.last tally tally' (is_read_fault more.end) more.broken more.runs_are lines_now.count (offered_all.count refl) more.reads more.writes goes.lived.tallied
 
-  pub has_lived_next : HasLived source sink says tells a c sent' runs' tally' next_text (is_refused next)
+  pub has_lived_next : HasLived source sink says sinks_report a c sent' runs' tally' next_text (is_refused next)
   has_lived_next = record {
     lives = lives ++ life_now ∷ [];
-    told =
-        ap (told_of_runs source sink) more.runs_are ∙ map-append _ runs (more.last ∷ [])
-        ∙ ap (λ (x : List _). x ++ told_of_runs source sink (more.last ∷ [])) goes.lived.told ∙ sym (map-append _ lives (life_now ∷ []));
+    reported =
+        ap (shown_runs source sink) more.runs_are ∙ map-append _ runs (more.last ∷ [])
+        ∙ ap (λ (x : List _). x ++ shown_runs source sink (more.last ∷ [])) goes.lived.reported ∙ sym (map-append _ lives (life_now ∷ []));
     tallies = record {
       reads = more.reads ∙ ap (λ (x : Bool). x || is_read_fault more.end) goes.lived.tallies.reads ∙ sym (any_last (λ (x : Life). is_read_fault x.end) lives life_now);
       writes = more.writes ∙ ap (λ (x : Bool). x || more.broken) goes.lived.tallies.writes ∙ sym (any_last (λ (x : Life). x.broken) lives life_now);
@@ -277,34 +277,34 @@ module _ {S K : Type 0} (source : S → Supplied) (sink : K → Received) (says 
     so_far = lived_next;
   }
 
-  pub goes_next : (begun : LifeRun S K) → next ≡ nexts.Life begun → GoesOn source sink says tells a c sent' runs' tally' begun
+  pub goes_next : (begun : LifeRun S K) → next ≡ nexts.Life begun → LivesGoOn source sink says sinks_report a c sent' runs' tally' begun
   goes_next begun e = record {
     text = next_text;
-    lived = subst (λ (x : Bool). HasLived source sink says tells a c sent' runs' tally' next_text x) (ap is_refused e) has_lived_next;
-    begun = subst (λ (n : NextLife S K). IsNext source sink says tells next_text n c.failed.engine) e more.next_is;
+    lived = subst (λ (x : Bool). HasLived source sink says sinks_report a c sent' runs' tally' next_text x) (ap is_refused e) has_lived_next;
+    begun = subst (λ (n : NextLife S K). IsNextLife source sink says sinks_report next_text n c.failed.engine) e more.next_is;
   }
 
-  is_over : next_text ≡ [] → (refused : Bool) → is_refused next ≡ refused → HasLived source sink says tells a c sent' runs' tally' [] refused
+  is_over : next_text ≡ [] → (refused : Bool) → is_refused next ≡ refused → HasLived source sink says sinks_report a c sent' runs' tally' [] refused
   is_over z refused e =
-      subst (λ (t : List ℕ). HasLived source sink says tells a c sent' runs' tally' t refused) z
-      (subst (λ (x : Bool). HasLived source sink says tells a c sent' runs' tally' next_text x) e has_lived_next)
+      subst (λ (t : List ℕ). HasLived source sink says sinks_report a c sent' runs' tally' t refused) z
+      (subst (λ (x : Bool). HasLived source sink says sinks_report a c sent' runs' tally' next_text x) e has_lived_next)
 
-  pub ends_over : next ≡ nexts.Over → HasLived source sink says tells a c sent' runs' tally' [] false
-  ends_over e = is_over (subst (λ (n : NextLife S K). IsNext source sink says tells next_text n c.failed.engine) e more.next_is) false (ap is_refused e)
+  pub ends_over : next ≡ nexts.Over → HasLived source sink says sinks_report a c sent' runs' tally' [] false
+  ends_over e = is_over (subst (λ (n : NextLife S K). IsNextLife source sink says sinks_report next_text n c.failed.engine) e more.next_is) false (ap is_refused e)
 
-  pub ends_refused : (fault : HostFault) → next ≡ nexts.Refused fault → HasLived source sink says tells a c sent' runs' tally' [] true
-  ends_refused fault e = is_over (subst (λ (n : NextLife S K). IsNext source sink says tells next_text n c.failed.engine) e more.next_is) true (ap is_refused e)
+  pub ends_refused : (fault : HostFault) → next ≡ nexts.Refused fault → HasLived source sink says sinks_report a c sent' runs' tally' [] true
+  ends_refused fault e = is_over (subst (λ (n : NextLife S K). IsNextLife source sink says sinks_report next_text n c.failed.engine) e more.next_is) true (ap is_refused e)
 
 -- BEHIND THE LAST LIFE
 
-pub lived_drained : {S K : Type 0} (source : S → Supplied) (sink : K → Received) (says : Option (List ℕ)) (tells : Bool) (a b c : Shown) (sent : List Event) (runs : List (LifeRun S K)) (tally : LivesTally) (refused : Bool)
-    → HasLived source sink says tells a b sent runs tally [] refused → Drained b c → HasLived source sink says tells a c sent runs tally [] refused
-lived_drained source sink says tells a b c sent runs tally refused x d =
+pub lived_drained : {S K : Type 0} (source : S → Supplied) (sink : K → Received) (says : Option (List ℕ)) (sinks_report : Bool) (a b c : LoopState) (sent : List Event) (runs : List (LifeRun S K)) (tally : LivesTally) (refused : Bool)
+    → HasLived source sink says sinks_report a b sent runs tally [] refused → InterfaceDrained b c → HasLived source sink says sinks_report a c sent runs tally [] refused
+lived_drained source sink says sinks_report a b c sent runs tally refused x d =
     let was = x.so_far in
     let to : ToLives = record { ended = map (λ (x : Life). x.text) x.lives; present = [] } in
     record {
       lives = x.lives;
-      told = x.told;
+      reported = x.reported;
       tallies = x.tallies;
       tallied = x.tallied;
       so_far = record {
@@ -318,8 +318,8 @@ lived_drained source sink says tells a b c sent runs tally refused x d =
             list_any-append is_refusal was.events d.events ∙ ap (λ (x : Bool). has_refusal was.events || x) (no_refusal d.events d.open_ended)
             ∙ ap (λ (x : Bool). x || false) was.refusal ∙ or-false refused;
         taken_are =
-            map-append as_long was.events d.events ∙ ap (λ (z : List Event). z ++ map as_long d.events) was.taken_are ∙ ap (λ (z : List Event). told_of b.events ++ z) d.got_are
-            ∙ sym (filter-append is_told b.events d.got) ∙ ap told_of (sym d.taken_is);
+            map-append as_long was.events d.events ∙ ap (λ (z : List Event). z ++ map as_long d.events) was.taken_are ∙ ap (λ (z : List Event). reported_of b.events ++ z) d.got_are
+            ∙ sym (filter-append is_heard_order b.events d.got) ∙ ap reported_of (sym d.taken_is);
         ends = let all = ap ends_in d.taken_is ∙ ends_append b.events d.got in let before = was.ends in let none = d.ends in omega (arith, all, before, none);
         sent_are = was.sent_are;
         lived = was.lived;

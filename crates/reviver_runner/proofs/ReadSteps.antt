@@ -1,14 +1,14 @@
--- What the reader of a life has sent.
+-- The events that the reader of a life has sent.
 use Rattle.std.proofs.Common.{◌≡◌, inr, ℕ, suc, List, [], ◌∷◌, ◌++◌, length, true, false, ◌||◌, IfSome, Result, Ok, Err, IsTrue, refl, sym, ap, subst, ◌∙◌, arith, append-nil, append_assoc}
 use Rattle.std.proofs.lemmas.Grind.{flat_map-append}
 use Rattle.std.specs.Io.KnownBytes.{IsAtEnd}
 use Rattle.std.proofs.KnownBytes.{Appends-nil, Appends-trans, Consumes-nil, Consumes-trans}
 use Rattle.line_io.specs.Event.{Event, Engine, EngineLong}
 use Rattle.line_io.specs.Source.{Supplied}
-use Rattle.line_io.specs.Causes.{HasCause}
-use Rattle.line_io.specs.Lines.{Piece, Whole, Held, Given, Gave, Advances, EndsAt, Reads, rest, items, empty_reader}
+use Rattle.line_io.specs.Causes.{ErrorIsCounted}
+use Rattle.line_io.specs.Lines.{Piece, Whole, Held, ReadGave, Gave, ReaderAdvances, NothingIsLeftAtEnd, SourceGave, lines_to_come, items, empty_reader}
 use Rattle.line_io.specs.Lending.{outcome, AnswersWhen}
-use Rattle.line_io.specs.Runs.{Runs, Call, goes_on, pieces_of, LinesSoFar, LinesAtEnd, LinesAtFault}
+use Rattle.line_io.specs.Runs.{SourceCalls, Call, reading_goes_on, lines_given, LinesSoFar, LinesAtEnd, LinesAtFault}
 use Rattle.line_io.specs.Runs as runs
 use Rattle.line_io.specs.declared.lines.Item.{Item}
 use Rattle.line_io.specs.declared.faults.ReadFault.{ReadFault}
@@ -17,13 +17,13 @@ use Rattle.event_pipe.specs.declared.message.Peer.TheVariants as peers
 use Rattle.event_pipe.specs.declared.message.MessageBody.TheVariants as says
 use Rattle.event_pipe.specs.declared.reader.ReadEnd.{ReadEnd}
 use Rattle.event_pipe.specs.declared.reader.ReadEnd.TheVariants as read_ends
-use Rattle.event_pipe.specs.Counts.{Tells}
-use Rattle.event_pipe.specs.Message.{sent_event, is_end}
+use Rattle.event_pipe.specs.Counts.{CountsFault}
+use Rattle.event_pipe.specs.Message.{sent_event, is_last_event}
 use Rattle.event_pipe.specs.Rule.{has_last_event}
 use Rattle.event_pipe.proofs.Reading.{any_append, at_end_after, counted}
 use Rattle.reviver_runner.specs.declared.reading.ReadingTurn.{ReadingTurn}
 use Rattle.reviver_runner.specs.declared.reading.ReadingTurn.TheVariants as turns
-use Rattle.reviver_runner.specs.Reading.{line_event, line_events, ReadLines, ReadLife, LinesOf, Goes, SoFar}
+use Rattle.reviver_runner.specs.Reading.{line_event, line_events, ReadLines, ReadLife, LinesOf, ReadingTurnDone, SoFar}
 
 -- TURNS
 
@@ -34,27 +34,27 @@ opens held s sent h e = record {
   limit = ap (λ (x : Held). x.limit) h;
   given = [];
   calls = 0;
-  runs = subst (λ (x : Held). Runs 65536 x [] [] 0) (sym h) runs.begins;
+  runs = subst (λ (x : Held). SourceCalls 65536 x [] [] 0) (sym h) runs.begins;
   at_end = λ x. let n : false ≡ true = sym (ap (λ (x : Held). x.ended) h) ∙ x in cc;
   sent_is = sym (append-nil sent);
   going = e;
   same = refl;
 }
 
-pub turn_as : (old new : Held) (so sn : Supplied) (before now : List Event) (t t' : ReadingTurn) → t ≡ t' → Goes old new so sn before now t → Goes old new so sn before now t'
-turn_as old new so sn before now t t' f g = subst (λ (x : ReadingTurn). Goes old new so sn before now x) f g
+pub turn_as : (old new : Held) (so sn : Supplied) (before now : List Event) (t t' : ReadingTurn) → t ≡ t' → ReadingTurnDone old new so sn before now t → ReadingTurnDone old new so sn before now t'
+turn_as old new so sn before now t t' f g = subst (λ (x : ReadingTurn). ReadingTurnDone old new so sn before now x) f g
 
 module _ (first : List Event) (old new : Held) (s0 so sn : Supplied) (before now : List Event) (h : SoFar old s0 so first before) where
-  all_got : (t : ReadingTurn) (g : Goes old new so sn before now t) → Reads s0 sn (h.got ++ g.got)
+  all_got : (t : ReadingTurn) (g : ReadingTurnDone old new so sn before now t) → SourceGave s0 sn (h.got ++ g.got)
   all_got t g = record { given = Appends-trans s0.given so.given sn.given _ _ h.reads.given g.reads.given; left = Consumes-trans s0.left so.left sn.left _ _ h.reads.left g.reads.left }
 
-  end_after : (t : ReadingTurn) (g : Goes old new so sn before now t) → new.ended ≡ true → IfSome s0.left (λ _. IsAtEnd sn.left)
+  end_after : (t : ReadingTurn) (g : ReadingTurnDone old new so sn before now t) → new.ended ≡ true → IfSome s0.left (λ _. IsAtEnd sn.left)
   end_after t g e = at_end_after old.ended old new s0.left so.left sn.left h.got g.got refl h.reads.left g.reads.left h.at_end (λ o. g.call.advances.idle (inr o)) g.ends_at e
 
-  pub goes_more : Goes old new so sn before now turns.More → SoFar new s0 sn first now
+  pub goes_more : ReadingTurnDone old new so sn before now turns.More → SoFar new s0 sn first now
   goes_more g =
       let s = g.sends in
-      let more = pieces_of (outcome g.result) in
+      let more = lines_given (outcome g.result) in
       record {
         got = h.got ++ g.got;
         reads = all_got turns.More g;
@@ -72,7 +72,7 @@ module _ (first : List Event) (old new : Held) (s0 so sn : Supplied) (before now
   same_lines : now ≡ before → now ≡ first ++ line_events h.given
   same_lines e = e ∙ h.sent_is
 
-  pub read_done : LinesAtEnd → Goes old new so sn before now turns.Done → ReadLines s0 sn first now read_ends.Done
+  pub read_done : LinesAtEnd → ReadingTurnDone old new so sn before now turns.Done → ReadLines s0 sn first now read_ends.Done
   read_done law g =
       let s = g.sends in
       let all = law 65536 h.calls old new h.got g.got h.given g.result h.runs g.call s.0 in
@@ -90,7 +90,7 @@ module _ (first : List Event) (old new : Held) (s0 so sn : Supplied) (before now
         };
       }
 
-  pub read_fault : (f : ReadFault) → LinesAtFault → Goes old new so sn before now turns.Fault → ReadLines s0 sn first now (read_ends.Fault f)
+  pub read_fault : (f : ReadFault) → LinesAtFault → ReadingTurnDone old new so sn before now turns.Fault → ReadLines s0 sn first now (read_ends.Fault f)
   read_fault f law g =
       let s = g.sends in
       let all = law 65536 h.calls old new h.got g.got h.given g.result h.runs g.call s.0 in
@@ -108,13 +108,13 @@ module _ (first : List Event) (old new : Held) (s0 so sn : Supplied) (before now
         };
       }
 
-  pub read_cut : LinesSoFar → Goes old new so sn before now turns.NoMemory → ReadLines s0 sn first now read_ends.NoMemory
+  pub read_cut : LinesSoFar → ReadingTurnDone old new so sn before now turns.NoMemory → ReadLines s0 sn first now read_ends.NoMemory
   read_cut law g =
       let s = g.sends in
-      let more = pieces_of (outcome g.result) in
+      let more = lines_given (outcome g.result) in
       let all = law 65536 (suc h.calls) new (h.got ++ g.got) [] (h.given ++ more) (runs.goes h.runs g.call s.0) (λ _. refl) in
-      let pieces : items 65536 (h.got ++ g.got) ≡ h.given ++ (more ++ rest new []) =
-      ap (items 65536) (sym (append-nil (h.got ++ g.got))) ∙ all ∙ append_assoc h.given more (rest new []) in
+      let pieces : items 65536 (h.got ++ g.got) ≡ h.given ++ (more ++ lines_to_come new []) =
+      ap (items 65536) (sym (append-nil (h.got ++ g.got))) ∙ all ∙ append_assoc h.given more (lines_to_come new []) in
       record {
         lines = line_events h.given;
         sent_is = same_lines s.1;
@@ -125,8 +125,8 @@ module _ (first : List Event) (old new : Held) (s0 so sn : Supplied) (before now
           at_end = λ x. cc;
           at_fault = λ f x. cc;
           cut = λ _. record {
-            rest = line_events (more ++ rest new []);
-            is = ap line_events pieces ∙ flat_map-append line_event h.given (more ++ rest new []);
+            rest = line_events (more ++ lines_to_come new []);
+            is = ap line_events pieces ∙ flat_map-append line_event h.given (more ++ lines_to_come new []);
           };
           count = counted _ _ _ _ _ h.same refl g.count;
         };
@@ -149,13 +149,13 @@ read_none s sent = record {
 
 -- A LINE THAT WAS READ
 
-module _ (p : Peer) (old new : Held) (so sn : Supplied) (before now : List Event) (r : Result Item ReadFault) (item : Item) (line : List ℕ) (is : r ≡ Ok item) (gave : outcome (Ok item) ≡ Gave (Whole line)) (on : IsTrue (goes_on (Ok item)))
-    (engine : p ≡ peers.Engine) (going : has_last_event before ≡ false) (adds : now ≡ before ++ sent_event p (says.Line line) ∷ []) (same : Tells so.faults sn.faults false)
-    (k : (got : List ℕ) × Reads so sn got × Advances old new got (outcome r) × EndsAt old new sn.left × AnswersWhen old new got r) where
+module _ (p : Peer) (old new : Held) (so sn : Supplied) (before now : List Event) (r : Result Item ReadFault) (item : Item) (line : List ℕ) (is : r ≡ Ok item) (gave : outcome (Ok item) ≡ Gave (Whole line)) (on : IsTrue (reading_goes_on (Ok item)))
+    (engine : p ≡ peers.Engine) (going : has_last_event before ≡ false) (adds : now ≡ before ++ sent_event p (says.Line line) ∷ []) (same : CountsFault so.faults sn.faults false)
+    (k : (got : List ℕ) × SourceGave so sn got × ReaderAdvances old new got (outcome r) × NothingIsLeftAtEnd old new sn.left × AnswersWhen old new got r) where
   line_is : now ≡ before ++ Engine line ∷ []
   line_is = adds ∙ ap (λ (q : Peer). before ++ sent_event q (says.Line line) ∷ []) engine
 
-  pub goes_line : Goes old new so sn before now turns.More
+  pub goes_line : ReadingTurnDone old new so sn before now turns.More
   goes_line = record {
     got = k.0;
     reads = k.1;
@@ -163,9 +163,9 @@ module _ (p : Peer) (old new : Held) (so sn : Supplied) (before now : List Event
     call = record { advances = k.2; answers = k.4 };
     ends_at = k.3;
     sends = (
-      subst (λ (x : Result Item ReadFault). IsTrue (goes_on x)) (sym is) on,
-      line_is ∙ ap (λ (x : Given). before ++ line_events (pieces_of x)) (sym (ap outcome is ∙ gave)),
-      ap has_last_event line_is ∙ any_append is_end before (Engine line ∷ []) ∙ ap (λ b. b || false) going,
+      subst (λ (x : Result Item ReadFault). IsTrue (reading_goes_on x)) (sym is) on,
+      line_is ∙ ap (λ (x : ReadGave). before ++ line_events (lines_given x)) (sym (ap outcome is ∙ gave)),
+      ap has_last_event line_is ∙ any_append is_last_event before (Engine line ∷ []) ∙ ap (λ b. b || false) going,
     );
     count = same;
   }
@@ -185,4 +185,4 @@ life_read p s s' sent lines now r e x z = record {
 
 pub long_going : (p : Peer) (lines now : List Event) → p ≡ peers.Engine → has_last_event lines ≡ false → now ≡ lines ++ sent_event p says.Long ∷ [] → has_last_event now ≡ false
 long_going p lines now e h z =
-    ap has_last_event (z ∙ ap (λ (q : Peer). lines ++ sent_event q says.Long ∷ []) e) ∙ any_append is_end lines (EngineLong ∷ []) ∙ ap (λ b. b || false) h
+    ap has_last_event (z ∙ ap (λ (q : Peer). lines ++ sent_event q says.Long ∷ []) e) ∙ any_append is_last_event lines (EngineLong ∷ []) ∙ ap (λ b. b || false) h

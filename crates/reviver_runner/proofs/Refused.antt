@@ -5,10 +5,10 @@ use Rattle.event_pipe.specs.declared.message.Peer.TheVariants as peers
 use Rattle.event_pipe.specs.Rule.{sent_by, has_last_event}
 use Rattle.engine_revival.specs.declared.state.RevivalState.{RevivalState}
 use Rattle.engine_revival.specs.Script.{AllMayHappen, texts_from, revival_script}
-use Rattle.engine_revival.specs.Steps.{opening}
-use Rattle.host_run.proofs.Logs.{one_log, none_longer}
-use Rattle.reviver_runner.specs.Laws.{HasNoEmptyLog, HasNoLongerLog}
-use Rattle.reviver_runner.proofs.EndSteps.{ended_told}
+use Rattle.engine_revival.specs.Steps.{opening_revival}
+use Rattle.program_lifecycle.proofs.Logs.{one_log, none_longer}
+use Rattle.reviver_runner.specs.Laws.{ReviverLogIsNotEmpty, ReviverLogIsNotLonger}
+use Rattle.reviver_runner.proofs.EndSteps.{ended_reported}
 
 some_byte : {P : Type 0} (byte : ℕ) (bytes : List ℕ) → byte ∷ bytes ≡ [] → P
 some_byte byte bytes e = cc
@@ -23,12 +23,12 @@ some_mark s (EngineLong ∷ events) may e = some_byte _ _ e
 some_mark s (EngineEnd ∷ events) may e = some_byte _ _ e
 some_mark s (event ∷ events) may e = let never : false ≡ true = may.0 in cc
 
-pub no_empty_log : HasNoEmptyLog
+pub no_empty_log : ReviverLogIsNotEmpty
 no_empty_log number bytes before after run e =
-    let none = some_mark (opening number) run.events run.may (one_log (revival_script number run.events) [] after.books.logs run.log e) in
-    let over = sym (ended_told run.arrived) ∙ ap has_last_event (sym run.orders ∙ ap (λ (es : List Event). sent_by peers.Iface es) none) in
+    let none = some_mark (opening_revival number) run.events run.may (one_log (revival_script number run.events) [] after.ledger.logs run.log e) in
+    let over = sym (ended_reported run.arrived) ∙ ap has_last_event (sym run.orders ∙ ap (λ (es : List Event). sent_by peers.Iface es) none) in
     let ends : false ≡ true = sym over ∙ run.iface.over in
     cc
 
-pub no_longer_log : HasNoLongerLog
-no_longer_log number bytes before after run byte more e = none_longer (revival_script number run.events) more byte (one_log (revival_script number run.events) _ after.books.logs run.log e)
+pub no_longer_log : ReviverLogIsNotLonger
+no_longer_log number bytes before after run byte more e = none_longer (revival_script number run.events) more byte (one_log (revival_script number run.events) _ after.ledger.logs run.log e)

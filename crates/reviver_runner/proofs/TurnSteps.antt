@@ -6,37 +6,37 @@ use Rattle.engine_revival.specs.declared.state.RevivalState.{RevivalState}
 use Rattle.engine_revival.specs.Steps.{may_begin, is_alive}
 use Rattle.engine_revival.specs.Script.{state_behind}
 use Rattle.std.specs.VecDeque.{deque_capacity}
-use Rattle.event_pipe.specs.Ends.{KeepsSender, KeepsTaker, events_sent}
+use Rattle.event_pipe.specs.Ends.{KeepsSender, KeepsReceiver, events_sent}
 use Rattle.event_pipe.specs.Rule.{has_last_event}
 use Rattle.event_pipe.specs.declared.pipe.PipeTake.{PipeTake}
 use Rattle.reviver_runner.specs.declared.looping.RevivalLoop.{RevivalLoop}
 use Rattle.reviver_runner.specs.Looped.{KeepsLoop, KeepsMarks}
 use Rattle.reviver_runner.proofs.HearSteps.{ready_still}
 use Rattle.reviver_runner.specs.declared.parts.ReviverParts.{ReviverParts}
-use Rattle.reviver_runner.specs.Parts.{AreReady, KeepsEnds}
-use Rattle.reviver_runner.specs.Played.{heard_of}
+use Rattle.reviver_runner.specs.Parts.{ReviverPartsAreReady, ReviverKeepsEnds}
+use Rattle.reviver_runner.specs.Played.{events_for_revival}
 use Rattle.reviver_runner.proofs.Stays.{events_stay}
 use Rattle.reviver_runner.specs.declared.turns.NextLife.{NextLife}
 use Rattle.reviver_runner.specs.declared.turns.NextLife.TheVariants as nexts
-use Rattle.reviver_runner.specs.Lives.{Goes, Follows, Continues}
+use Rattle.reviver_runner.specs.Lives.{LifeGoesOn, LifeFollows, Continues}
 
 -- ONE MORE LIFE HAS ENDED
 
 below : (s : RevivalState) → may_begin s ≡ true → s.begun < s.lives
 below s may = ltb-true s.begun s.lives (and_parts (nat_lt s.begun s.lives) (not s.quit) (and_parts (nat_lt s.begun s.lives && not s.quit) (not s.full) may).0).0
 
-goes_next : (n : ℕ) (s s' : RevivalState) → s.begun ≡ suc n → may_begin s ≡ true → s'.begun ≡ s.begun + 1 → s'.lives ≡ s.lives → is_alive s'.life ≡ true → Goes s' (n + 1)
+goes_next : (n : ℕ) (s s' : RevivalState) → s.begun ≡ suc n → may_begin s ≡ true → s'.begun ≡ s.begun + 1 → s'.lives ≡ s.lives → is_alive s'.life ≡ true → LifeGoesOn s' (n + 1)
 goes_next n s s' begun may more same alive =
     let less = below s may in
     record { alive = alive; begun = omega (arith, begun, more); few = omega (arith, begun, less, same) }
 
-pub continues : {S K : Type 0} (n n' : ℕ) (s s' s'' : RevivalState) (es : List Event) (x : NextLife S K) → n' ≡ n + 1 → Goes s n → s' ≡ state_behind s (heard_of es)
-    → Follows s' s'' x → Continues s'' n' x
+pub continues : {S K : Type 0} (n n' : ℕ) (s s' s'' : RevivalState) (es : List Event) (x : NextLife S K) → n' ≡ n + 1 → LifeGoesOn s n → s' ≡ state_behind s (events_for_revival es)
+    → LifeFollows s' s'' x → Continues s'' n' x
 continues n n' s s' s'' es (nexts.Life run) m g e h =
     let k = events_stay s es in
     let lives : s'.lives ≡ s.lives = ap (λ (y : RevivalState). y.lives) e ∙ k.lives in
     let begun : s'.begun ≡ s.begun = ap (λ (y : RevivalState). y.begun) e ∙ k.begun in
-    subst (λ i. Goes s'' i) (sym m) (goes_next n s' s'' (begun ∙ g.begun) h.0 h.1 h.2 h.3)
+    subst (λ i. LifeGoesOn s'' i) (sym m) (goes_next n s' s'' (begun ∙ g.begun) h.0 h.1 h.2 h.3)
 continues n n' s s' s'' es nexts.Over m g e h =
     let begun : s'.begun ≡ s.begun = ap (λ (y : RevivalState). y.begun) e ∙ (events_stay s es).begun in
     let first = g.begun in
@@ -49,11 +49,11 @@ continues n n' s s' s'' es (nexts.Refused fault) m g e h =
     (omega (arith, same, begun, first, m), h.2)
 
 -- the ends of the channel after a life and what follows of it
-pub keeps_turn : {L P : Type 0} (old new : ReviverParts L P) (mid : RevivalLoop L) → AreReady old → KeepsSender old.to new.to → has_last_event (events_sent new.to) ≡ false → KeepsLoop old.looping mid → new.looping.from ≡ mid.from
-    → KeepsMarks mid.marks new.looping.marks → deque_capacity new.processes ≡ deque_capacity old.processes → KeepsEnds old new
+pub keeps_turn : {L P : Type 0} (old new : ReviverParts L P) (mid : RevivalLoop L) → ReviverPartsAreReady old → KeepsSender old.to new.to → has_last_event (events_sent new.to) ≡ false → KeepsLoop old.looping mid → new.looping.from ≡ mid.from
+    → KeepsMarks mid.marks new.looping.marks → deque_capacity new.processes ≡ deque_capacity old.processes → ReviverKeepsEnds old new
 keeps_turn old new mid ready sender going keeps from marks room =
     let looping : KeepsLoop old.looping new.looping = record {
-      taker = subst (λ (t : PipeTake). KeepsTaker old.looping.from t) (sym from) keeps.taker;
+      receiving_end = subst (λ (t : PipeTake). KeepsReceiver old.looping.from t) (sym from) keeps.receiving_end;
       marks = record { room = marks.room ∙ keeps.marks.room; log = marks.log ∙ keeps.marks.log };
     } in
     record {

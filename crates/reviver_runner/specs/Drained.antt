@@ -1,12 +1,12 @@
--- What is heard after the last life.
+-- The events heard after the last life.
 use Rattle.std.specs.Prelude.{◌≡◌, List, [], ◌++◌, map, false}
 use Rattle.line_io.specs.Event.{Event}
 use Rattle.engine_revival.specs.declared.words.LifeState.TheVariants as life
-use Rattle.reviver_runner.specs.Looped.{Shown, PlayedUp}
-use Rattle.reviver_runner.specs.Played.{lines_to_child, as_long, has_close, told_of, ends_in}
+use Rattle.reviver_runner.specs.Looped.{LoopState, PlayedUp}
+use Rattle.reviver_runner.specs.Played.{lines_to_child, as_long, has_close, reported_of, ends_in}
 
 -- The revival heard what came of the interface, and for no life was there anything to write.
-pub record Drained (before after : Shown) : Type 0 where
+pub record InterfaceDrained (before after : LoopState) : Type 0 where
   pub events : List Event
   pub played : PlayedUp before after events
   pub over : after.state.life ≡ life.Over
@@ -15,5 +15,5 @@ pub record Drained (before after : Shown) : Type 0 where
   pub unwritten : lines_to_child before.state events ≡ []
   pub got : List Event
   pub taken_is : after.events ≡ before.events ++ got
-  pub got_are : map as_long events ≡ told_of got
+  pub got_are : map as_long events ≡ reported_of got
   pub ends : ends_in got ≡ 0

@@ -1,17 +1,17 @@
--- What no whole run leaves, over a host that tells its bytes.
+-- Results that no whole run leaves, over a host that reports its bytes.
 use Rattle.std.specs.Prelude.{◌≡◌, ℕ, List, [], ◌∷◌, ◌++◌, Some}
-use Rattle.host_run.specs.Outside.{Outside}
+use Rattle.program_lifecycle.specs.Outside.{Outside}
 use Rattle.engine_revival.specs.Script.{revival_script}
-use Rattle.reviver_runner.specs.Recorded.{IsWhole}
+use Rattle.reviver_runner.specs.Recorded.{ReviverRunIsWhole}
 
 -- an empty log
-abbrev pub HasNoEmptyLog : Type 0
-HasNoEmptyLog =
-    (number : ℕ) (bytes : List ℕ) (before after : Outside) → IsWhole number bytes before after
-    → after.books.logs ≡ Some [] ∷ [] → ⊥
+abbrev pub ReviverLogIsNotEmpty : Type 0
+ReviverLogIsNotEmpty =
+    (number : ℕ) (bytes : List ℕ) (before after : Outside) → ReviverRunIsWhole number bytes before after
+    → after.ledger.logs ≡ Some [] ∷ [] → ⊥
 
 -- a log with a byte after its script
-abbrev pub HasNoLongerLog : Type 0
-HasNoLongerLog = (number : ℕ) (bytes : List ℕ) (before after : Outside)
-    (run : IsWhole number bytes before after) (byte : ℕ) (more : List ℕ)
-    → after.books.logs ≡ Some (revival_script number run.events ++ byte ∷ more) ∷ [] → ⊥
+abbrev pub ReviverLogIsNotLonger : Type 0
+ReviverLogIsNotLonger = (number : ℕ) (bytes : List ℕ) (before after : Outside)
+    (run : ReviverRunIsWhole number bytes before after) (byte : ℕ) (more : List ℕ)
+    → after.ledger.logs ≡ Some (revival_script number run.events ++ byte ∷ more) ∷ [] → ⊥

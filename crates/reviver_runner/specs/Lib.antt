@@ -8,5 +8,5 @@ pub mod Drained
 pub mod Recorded
 pub mod Ran
 pub mod Laws
-pub mod Words
+pub mod Arguments
 pub mod Program

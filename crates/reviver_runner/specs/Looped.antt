@@ -1,16 +1,16 @@
--- What the loop of a life leaves.
+-- The result of the loop of a life.
 use Rattle.std.specs.Prelude.{◌≡◌, ◌≤◌, ℕ, List, [], ◌∷◌, ◌++◌, Bool, true, false, is_some}
 use Rattle.line_io.specs.Event.{Event, EngineLong}
 use Rattle.line_io.specs.Source.{Received}
 use Rattle.engine_revival.specs.declared.script.TheConstants.{EVENT_ROOM}
 use Rattle.engine_revival.specs.declared.state.RevivalState.{RevivalState}
 use Rattle.engine_revival.specs.Script.{AllMayHappen, state_behind, texts_from}
-use Rattle.event_pipe.specs.Ends.{IsTaker, KeepsTaker, events_taken}
-use Rattle.host_run.specs.declared.offering.LoopEnd.{LoopEnd}
-use Rattle.host_run.specs.Streams.{Sinks, Offered, log_state}
+use Rattle.event_pipe.specs.Ends.{IsReceiver, KeepsReceiver, events_taken}
+use Rattle.program_lifecycle.specs.declared.offering.LoopEnd.{LoopEnd}
+use Rattle.program_lifecycle.specs.Streams.{Sinks, Offered, log_state}
 use Rattle.reviver_runner.specs.declared.looping.MarkedLog.{MarkedLog}
 use Rattle.reviver_runner.specs.declared.looping.RevivalLoop.{RevivalLoop}
-use Rattle.reviver_runner.specs.Played.{lines_up, lines_to_child, heard_of, has_close}
+use Rattle.reviver_runner.specs.Played.{revival_lines_up, lines_to_child, events_for_revival, has_close}
 
 -- the log and its room are those of before
 pub record KeepsMarks {L : Type 0} (old new : MarkedLog L) : Type 0 where
@@ -19,17 +19,17 @@ pub record KeepsMarks {L : Type 0} (old new : MarkedLog L) : Type 0 where
 
 -- its end of the channel takes, and there is room for the marks of an event
 pub record IsReadyLoop {L : Type 0} (looping : RevivalLoop L) : Type 0 where
-  pub taker : IsTaker looping.from
+  pub receiving_end : IsReceiver looping.from
   pub room : EVENT_ROOM ≤ looping.marks.text.room
 
 -- its end of the channel, its log and its room are those of before
 pub record KeepsLoop {L : Type 0} (old new : RevivalLoop L) : Type 0 where
-  pub taker : KeepsTaker old.from new.from
+  pub receiving_end : KeepsReceiver old.from new.from
   pub marks : KeepsMarks old.marks new.marks
 
--- What a loop shows: the revival's state, what it took from the channel, what went to the interface
+-- The state of a loop: the revival's state, what it took from the channel, what went to the interface
 -- and into the log, and which sinks have failed.
-pub record Shown : Type 0 where
+pub record LoopState : Type 0 where
   pub state : RevivalState
   pub events : List Event
   pub output : Received
@@ -37,7 +37,7 @@ pub record Shown : Type 0 where
   pub failed : LoopEnd
 
 abbrev pub loop_reports : {O L : Type 0} → (O → Received) → (L → Received)
-    → RevivalLoop L → O → Shown
+    → RevivalLoop L → O → LoopState
 loop_reports to_output to_log looping output =
     record {
       state = looping.revival.state;
@@ -57,38 +57,38 @@ pub record Offers (up child marks : List ℕ) (before after : Sinks)
 
 -- The revival heard these events, each of which might come, and the interface and the log were
 -- offered what is written for them.
-pub record PlayedUp (before after : Shown) (events : List Event) : Type 0 where
+pub record PlayedUp (before after : LoopState) (events : List Event) : Type 0 where
   pub may : AllMayHappen before.state events
   pub state_is : after.state ≡ state_behind before.state events
   pub up : Offered before.failed.output after.failed.output before.output after.output
-      (lines_up before.state events)
+      (revival_lines_up before.state events)
   pub marks : Offered before.failed.log after.failed.log before.log after.log
       (texts_from before.state events)
 
 -- the same, and so was the life
-pub record Played (before after : Shown) (sink sink' : Received)
+pub record LifePlayed (before after : LoopState) (sink sink' : Received)
     (events : List Event) : Type 0 where
   pub up : PlayedUp before after events
   pub child : Offered before.failed.engine after.failed.engine sink sink'
       (lines_to_child before.state events)
 
 -- how far the loop has come: what was taken so far has no mark of an engine's end
-pub record Going (before after : Shown) (sink sink' : Received) : Type 0 where
+pub record Going (before after : LoopState) (sink sink' : Received) : Type 0 where
   pub events : List Event
   pub taken_is : after.events ≡ before.events ++ events
   pub unended : has_close events ≡ false
-  pub played : Played before after sink sink' (heard_of events)
+  pub played : LifePlayed before after sink sink' (events_for_revival events)
 
 -- The loop of a life is over: it took events, and then one Long of the engine, which is the
 -- mark of the life's end. The revival heard the events, except the interface's long lines, in
 -- their order, and no others.
-pub record LoopedLife (before after : Shown) (sink sink' : Received) : Type 0 where
+pub record LoopedLife (before after : LoopState) (sink sink' : Received) : Type 0 where
   pub events : List Event
   pub taken_is : after.events ≡ before.events ++ (events ++ EngineLong ∷ [])
   pub unended : has_close events ≡ false
-  pub played : Played before after sink sink' (heard_of events)
+  pub played : LifePlayed before after sink sink' (events_for_revival events)
 
 -- the life goes on, or its loop is over
-abbrev pub GoesOrEnds : Bool → Shown → Shown → Received → Received → Type 0
+abbrev pub GoesOrEnds : Bool → LoopState → LoopState → Received → Received → Type 0
 GoesOrEnds true before after sink sink' = Going before after sink sink'
 GoesOrEnds false before after sink sink' = LoopedLife before after sink sink'

@@ -1,10 +1,10 @@
--- What a run of the lives needs beside its host.
+-- The parts that a run of the lives needs beside its host.
 use Rattle.std.specs.Prelude.{◌≡◌, ℕ, ◌≤◌, false}
 use Rattle.std.specs.VecDeque.{deque_capacity}
 use Rattle.engine_revival.specs.declared.script.TheConstants.{EVENT_ROOM}
-use Rattle.engine_revival.specs.Steps.{opening}
+use Rattle.engine_revival.specs.Steps.{opening_revival}
 use Rattle.event_pipe.specs.declared.message.Peer.TheVariants as peers
-use Rattle.event_pipe.specs.Ends.{IsSender, IsFreshSender, IsFreshTaker}
+use Rattle.event_pipe.specs.Ends.{IsSender, IsFreshSender, IsFreshReceiver}
 use Rattle.event_pipe.specs.Ends.{KeepsSender, AreOne, events_sent}
 use Rattle.event_pipe.specs.Rule.{has_last_event}
 use Rattle.reviver_runner.specs.Looped.{IsReadyLoop, KeepsLoop}
@@ -14,15 +14,15 @@ use Rattle.reviver_runner.specs.declared.parts.ReviverParts.{ReviverParts}
 -- The first of so many lives goes on, there is room for the marks of an event, and
 -- nothing was sent or taken yet.
 pub record IsMade (lives : ℕ) (made : MadeParts) : Type 0 where
-  pub begins : made.revival.state ≡ opening lives
+  pub begins : made.revival.state ≡ opening_revival lives
   pub room : EVENT_ROOM ≤ made.text.room
   pub iface : IsFreshSender made.iface peers.Iface
   pub engine : IsFreshSender made.to peers.Engine
-  pub taker : IsFreshTaker made.from
+  pub receiving_end : IsFreshReceiver made.from
   pub one : AreOne made.iface made.to made.from
 
 -- the ends of the channel, and room for the marks of an event
-pub record AreReady {L P : Type 0} (parts : ReviverParts L P) : Type 0 where
+pub record ReviverPartsAreReady {L P : Type 0} (parts : ReviverParts L P) : Type 0 where
   pub looping : IsReadyLoop parts.looping
   pub sender : IsSender parts.to
   pub engine : parts.to.peer ≡ peers.Engine
@@ -30,8 +30,8 @@ pub record AreReady {L P : Type 0} (parts : ReviverParts L P) : Type 0 where
 
 -- the ends of the channel, the log and its room are those of before, and there is
 -- as much room for processes
-pub record KeepsEnds {L P : Type 0} (old new : ReviverParts L P) : Type 0 where
-  pub ready : AreReady new
+pub record ReviverKeepsEnds {L P : Type 0} (old new : ReviverParts L P) : Type 0 where
+  pub ready : ReviverPartsAreReady new
   pub sender : KeepsSender old.to new.to
   pub looping : KeepsLoop old.looping new.looping
   pub processes : deque_capacity new.processes ≡ deque_capacity old.processes

@@ -1,12 +1,12 @@
 // Closing the runs.
 ghost use Rattle.std.specs.Prelude.{◌≡◌, ◌+◌, length};
-ghost use Rattle.host_run.specs.Logs.{log_count, logs_told};
-ghost use Rattle.host_run.specs.Streams.{log_state};
-ghost use Rattle.reviver_runner.specs.Closing.{ClosesAll, ClosesEverything, HasClosed, read_faults, write_faults, told_of_runs};
+ghost use Rattle.program_lifecycle.specs.Logs.{log_count, shown_logs};
+ghost use Rattle.program_lifecycle.specs.Streams.{log_state};
+ghost use Rattle.reviver_runner.specs.Closing.{ClosesAll, ClosesEverything, HasClosed, run_source_faults, run_sink_faults, shown_runs};
 
 use crate::LifeRun;
 use child_engine::{Host, Started};
-use host_run::{close_log, either};
+use program_lifecycle::{close_log, either};
 use std::collections::VecDeque;
 
 // Closes the runs in their order, and reports whether waiting for one failed.
@@ -20,13 +20,13 @@ where
     H::EngineSink: Drop,
     H::EngineProcess: Drop,
     requires processes { length processes.items ≡ length runs.items }
-    requires out { length (H.books host.old).runs + length runs.items
-        ≡ (H.books host.old).runs_out }
-    ensures books { HasClosed (H.books host.old) (H.books host.new)
-        (told_of_runs H.EngineSource.state H.EngineSink.state runs.items) }
+    requires out { length (H.ledger host.old).runs + length runs.items
+        ≡ (H.ledger host.old).runs_out }
+    ensures ledger { HasClosed (H.ledger host.old) (H.ledger host.new)
+        (shown_runs H.EngineSource.state H.EngineSink.state runs.items) }
     ensures counts { ClosesAll (H.faults host.old) (H.faults host.new)
-        (read_faults H.EngineSource.state runs.items)
-        (write_faults H.EngineSink.state runs.items) result }
+        (run_source_faults H.EngineSource.state runs.items)
+        (run_sink_faults H.EngineSink.state runs.items) result }
     ensures asked { H.asked host.new ≡ H.asked host.old }
 {
     let mut left = runs;
@@ -60,14 +60,15 @@ where
     H::EngineSink: Drop,
     H::EngineProcess: Drop,
     requires processes { length processes.items ≡ length runs.items }
-    requires out { length (H.books host.old).runs + length runs.items
-        ≡ (H.books host.old).runs_out }
-    requires logs { length (H.books host.old).logs + log_count log ≡ (H.books host.old).logs_out }
-    ensures closes { ClosesEverything (H.books host.old) (H.books host.new)
+    requires out { length (H.ledger host.old).runs + length runs.items
+        ≡ (H.ledger host.old).runs_out }
+    requires logs { length (H.ledger host.old).logs + log_count log ≡ (H.ledger host.old).logs_out }
+    ensures closes { ClosesEverything (H.ledger host.old) (H.ledger host.new)
         (H.faults host.old) (H.faults host.new)
-        (told_of_runs H.EngineSource.state H.EngineSink.state runs.items)
-        (read_faults H.EngineSource.state runs.items) (write_faults H.EngineSink.state runs.items)
-        (log_state H.Log.state log).faults (logs_told H.Log.state log) result }
+        (shown_runs H.EngineSource.state H.EngineSink.state runs.items)
+        (run_source_faults H.EngineSource.state runs.items) (run_sink_faults H.EngineSink.state
+        runs.items)
+        (log_state H.Log.state log).faults (shown_logs H.Log.state log) result }
     ensures asked { H.asked host.new ≡ H.asked host.old }
 {
     let failed = close_all(host, runs, processes);

@@ -4,7 +4,7 @@ ghost use Rattle.line_io.specs.Event.{event_of};
 ghost use Rattle.engine_revival.specs.declared.words.LifeState.TheVariants as life;
 ghost use Rattle.reviver_runner.specs.Looped.{IsReadyLoop, KeepsLoop, loop_reports};
 ghost use Rattle.reviver_runner.specs.Played.{is_order};
-ghost use Rattle.reviver_runner.specs.Drained.{Drained};
+ghost use Rattle.reviver_runner.specs.Drained.{InterfaceDrained};
 
 use crate::{RevivalLoop, hear, wait_for_ever};
 use line_io::{Event, NullSink, Sink};
@@ -22,7 +22,7 @@ fn drain_next<O: Sink, L: Sink, R: Wait>(rt: &R, looping: &mut RevivalLoop<L>, o
     requires over { looping.old.revival.state.life ≡ life.Over }
     requires ready { IsReadyLoop looping.old }
     ensures keeps { KeepsLoop looping.old looping.new }
-    ensures drained { Drained (loop_reports O.state L.state looping.old output.old)
+    ensures drained { InterfaceDrained (loop_reports O.state L.state looping.old output.old)
         (loop_reports O.state L.state looping.new output.new) }
 {
     let RevivalLoop {
@@ -50,7 +50,7 @@ pub(crate) fn drain<O: Sink, L: Sink, R: Wait>(rt: &R, looping: &mut RevivalLoop
     requires ready { IsReadyLoop looping.old }
     ensures keeps { KeepsLoop looping.old looping.new }
     ensures quit { looping.new.revival.state.quit ≡ true }
-    ensures drained { Drained (loop_reports O.state L.state looping.old output.old)
+    ensures drained { InterfaceDrained (loop_reports O.state L.state looping.old output.old)
         (loop_reports O.state L.state looping.new output.new) }
 {
     for _ in rt.forever() {

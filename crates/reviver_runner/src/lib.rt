@@ -1,8 +1,9 @@
 //! An engine that is started again, over a host: one life, its lines beside the interface's orders, into the revival;
-//! one run of all lives, beside the interface's reader; and the program `reviver`: words, the run that they ask for,
+//! one run of all lives, beside the interface's reader; and the program `reviver`: arguments, the run that they ask for,
 //! and how it is reported.
 #![tactic(auto)]
 
+mod arguments;
 mod closing;
 mod drain;
 mod laws;
@@ -16,12 +17,11 @@ mod reading;
 mod run;
 mod starting;
 mod turns;
-mod words;
 
+pub use arguments::{ReviverRequest, read_arguments};
 pub use laws::logs_are_whole;
 pub use life::{LifeRun, one_life};
 pub use looping::{MarkedLog, RevivalLoop, hear, offer_all, wait_for_ever};
 pub use main_call::{refuse_for_memory, revive_main};
 pub use reading::read_life;
 pub use run::revive_run;
-pub use words::{ReviverRequest, read_words};

@@ -9,7 +9,7 @@ ghost use Rattle.reviver_runner.specs.Reading.{ReadLife};
 
 use crate::looping::life_loop;
 use crate::{RevivalLoop, read_life};
-use child_engine::LetGo;
+use child_engine::ClosableSink;
 use event_pipe::{PipeSend, ReadEnd};
 use line_io::{Sink, Source};
 use std::alloc::Global;
@@ -28,7 +28,7 @@ pub struct LifeRun<S, K> {
 /// clears it before the life. The mark of the life's end, and what follows of it, are the caller's.
 pub fn one_life<
     S: Source + Send,
-    K: LetGo + Send,
+    K: ClosableSink + Send,
     O: Sink + Send,
     L: Sink + Send,
     R: Threads + Wait + Sync,
@@ -49,8 +49,8 @@ pub fn one_life<
     ensures going { has_last_event (events_sent to.new) ≡ false }
     ensures keeps { KeepsLoop looping.old looping.new }
     ensures alive { is_alive looping.new.revival.state.life ≡ true }
-    ensures let_go { looping.old.revival.state.quit ≡ false
-        → looping.new.revival.state.quit ≡ true → K.is_let_go run.new.sink }
+    ensures close_sink { looping.old.revival.state.quit ≡ false
+        → looping.new.revival.state.quit ≡ true → K.is_sink_closed run.new.sink }
     ensures read { ReadLife (S.state run.old.source) (S.state run.new.source)
         (events_sent to.old) (events_sent to.new) result }
     ensures looped { LoopedLife (loop_reports O.state L.state looping.old output.old)

@@ -1,15 +1,15 @@
 // The lives that have ended.
 ghost use Rattle.std.specs.Prelude.{◌≡◌, ◌||◌};
 ghost use Rattle.event_pipe.specs.Arrivals.{is_read_fault};
-ghost use Rattle.host_run.specs.Readers.{lacked_memory};
+ghost use Rattle.program_lifecycle.specs.Readers.{lacked_memory};
 ghost use Rattle.reviver_runner.specs.Lives.{empty_tally};
 
 use crate::LifeRun;
 use event_pipe::ReadEnd;
-use host_run::{has_failed, has_lacked_memory};
+use program_lifecycle::{has_failed, has_lacked_memory};
 use std::collections::VecDeque;
 
-/// What failed in the lives so far: reading or writing in one of them, or memory for a line.
+/// The failures in the lives so far: reading or writing in one of them, or memory for a line.
 #[derive(Clone, Copy)]
 pub(crate) struct LivesTally {
     pub engine_read: bool,
@@ -43,11 +43,11 @@ impl LivesTally {
     }
 }
 
-/// The words that start an engine, the run of the first life, before it goes on, the runs of the
+/// The arguments that start an engine, the run of the first life, before it goes on, the runs of the
 /// lives that have ended, and what failed in these.
 #[derive(Drop)]
 pub(crate) struct AllRuns<S, K> {
-    pub words: Vec<String>,
+    pub arguments: Vec<String>,
     pub first: Option<LifeRun<S, K>>,
     pub ended: VecDeque<LifeRun<S, K>>,
     pub tally: LivesTally,

@@ -3,21 +3,21 @@
 ghost use Rattle.std.specs.Prelude.{◌≡◌, ◌≤◌, is_some, true, false};
 ghost use Rattle.line_io.specs.Event.{event_of};
 ghost use Rattle.line_io.specs.Source.{Received};
-ghost use Rattle.script_lines.specs.StepText.{step_marks};
+ghost use Rattle.script_lines.specs.StepText.{marks_of_written};
 ghost use Rattle.engine_revival.specs.Marks.{HaveRoom};
-ghost use Rattle.engine_revival.specs.Script.{may_happen, state_after, event_text};
+ghost use Rattle.engine_revival.specs.Script.{may_happen, revival_state_after, revival_event_text};
 ghost use Rattle.engine_revival.specs.Steps.{is_alive};
 ghost use Rattle.engine_revival.specs.declared.script.TheConstants.{EVENT_ROOM};
 ghost use Rattle.event_pipe.specs.Message.{is_good};
-ghost use Rattle.host_run.specs.Streams.{sinks, log_state};
-ghost use Rattle.reviver_runner.specs.Looped.{IsReadyLoop, KeepsLoop, KeepsMarks, Offers, Shown, loop_reports, Going, GoesOrEnds, LoopedLife};
+ghost use Rattle.program_lifecycle.specs.Streams.{sinks, log_state};
+ghost use Rattle.reviver_runner.specs.Looped.{IsReadyLoop, KeepsLoop, KeepsMarks, Offers, LoopState, loop_reports, Going, GoesOrEnds, LoopedLife};
 ghost use Rattle.reviver_runner.specs.Played.{event_up, event_child, is_heard};
 
-use child_engine::LetGo;
+use child_engine::ClosableSink;
 use engine_revival::{Revival, RevivalStep, put_marks};
 use event_pipe::PipeTake;
-use host_run::{LoopEnd, offer, offer_log};
 use line_io::{Event, Out, Sink};
+use program_lifecycle::{LoopEnd, offer, offer_log};
 use std::sync::Wait;
 use std::thread;
 
@@ -28,7 +28,7 @@ pub struct MarkedLog<L> {
     pub text: Out,
 }
 
-/// What hears the lives of an engine: the revival, the end of the channel that it hears by, the log,
+/// The hearer of the lives of an engine: the revival, the end of the channel that it hears by, the log,
 /// and which sinks have failed.
 #[derive(Drop)]
 pub struct RevivalLoop<L> {
@@ -52,7 +52,7 @@ pub fn offer_all<K: Sink, O: Sink, L: Sink>(
     requires marks { HaveRoom both.up.now both.child.now }
     requires room { EVENT_ROOM ≤ marks.old.text.room }
     ensures offers { Offers both.entry.up.now both.entry.child.now
-        (step_marks (event_of event.now) both.entry.up.now both.entry.child.now)
+        (marks_of_written (event_of event.now) both.entry.up.now both.entry.child.now)
         (sinks (O.state output.old) (K.state child.old) (log_state L.state marks.old.log))
         (sinks (O.state output.new) (K.state child.new) (log_state L.state marks.new.log))
         failed result }
@@ -81,10 +81,10 @@ pub fn hear<K: Sink, O: Sink, L: Sink>(
     requires heard { is_heard (event_of event.now) ≡ true }
     requires good { is_good (event_of event.now) ≡ true }
     requires room { EVENT_ROOM ≤ marks.old.text.room }
-    ensures state { revival.new.state ≡ state_after revival.old.state (event_of event.now) }
+    ensures state { revival.new.state ≡ revival_state_after revival.old.state (event_of event.now) }
     ensures offers { Offers (event_up revival.old.state (event_of event.now))
         (event_child revival.old.state (event_of event.now))
-        (event_text revival.old.state (event_of event.now))
+        (revival_event_text revival.old.state (event_of event.now))
         (sinks (O.state output.old) (K.state child.old) (log_state L.state marks.old.log))
         (sinks (O.state output.new) (K.state child.new) (log_state L.state marks.new.log))
         failed result }
@@ -107,15 +107,15 @@ pub fn hear<K: Sink, O: Sink, L: Sink>(
     }
 }
 
-// Once `quit` was accepted nothing more is written to the life: its input is let go, so that it can
+// Once `quit` was accepted nothing more is written to the life: its input is closed, so that it can
 // end also if it got no order.
-fn let_go_at_quit<K: LetGo>(revival: &Revival, child: &mut K)
+fn close_sink_at_quit<K: ClosableSink>(revival: &Revival, child: &mut K)
     ensures shown { K.state child.new ≡ K.state child.old }
-    ensures let_go { revival.now.state.quit ≡ true → K.is_let_go child.new }
+    ensures close_sink { revival.now.state.quit ≡ true → K.is_sink_closed child.new }
     ensures kept { revival.now.state.quit ≡ false → child.new ≡ child.old }
 {
     if revival.has_quit() {
-        child.let_go();
+        child.close_sink();
     }
 }
 
@@ -137,7 +137,7 @@ fn is_heard(event: &Event) -> bool
 }
 
 // Takes an event and has the revival hear it. It reports whether the life goes on.
-fn hear_next<K: LetGo, O: Sink, L: Sink, R: Wait>(
+fn hear_next<K: ClosableSink, O: Sink, L: Sink, R: Wait>(
     rt: &R,
     looping: &mut RevivalLoop<L>,
     child: &mut K,
@@ -147,9 +147,9 @@ fn hear_next<K: LetGo, O: Sink, L: Sink, R: Wait>(
     requires ready { IsReadyLoop looping.old }
     ensures keeps { KeepsLoop looping.old looping.new }
     ensures alive { is_alive looping.new.revival.state.life ≡ true }
-    ensures let_go { (looping.old.revival.state.quit ≡ true → K.is_let_go child.old)
-        → looping.new.revival.state.quit ≡ true → K.is_let_go child.new }
-    ensures next { (first : Shown) (sink : Received)
+    ensures close_sink { (looping.old.revival.state.quit ≡ true → K.is_sink_closed child.old)
+        → looping.new.revival.state.quit ≡ true → K.is_sink_closed child.new }
+    ensures next { (first : LoopState) (sink : Received)
         → Going first (loop_reports O.state L.state looping.old output.old) sink (K.state child.old)
         → GoesOrEnds result first (loop_reports O.state L.state looping.new output.new)
         sink (K.state child.new) }
@@ -164,7 +164,7 @@ fn hear_next<K: LetGo, O: Sink, L: Sink, R: Wait>(
     let event = sent.event();
     if is_heard(&event) {
         *failed = hear(revival, &event, child, output, marks, *failed);
-        let_go_at_quit(revival, child);
+        close_sink_at_quit(revival, child);
         return true;
     }
     match event {
@@ -180,7 +180,7 @@ fn hear_next<K: LetGo, O: Sink, L: Sink, R: Wait>(
 /// Has the revival hear each event that comes, until a Long of the engine is taken, which is the
 /// mark of the life's end. The interface's long lines are ignored. If the engine's end is
 /// taken, which the reader of a life never sends, it does not return.
-pub(crate) fn life_loop<K: LetGo, O: Sink, L: Sink, R: Wait>(
+pub(crate) fn life_loop<K: ClosableSink, O: Sink, L: Sink, R: Wait>(
     rt: &R,
     looping: &mut RevivalLoop<L>,
     child: &mut K,
@@ -190,8 +190,8 @@ pub(crate) fn life_loop<K: LetGo, O: Sink, L: Sink, R: Wait>(
     requires ready { IsReadyLoop looping.old }
     ensures keeps { KeepsLoop looping.old looping.new }
     ensures alive { is_alive looping.new.revival.state.life ≡ true }
-    ensures let_go { looping.old.revival.state.quit ≡ false
-        → looping.new.revival.state.quit ≡ true → K.is_let_go child.new }
+    ensures close_sink { looping.old.revival.state.quit ≡ false
+        → looping.new.revival.state.quit ≡ true → K.is_sink_closed child.new }
     ensures looped { LoopedLife (loop_reports O.state L.state looping.old output.old)
         (loop_reports O.state L.state looping.new output.new) (K.state child.old)
         (K.state child.new) }

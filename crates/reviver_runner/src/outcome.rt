@@ -3,13 +3,13 @@ ghost use Rattle.std.specs.Prelude.{◌≡◌, ◌≤◌, [], length, map, strin
 ghost use Rattle.std.specs.VecDeque.{deque_len, deque_capacity};
 ghost use Rattle.engine_revival.specs.declared.words.LifeState.TheVariants as life;
 ghost use Rattle.event_pipe.specs.Arrivals.{Arrived};
-ghost use Rattle.event_pipe.specs.Ends.{IsFreshSender, KeepsSender, KeepsTaker, events_sent};
+ghost use Rattle.event_pipe.specs.Ends.{IsFreshSender, KeepsSender, KeepsReceiver, events_sent};
 ghost use Rattle.event_pipe.specs.declared.message.Peer.TheVariants as peers;
 ghost use Rattle.reviver_runner.specs.Looped.{loop_reports};
-ghost use Rattle.host_run.specs.Streams.{log_state};
+ghost use Rattle.program_lifecycle.specs.Streams.{log_state};
 ghost use Rattle.reviver_runner.specs.Lives.{IsBegun, host_shown};
-ghost use Rattle.reviver_runner.specs.Parts.{IsMade, KeepsEnds};
-ghost use Rattle.reviver_runner.specs.Ran.{MayGo, MayGoOn, MayRun, HasRun, RanLives};
+ghost use Rattle.reviver_runner.specs.Parts.{IsMade, ReviverKeepsEnds};
+ghost use Rattle.reviver_runner.specs.Ran.{MayGo, ReviverMayGoOn, MayRun, HasRun, RanLives};
 
 use crate::drain::drain;
 use crate::lives::{AllRuns, LivesTally};
@@ -17,16 +17,16 @@ use crate::parts::{MadeParts, ReviverParts, UpperReader};
 use crate::starting::ReadyLives;
 use crate::turns::{NextLife, life_turn};
 use crate::{LifeRun, MarkedLog, RevivalLoop};
-use child_engine::{Host, HostFault, LetGo};
+use child_engine::{ClosableSink, Host, HostFault};
 use event_pipe::{Pipe, ReadEnd, read_pipe};
-use host_run::{Interface, LoopEnd};
 use line_io::{Sink, Source};
+use program_lifecycle::{Interface, LoopEnd};
 use std::alloc::Global;
 use std::collections::VecDeque;
 use std::sync::Wait;
 use std::thread::{Threads, join_mut};
 
-/// What the interface's reader and the activity of the lives came to.
+/// The results of the interface's reader and of the activity of the lives.
 #[derive(Clone, Copy)]
 pub(crate) struct LivesEnd {
     pub upper: ReadEnd,
@@ -55,19 +55,19 @@ fn run_lives<O: Sink + Send, H: Host, R: Threads + Wait + Sync>(
 ) -> Option<HostFault>
 where
     H::EngineSource: Drop,
-    H::EngineSink: LetGo + Drop,
+    H::EngineSink: ClosableSink + Drop,
     H::EngineProcess: Drop,
-    requires runs { MayGoOn (H.books host.old) runs.old }
+    requires runs { ReviverMayGoOn (H.ledger host.old) runs.old }
     requires parts { MayGo parts.old.looping.revival.state.lives parts.old }
-    requires begun { IsBegun (H.books host.old).says (H.books host.old).tells
+    requires begun { IsBegun (H.ledger host.old).says (H.ledger host.old).sinks_report
         (H.EngineSource.state first.source) (H.EngineSink.state first.sink) false [] }
-    ensures keeps { KeepsEnds parts.old parts.new }
+    ensures keeps { ReviverKeepsEnds parts.old parts.new }
     ensures processes { deque_len parts.new.processes ≡ deque_len runs.new.ended }
     ensures over { parts.new.looping.revival.state.life ≡ life.Over }
     ensures ran { RanLives H.EngineSource.state H.EngineSink.state
-        (map string_bytes runs.old.words.items)
-        (host_shown H.books H.faults H.asked host.old)
-        (host_shown H.books H.faults H.asked host.new)
+        (map string_bytes runs.old.arguments.items)
+        (host_shown H.ledger H.faults H.asked host.old)
+        (host_shown H.ledger H.faults H.asked host.new)
         (loop_reports O.state H.Log.state parts.old.looping output.old)
         (loop_reports O.state H.Log.state parts.new.looping output.new)
         (events_sent parts.new.to) runs.new.ended.items runs.new.tally result }
@@ -93,19 +93,19 @@ fn run_all<O: Sink + Send, H: Host, R: Threads + Wait + Sync>(
 ) -> Option<HostFault>
 where
     H::EngineSource: Drop,
-    H::EngineSink: LetGo + Drop,
+    H::EngineSink: ClosableSink + Drop,
     H::EngineProcess: Drop,
-    requires runs { MayRun H.EngineSource.state H.EngineSink.state (H.books host.old) runs.old }
+    requires runs { MayRun H.EngineSource.state H.EngineSink.state (H.ledger host.old) runs.old }
     requires parts { MayGo parts.old.looping.revival.state.lives parts.old }
     ensures sender { KeepsSender parts.old.to parts.new.to }
-    ensures taker { KeepsTaker parts.old.looping.from parts.new.looping.from }
+    ensures receiving_end { KeepsReceiver parts.old.looping.from parts.new.looping.from }
     ensures kept { is_some parts.new.looping.marks.log ≡ is_some parts.old.looping.marks.log }
     ensures processes { deque_len parts.new.processes ≡ deque_len runs.new.ended }
     ensures quit { parts.new.looping.revival.state.quit ≡ true }
     ensures ran { RanLives H.EngineSource.state H.EngineSink.state
-        (map string_bytes runs.old.words.items)
-        (host_shown H.books H.faults H.asked host.old)
-        (host_shown H.books H.faults H.asked host.new)
+        (map string_bytes runs.old.arguments.items)
+        (host_shown H.ledger H.faults H.asked host.old)
+        (host_shown H.ledger H.faults H.asked host.new)
         (loop_reports O.state H.Log.state parts.old.looping output.old)
         (loop_reports O.state H.Log.state parts.new.looping output.new)
         (events_sent parts.new.to) runs.new.ended.items runs.new.tally result }
@@ -129,24 +129,24 @@ fn run_beside<I: Source + Send, O: Sink + Send, H: Host + Send, R: Threads + Wai
 ) -> (ReadEnd, Option<HostFault>)
 where
     H::EngineSource: Drop,
-    H::EngineSink: LetGo + Drop,
+    H::EngineSink: ClosableSink + Drop,
     H::EngineProcess: Drop + Send,
     requires iface { IsFreshSender reader.old.iface peers.Iface }
-    requires runs { MayRun H.EngineSource.state H.EngineSink.state (H.books host.old) runs.old }
+    requires runs { MayRun H.EngineSource.state H.EngineSink.state (H.ledger host.old) runs.old }
     requires parts { MayGo parts.old.looping.revival.state.lives parts.old }
     ensures iface { KeepsSender reader.old.iface reader.new.iface }
     ensures arrived { Arrived peers.Iface
         (I.state interface.old.input) (I.state interface.new.input)
         (events_sent reader.new.iface) result.0 }
     ensures sender { KeepsSender parts.old.to parts.new.to }
-    ensures taker { KeepsTaker parts.old.looping.from parts.new.looping.from }
+    ensures receiving_end { KeepsReceiver parts.old.looping.from parts.new.looping.from }
     ensures kept { is_some parts.new.looping.marks.log ≡ is_some parts.old.looping.marks.log }
     ensures processes { deque_len parts.new.processes ≡ deque_len runs.new.ended }
     ensures quit { parts.new.looping.revival.state.quit ≡ true }
     ensures ran { RanLives H.EngineSource.state H.EngineSink.state
-        (map string_bytes runs.old.words.items)
-        (host_shown H.books H.faults H.asked host.old)
-        (host_shown H.books H.faults H.asked host.new)
+        (map string_bytes runs.old.arguments.items)
+        (host_shown H.ledger H.faults H.asked host.old)
+        (host_shown H.ledger H.faults H.asked host.new)
         (loop_reports O.state H.Log.state parts.old.looping interface.old.output)
         (loop_reports O.state H.Log.state parts.new.looping interface.new.output)
         (events_sent parts.new.to) runs.new.ended.items runs.new.tally result.1 }
@@ -158,7 +158,7 @@ where
             requires { IsFreshSender reader.now.iface peers.Iface }
         { read_pipe(rt, reader.alloc, input, &mut reader.iface) },
         &mut ||
-            requires { MayRun H.EngineSource.state H.EngineSink.state (H.books host.now) runs.now
+            requires { MayRun H.EngineSource.state H.EngineSink.state (H.ledger host.now) runs.now
                 × MayGo parts.now.looping.revival.state.lives parts.now }
         { run_all(rt, host, runs, parts, output) },
     )
@@ -181,23 +181,23 @@ pub(crate) fn run_opened<
 ) -> LivesOutcome<H::EngineSource, H::EngineSink, H::EngineProcess, H::Log>
 where
     H::EngineSource: Drop,
-    H::EngineSink: LetGo + Drop,
+    H::EngineSink: ClosableSink + Drop,
     H::EngineProcess: Drop + Send,
     requires made { IsMade ready.made.revival.state.lives ready.made }
     requires some { 1 ≤ ready.made.revival.state.lives }
     requires few { ready.made.revival.state.lives ≤ 9 }
-    requires may { MayRun H.EngineSource.state H.EngineSink.state (H.books host.old) ready.runs }
+    requires may { MayRun H.EngineSource.state H.EngineSink.state (H.ledger host.old) ready.runs }
     requires process { deque_len ready.processes ≡ 1 }
     requires room { 10 ≤ deque_capacity ready.processes }
     ensures processes { length result.processes.items ≡ length result.ended.items }
     ensures kept { is_some result.log ≡ is_some log }
     ensures ran { HasRun H.EngineSource.state H.EngineSink.state ready.made.revival.state.lives
-        (map string_bytes ready.runs.words.items)
+        (map string_bytes ready.runs.arguments.items)
         (I.state interface.old.input) (I.state interface.new.input)
         (O.state interface.old.output) (O.state interface.new.output)
         (log_state H.Log.state log) (log_state H.Log.state result.log)
-        (host_shown H.books H.faults H.asked host.old)
-        (host_shown H.books H.faults H.asked host.new)
+        (host_shown H.ledger H.faults H.asked host.old)
+        (host_shown H.ledger H.faults H.asked host.new)
         result.ended.items result.end }
 {
     let ReadyLives {
@@ -244,7 +244,7 @@ where
     let MarkedLog { log, text: _text } = marks;
     Pipe::finish(reader.iface, to, from);
     let AllRuns {
-        words: _,
+        arguments: _,
         first: _,
         ended,
         tally,

@@ -1,4 +1,4 @@
-// What a run of the lives needs beside its host.
+// The parts that a run of the lives needs beside its host.
 ghost use Rattle.std.specs.Prelude.{IfOk};
 ghost use Rattle.reviver_runner.specs.Parts.{IsMade};
 
@@ -19,7 +19,7 @@ pub(crate) struct MadeParts {
     pub from: PipeTake,
 }
 
-/// What the lives work on: where their readers get memory from and send to, what hears them, and
+/// The means of the lives: where their readers get memory from and send to, what hears them, and
 /// what they are waited for by.
 #[derive(Drop)]
 pub(crate) struct ReviverParts<L, P> {
@@ -29,7 +29,7 @@ pub(crate) struct ReviverParts<L, P> {
     pub processes: VecDeque<P>,
 }
 
-/// What the interface's reader needs: where it gets memory from, and its end of the channel.
+/// The parts that the interface's reader needs: where it gets memory from, and its end of the channel.
 #[derive(Drop)]
 pub(crate) struct UpperReader {
     pub alloc: Global,

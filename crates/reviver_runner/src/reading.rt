@@ -4,14 +4,14 @@ ghost use Rattle.event_pipe.specs.Rule.{has_last_event};
 ghost use Rattle.event_pipe.specs.Ends.{IsSender, KeepsSender, events_sent};
 ghost use Rattle.event_pipe.specs.Arrivals.{line_limit};
 ghost use Rattle.event_pipe.specs.declared.message.Peer.TheVariants as peers;
-ghost use Rattle.reviver_runner.specs.Reading.{Goes, ReadLines, ReadLife};
+ghost use Rattle.reviver_runner.specs.Reading.{ReadingTurnDone, ReadLines, ReadLife};
 
 use event_pipe::{Bytes, MessageBody, PipeSend, ReadEnd};
 use line_io::{Item, Lines, PEER_LINE, ReadFault, Source, lines_of_all_calls};
 use std::alloc::Global;
 use std::sync::Wait;
 
-/// What one turn came to.
+/// The result of one turn.
 #[derive(Clone, Copy)]
 pub enum ReadingTurn {
     /// There may be more lines.
@@ -37,7 +37,7 @@ fn read_turn<S: Source, R: Wait>(
     requires going { has_last_event (events_sent to.old) ≡ false }
     requires limit { lines.old.limit ≡ line_limit }
     ensures keeps { KeepsSender to.old to.new }
-    ensures goes { Goes lines.old lines.new (S.state source.old) (S.state source.new)
+    ensures goes { ReadingTurnDone lines.old lines.new (S.state source.old) (S.state source.new)
         (events_sent to.old) (events_sent to.new) result }
 {
     match lines.next(source) {

@@ -1,22 +1,22 @@
 // One run of all lives over a host.
 ghost use Rattle.std.specs.Prelude.{◌≡◌, ◌≤◌, ◌<◌, length, map, string_bytes, true};
 ghost use Rattle.std.specs.VecDeque.{deque_len, deque_capacity};
-ghost use Rattle.child_engine.specs.Hosts.{IsUnused, IsStarted};
-ghost use Rattle.host_run.specs.Asked.{AsksFor, AsksMore};
-ghost use Rattle.host_run.specs.Outside.{outside_of};
+ghost use Rattle.child_engine.specs.Hosts.{HostIsUnused, IsStarted};
+ghost use Rattle.program_lifecycle.specs.Asked.{AsksFor, AsksMore};
+ghost use Rattle.program_lifecycle.specs.Outside.{outside_of};
 ghost use Rattle.reviver_runner.specs.Parts.{IsMade};
-ghost use Rattle.reviver_runner.specs.Ran.{MayRun, Leaves};
+ghost use Rattle.reviver_runner.specs.Ran.{MayRun, ReviverLeaves};
 
 use crate::closing::close_everything;
 use crate::outcome::{LivesOutcome, run_opened};
 use crate::starting::{ReadyLives, start};
-use child_engine::{Host, LetGo};
-use host_run::{
+use child_engine::{ClosableSink, Host};
+use line_io::{Sink, Source};
+use program_command_line::EngineRequest;
+use program_lifecycle::{
     Failures, Interface, Opened, either, has_failed, has_lacked_memory, is_open_failure,
     is_open_memory, open_log,
 };
-use line_io::{Sink, Source};
-use program_edges::EngineRequest;
 use std::alloc::Global;
 use std::sync::Wait;
 use std::thread::Threads;
@@ -32,21 +32,21 @@ fn run_started<I: Source + Send, O: Sink + Send, H: Host + Send, R: Threads + Wa
 ) -> Failures
 where
     H::EngineSource: Drop,
-    H::EngineSink: LetGo + Drop,
+    H::EngineSink: ClosableSink + Drop,
     H::EngineProcess: Drop + Send,
     requires made { IsMade ready.made.revival.state.lives ready.made }
     requires some { 1 ≤ ready.made.revival.state.lives }
     requires few { ready.made.revival.state.lives ≤ 9 }
-    requires may { MayRun H.EngineSource.state H.EngineSink.state (H.books host.old) ready.runs }
+    requires may { MayRun H.EngineSource.state H.EngineSink.state (H.ledger host.old) ready.runs }
     requires process { deque_len ready.processes ≡ 1 }
     requires room { 10 ≤ deque_capacity ready.processes }
-    requires books { IsStarted (H.books host.old) }
-    ensures leaves { Leaves ready.made.revival.state.lives
-        (outside_of I.state O.state H.faults H.books interface.old host.old)
-        (outside_of I.state O.state H.faults H.books interface.new host.new)
+    requires ledger { IsStarted (H.ledger host.old) }
+    ensures leaves { ReviverLeaves ready.made.revival.state.lives
+        (outside_of I.state O.state H.faults H.ledger interface.old host.old)
+        (outside_of I.state O.state H.faults H.ledger interface.new host.new)
         result }
-    ensures asked { AsksMore (map string_bytes ready.runs.words.items) log_name.now
-        (H.asked host.old) (H.asked host.new) (H.books host.old) (H.books host.new) result }
+    ensures asked { AsksMore (map string_bytes ready.runs.arguments.items) log_name.now
+        (H.asked host.old) (H.asked host.new) (H.ledger host.old) (H.ledger host.new) result }
 {
     let Opened { log, fault } = open_log(host, alloc, log_name);
     let LivesOutcome {
@@ -86,18 +86,18 @@ pub fn revive_run<I: Source + Send, O: Sink + Send, H: Host + Send, R: Threads +
 ) -> Failures
 where
     H::EngineSource: Drop,
-    H::EngineSink: LetGo + Drop,
+    H::EngineSink: ClosableSink + Drop,
     H::EngineProcess: Drop + Send,
-    requires words { 0 < length request.engine.items }
+    requires arguments { 0 < length request.engine.items }
     requires some { 1 ≤ lives }
     requires few { lives ≤ 9 }
-    requires unused { IsUnused (H.books host.old) }
-    ensures leaves { Leaves lives
-        (outside_of I.state O.state H.faults H.books interface.old host.old)
-        (outside_of I.state O.state H.faults H.books interface.new host.new)
+    requires unused { HostIsUnused (H.ledger host.old) }
+    ensures leaves { ReviverLeaves lives
+        (outside_of I.state O.state H.faults H.ledger interface.old host.old)
+        (outside_of I.state O.state H.faults H.ledger interface.new host.new)
         result }
     ensures asked { AsksFor (map string_bytes request.engine.items) (string_bytes request.log_name)
-        (H.asked host.old) (H.asked host.new) (H.books host.new) result }
+        (H.asked host.old) (H.asked host.new) (H.ledger host.new) result }
 {
     let EngineRequest { log_name, engine } = request;
     match start(rt, alloc, lives, engine, host) {

@@ -2,23 +2,23 @@
 ghost use Rattle.std.specs.Prelude.{◌≡◌, ◌≤◌, ◌<◌, length, map, string_bytes, IfOk, IfErr, OnOk, OnErr};
 ghost use Rattle.std.specs.VecDeque.{deque_len, deque_capacity};
 ghost use Rattle.child_engine.specs.Asked.{and_engines};
-ghost use Rattle.child_engine.specs.Hosts.{IsUnused, with_run};
-ghost use Rattle.host_run.specs.Asked.{engines_asked_by};
-ghost use Rattle.host_run.specs.Early.{AreEarly};
+ghost use Rattle.child_engine.specs.Hosts.{HostIsUnused, with_run};
+ghost use Rattle.program_lifecycle.specs.Asked.{engines_asked_by};
+ghost use Rattle.program_lifecycle.specs.Early.{FailuresAreEarly};
 ghost use Rattle.reviver_runner.specs.Parts.{IsMade};
 ghost use Rattle.reviver_runner.specs.Ran.{MayRun};
 
 use crate::LifeRun;
 use crate::lives::{AllRuns, LivesTally};
 use crate::parts::{MadeParts, make_parts};
-use child_engine::{Host, LetGo, Started};
-use host_run::{Failures, only_memory, start_engine};
+use child_engine::{ClosableSink, Host, Started};
 use line_io::NoMemory;
+use program_lifecycle::{Failures, only_memory, start_engine};
 use std::alloc::Global;
 use std::collections::VecDeque;
 use std::thread::Threads;
 
-// What a run needs beside its host, and the engine that was started first.
+// The parts that a run needs beside its host, and the engine that was started first.
 pub(crate) struct ReadyLives<S, K, P> {
     pub made: MadeParts,
     pub runs: AllRuns<S, K>,
@@ -58,27 +58,27 @@ pub(crate) fn start<H: Host, R: Threads>(
     rt: &R,
     alloc: Global,
     lives: u32,
-    words: Vec<String>,
+    arguments: Vec<String>,
     host: &mut H,
 ) -> Result<ReadyLives<H::EngineSource, H::EngineSink, H::EngineProcess>, Failures>
 where
     H::EngineSource: Drop,
-    H::EngineSink: LetGo + Drop,
+    H::EngineSink: ClosableSink + Drop,
     H::EngineProcess: Drop,
-    requires words { 0 < length words.items }
-    requires unused { IsUnused (H.books host.old) }
+    requires arguments { 0 < length arguments.items }
+    requires unused { HostIsUnused (H.ledger host.old) }
     ensures made { IfOk result (λ ready. IsMade lives ready.made) }
     ensures may { IfOk result (λ ready. MayRun H.EngineSource.state H.EngineSink.state
-        (H.books host.new) ready.runs) }
-    ensures words { IfOk result (λ ready. ready.runs.words ≡ words) }
+        (H.ledger host.new) ready.runs) }
+    ensures arguments { IfOk result (λ ready. ready.runs.arguments ≡ arguments) }
     ensures process { IfOk result (λ ready. deque_len ready.processes ≡ 1) }
     ensures room { IfOk result (λ ready. 10 ≤ deque_capacity ready.processes) }
-    ensures books { OnOk result (H.books host.new ≡ with_run (H.books host.old)) }
+    ensures ledger { OnOk result (H.ledger host.new ≡ with_run (H.ledger host.old)) }
     ensures faults { OnOk result (H.faults host.new ≡ H.faults host.old) }
-    ensures unstarted { OnErr result (H.books host.new ≡ H.books host.old) }
+    ensures unstarted { OnErr result (H.ledger host.new ≡ H.ledger host.old) }
     ensures asked { H.asked host.new ≡ and_engines (engines_asked_by result)
-        (map string_bytes words.items) (H.asked host.old) }
-    ensures early { IfErr result (AreEarly (H.faults host.old) (H.faults host.new)) }
+        (map string_bytes arguments.items) (H.asked host.old) }
+    ensures early { IfErr result (FailuresAreEarly (H.faults host.old) (H.faults host.new)) }
 {
     let Ok(room) = make_room(alloc, lives) else {
         return Err(only_memory());
@@ -88,7 +88,7 @@ where
         ended,
         mut processes,
     } = room;
-    match start_engine(rt, alloc, words.as_slice(), host) {
+    match start_engine(rt, alloc, arguments.as_slice(), host) {
         Ok(run) => {
             let Started {
                 source,
@@ -100,7 +100,7 @@ where
             Ok(ReadyLives {
                 made,
                 runs: AllRuns {
-                    words,
+                    arguments,
                     first,
                     ended,
                     tally: LivesTally::none(),

@@ -3,30 +3,30 @@ ghost use Rattle.std.specs.Prelude.{◌≡◌, ◌≤◌, ◌<◌, ◌+◌, leng
 ghost use Rattle.std.specs.VecDeque.{deque_len, deque_capacity};
 ghost use Rattle.line_io.specs.Event.{event_of, EngineLong};
 ghost use Rattle.engine_revival.specs.Calls as calls;
-ghost use Rattle.engine_revival.specs.Calls.{may, after, up_of, child_of};
+ghost use Rattle.engine_revival.specs.Calls.{may_call, revival_after, up_of, child_of};
 ghost use Rattle.engine_revival.specs.Steps.{is_alive};
 ghost use Rattle.engine_revival.specs.declared.script.TheConstants.{EVENT_ROOM};
 ghost use Rattle.event_pipe.specs.Ends.{events_sent};
 ghost use Rattle.event_pipe.specs.Message.{is_good};
-ghost use Rattle.host_run.specs.Asked.{StartsEngines};
-ghost use Rattle.script_lines.specs.StepText.{step_marks};
-ghost use Rattle.host_run.specs.Streams.{sinks, log_state, Offered};
+ghost use Rattle.program_lifecycle.specs.Asked.{StartsEngines};
+ghost use Rattle.script_lines.specs.StepText.{marks_of_written};
+ghost use Rattle.program_lifecycle.specs.Streams.{sinks, log_state, Offered};
 ghost use Rattle.reviver_runner.specs.Looped.{KeepsMarks, Offers, loop_reports};
-ghost use Rattle.reviver_runner.specs.Lives.{Goes, Ended, LivesOn, Continues, Hands, host_shown, is_failed_start, lives_in};
-ghost use Rattle.reviver_runner.specs.Parts.{AreReady, KeepsEnds};
+ghost use Rattle.reviver_runner.specs.Lives.{LifeGoesOn, Ended, LivesOn, Continues, Hands, host_shown, is_failed_start, lives_in};
+ghost use Rattle.reviver_runner.specs.Parts.{ReviverPartsAreReady, ReviverKeepsEnds};
 
 use crate::lives::AllRuns;
 use crate::parts::ReviverParts;
 use crate::{LifeRun, RevivalLoop, offer_all, one_life};
-use child_engine::{Host, HostFault, LetGo, Started};
-use host_run::LoopEnd;
+use child_engine::{ClosableSink, Host, HostFault, Started};
 use line_io::{Event, NullSink, Sink};
+use program_lifecycle::LoopEnd;
 use std::alloc::Global;
 use std::collections::VecDeque;
 use std::sync::Wait;
 use std::thread::Threads;
 
-/// What follows a life.
+/// The sequel to a life.
 pub(crate) enum NextLife<S, K> {
     Life(LifeRun<S, K>),
     /// No other life may begin.
@@ -41,14 +41,15 @@ fn offer_begin<K: Sink, O: Sink, L: Sink>(
     child: &mut K,
     output: &mut O,
 )
-    requires may { may looping.old.revival.state calls.Begin ≡ true }
+    requires may { may_call looping.old.revival.state calls.Begin ≡ true }
     requires room { EVENT_ROOM ≤ looping.old.marks.text.room }
     ensures from { looping.new.from ≡ looping.old.from }
     ensures marks { KeepsMarks looping.old.marks looping.new.marks }
-    ensures state { looping.new.revival.state ≡ after looping.old.revival.state calls.Begin }
+    ensures state { looping.new.revival.state ≡ revival_after looping.old.revival.state
+        calls.Begin }
     ensures offers { Offers (up_of looping.old.revival.state calls.Begin)
         (child_of looping.old.revival.state calls.Begin)
-        (step_marks EngineLong (up_of looping.old.revival.state calls.Begin)
+        (marks_of_written EngineLong (up_of looping.old.revival.state calls.Begin)
         (child_of looping.old.revival.state calls.Begin))
         (sinks (O.state output.old) (K.state child.old) (log_state L.state looping.old.marks.log))
         (sinks (O.state output.new) (K.state child.new) (log_state L.state looping.new.marks.log))
@@ -70,17 +71,17 @@ fn offer_begin<K: Sink, O: Sink, L: Sink>(
 
 // Ends the lives, and offers what follows of it. The mark is that of the last life's end.
 fn offer_over<O: Sink, L: Sink>(looping: &mut RevivalLoop<L>, mark: &Event, output: &mut O)
-    requires may { may looping.old.revival.state calls.Over ≡ true }
+    requires may { may_call looping.old.revival.state calls.Over ≡ true }
     requires good { is_good (event_of mark.now) ≡ true }
     requires room { EVENT_ROOM ≤ looping.old.marks.text.room }
     ensures from { looping.new.from ≡ looping.old.from }
     ensures marks { KeepsMarks looping.old.marks looping.new.marks }
-    ensures state { looping.new.revival.state ≡ after looping.old.revival.state calls.Over }
+    ensures state { looping.new.revival.state ≡ revival_after looping.old.revival.state calls.Over }
     ensures output { Offered looping.old.failed.output looping.new.failed.output
         (O.state output.old) (O.state output.new) (up_of looping.old.revival.state calls.Over) }
     ensures log { Offered looping.old.failed.log looping.new.failed.log
         (log_state L.state looping.old.marks.log) (log_state L.state looping.new.marks.log)
-        (step_marks (event_of mark.now) (up_of looping.old.revival.state calls.Over)
+        (marks_of_written (event_of mark.now) (up_of looping.old.revival.state calls.Over)
         (child_of looping.old.revival.state calls.Over)) }
 {
     let RevivalLoop {
@@ -94,19 +95,19 @@ fn offer_over<O: Sink, L: Sink>(looping: &mut RevivalLoop<L>, mark: &Event, outp
     *failed = offer_all(mark, both, &mut nobody, output, marks, *failed);
 }
 
-// What follows of a life's end: another life, or none.
-#[tactic(auto, using(host_run::proofs::Asked::starts_none, host_run::proofs::Asked::starts_one, host_run::proofs::Asked::starts_failed))]
+// The sequel to a life's end: another life, or none.
+#[tactic(auto, using(program_lifecycle::proofs::Asked::starts_none, program_lifecycle::proofs::Asked::starts_one, program_lifecycle::proofs::Asked::starts_failed))]
 fn after_life<O: Sink, H: Host>(
     alloc: Global,
-    words: &[String],
+    arguments: &[String],
     host: &mut H,
     processes: &mut VecDeque<H::EngineProcess>,
     looping: &mut RevivalLoop<H::Log>,
     output: &mut O,
 ) -> NextLife<H::EngineSource, H::EngineSink>
     requires alive { is_alive looping.old.revival.state.life ≡ true }
-    requires words { 0 < length words.now }
-    requires few { (H.books host.old).runs_out < 10 }
+    requires arguments { 0 < length arguments.now }
+    requires few { (H.ledger host.old).runs_out < 10 }
     requires room { EVENT_ROOM ≤ looping.old.marks.text.room }
     requires space { deque_len processes.old < deque_capacity processes.old }
     ensures space { deque_capacity processes.new ≡ deque_capacity processes.old }
@@ -114,19 +115,20 @@ fn after_life<O: Sink, H: Host>(
     ensures from { looping.new.from ≡ looping.old.from }
     ensures marks { KeepsMarks looping.old.marks looping.new.marks }
     ensures ended { Ended H.EngineSource.state H.EngineSink.state
-        (H.books host.old).says (H.books host.old).tells
+        (H.ledger host.old).says (H.ledger host.old).sinks_report
         (loop_reports O.state H.Log.state looping.old output.old)
         (loop_reports O.state H.Log.state looping.new output.new) result }
-    ensures host { Hands (host_shown H.books H.faults H.asked host.old)
-        (host_shown H.books H.faults H.asked host.new) result }
-    ensures asked { StartsEngines (map string_bytes words.now) (H.asked host.old) (H.asked host.new)
-        (H.books host.old) (H.books host.new) (is_failed_start result) }
+    ensures host { Hands (host_shown H.ledger H.faults H.asked host.old)
+        (host_shown H.ledger H.faults H.asked host.new) result }
+    ensures asked { StartsEngines (map string_bytes arguments.now) (H.asked host.old) (H.asked
+        host.new)
+        (H.ledger host.old) (H.ledger host.new) (is_failed_start result) }
 {
     if !looping.revival.ended() {
         offer_over(looping, &Event::EngineLong, output);
         return NextLife::Over;
     }
-    match host.start(alloc, words) {
+    match host.start(alloc, arguments) {
         Ok(run) => {
             let Started {
                 source,
@@ -155,32 +157,32 @@ pub(crate) fn life_turn<O: Sink + Send, H: Host, R: Threads + Wait + Sync>(
 ) -> NextLife<H::EngineSource, H::EngineSink>
 where
     H::EngineSource: Drop,
-    H::EngineSink: LetGo + Drop,
+    H::EngineSink: ClosableSink + Drop,
     H::EngineProcess: Drop,
-    requires words { 0 < length runs.old.words.items }
-    requires few { (H.books host.old).runs_out < 10 }
+    requires arguments { 0 < length runs.old.arguments.items }
+    requires few { (H.ledger host.old).runs_out < 10 }
     requires space { deque_len runs.old.ended < deque_capacity runs.old.ended }
-    requires ready { AreReady parts.old }
+    requires ready { ReviverPartsAreReady parts.old }
     requires room { deque_len parts.old.processes < deque_capacity parts.old.processes }
-    requires goes { Goes parts.old.looping.revival.state (deque_len runs.old.ended) }
-    ensures keeps { KeepsEnds parts.old parts.new }
+    requires goes { LifeGoesOn parts.old.looping.revival.state (deque_len runs.old.ended) }
+    ensures keeps { ReviverKeepsEnds parts.old parts.new }
     ensures processes { deque_len parts.new.processes
         ≡ deque_len parts.old.processes + lives_in result }
-    ensures words { runs.new.words ≡ runs.old.words }
+    ensures arguments { runs.new.arguments ≡ runs.old.arguments }
     ensures space { deque_capacity runs.new.ended ≡ deque_capacity runs.old.ended }
     ensures lived { LivesOn H.EngineSource.state H.EngineSink.state
-        (H.books host.old).says (H.books host.old).tells
+        (H.ledger host.old).says (H.ledger host.old).sinks_report
         (loop_reports O.state H.Log.state parts.old.looping output.old)
         (loop_reports O.state H.Log.state parts.new.looping output.new)
         (events_sent parts.old.to) (events_sent parts.new.to) runs.old.ended.items
         runs.new.ended.items
         runs.old.tally runs.new.tally run result }
     ensures next { Continues parts.new.looping.revival.state (deque_len runs.new.ended) result }
-    ensures host { Hands (host_shown H.books H.faults H.asked host.old)
-        (host_shown H.books H.faults H.asked host.new) result }
-    ensures asked { StartsEngines (map string_bytes runs.old.words.items)
+    ensures host { Hands (host_shown H.ledger H.faults H.asked host.old)
+        (host_shown H.ledger H.faults H.asked host.new) result }
+    ensures asked { StartsEngines (map string_bytes runs.old.arguments.items)
         (H.asked host.old) (H.asked host.new)
-        (H.books host.old) (H.books host.new) (is_failed_start result) }
+        (H.ledger host.old) (H.ledger host.new) (is_failed_start result) }
 {
     let ReviverParts {
         alloc,
@@ -189,7 +191,7 @@ where
         processes,
     } = parts;
     let AllRuns {
-        words,
+        arguments,
         first: _,
         ended,
         tally,
@@ -198,5 +200,12 @@ where
     let end = one_life(rt, *alloc, looping, to, &mut run, output);
     *tally = tally.with(end, looping.failed.engine);
     ended.push_back_reserved(run);
-    after_life(*alloc, words.as_slice(), host, processes, looping, output)
+    after_life(
+        *alloc,
+        arguments.as_slice(),
+        host,
+        processes,
+        looping,
+        output,
+    )
 }

@@ -1,4 +1,4 @@
-// What the tests expect of the row that is named, each kind of value compared in one place.
+// The expectations of the tests for the row that is named, each kind of value compared in one place.
 ghost use Rattle.std.specs.Prelude.{◌≡◌, true};
 
 use std::process::Abort;

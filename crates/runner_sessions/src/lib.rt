@@ -5,6 +5,8 @@
 #[cfg(test)]
 mod driver;
 #[cfg(test)]
+mod examples;
+#[cfg(test)]
 mod expected;
 #[cfg(test)]
 mod paced_sink;

@@ -1,12 +1,12 @@
 // A sink that waits, and shows what it took.
-use child_engine::LetGo;
+use child_engine::ClosableSink;
 use line_io::{Failed, Sink, Source};
 use paced_host::{DueText, PacedTexts};
 use std::alloc::Global;
 use std::sync::atomic::{AtomicU64, Ordering};
 
 /// A sink that keeps what it took, as far as there is memory. Its k-th call, of writes and of the
-/// letting go, waits for the k-th of its texts, which are to be empty; in front of what came with a
+/// closing, waits for the k-th of its texts, which are to be empty; in front of what came with a
 /// call that waited in vain it keeps a line that says so. It shows to all threads how many calls
 /// are over that brought a piece with this end.
 #[derive(Drop)]
@@ -37,7 +37,7 @@ impl<'a> PacedSink<'a> {
         PacedSink::new(alloc, PacedTexts::new(calls, &[]), calls, end)
     }
 
-    /// What it took.
+    /// The taken bytes.
     pub fn bytes(&self) -> &[u8] {
         self.bytes.as_slice()
     }
@@ -66,12 +66,12 @@ impl<'a> Sink for PacedSink<'a> {
     }
 }
 
-impl<'a> LetGo for PacedSink<'a> {
+impl<'a> ClosableSink for PacedSink<'a> {
     ghost use Rattle.std.specs.Prelude.{⊤};
 
-    ghost is_let_go = { λ _. ⊤ };
+    ghost is_sink_closed = { λ _. ⊤ };
 
-    fn let_go(&mut self) {
+    fn close_sink(&mut self) {
         self.call(b"");
     }
 }

@@ -1,11 +1,11 @@
 // The three programs.
-ghost use Rattle.child_engine.specs.Hosts.{IsUnused};
+ghost use Rattle.child_engine.specs.Hosts.{HostIsUnused};
 
 use crate::streams::words_of;
-use child_engine::{Host, LetGo};
+use child_engine::{ClosableSink, Host};
 use driver_runner::drive_main;
-use host_run::Interface;
 use line_io::{MemSink, Source};
+use program_lifecycle::Interface;
 use reviver_runner::revive_main;
 use std::alloc::Global;
 use std::process::Abort;
@@ -20,25 +20,25 @@ pub enum Program {
     Tap,
 }
 
-fn status_of<I: Source + Send, O: LetGo + Send, H: Host + Send, R: Threads + Wait + Sync>(
+fn status_of<I: Source + Send, O: ClosableSink + Send, H: Host + Send, R: Threads + Wait + Sync>(
     rt: &R,
     alloc: Global,
     program: Program,
-    words: &[Vec<u8>],
+    arguments: &[Vec<u8>],
     interface: &mut Interface<I, O>,
     host: &mut H,
     diag: &mut MemSink,
 ) -> u8
 where
     H::EngineSource: Drop,
-    H::EngineSink: LetGo + Drop,
+    H::EngineSink: ClosableSink + Drop,
     H::EngineProcess: Drop + Send,
-    requires { IsUnused (H.books host.old) }
+    requires { HostIsUnused (H.ledger host.old) }
 {
     let status = match program {
-        Program::Driver => drive_main(rt, alloc, words, interface, host, diag),
-        Program::Reviver => revive_main(rt, alloc, words, interface, host, diag),
-        Program::Tap => tap_main(rt, alloc, words, interface, host, diag),
+        Program::Driver => drive_main(rt, alloc, arguments, interface, host, diag),
+        Program::Reviver => revive_main(rt, alloc, arguments, interface, host, diag),
+        Program::Tap => tap_main(rt, alloc, arguments, interface, host, diag),
     };
     status.code
 }
@@ -46,24 +46,32 @@ where
 /// Runs a program on the words between commas, and gives its status.
 pub fn run_program<
     I: Source + Send,
-    O: LetGo + Send,
+    O: ClosableSink + Send,
     H: Host + Send,
     R: Threads + Wait + Sync + Abort,
 >(
     rt: &R,
     alloc: Global,
     program: Program,
-    words: &str,
+    arguments: &str,
     interface: &mut Interface<I, O>,
     host: &mut H,
     diag: &mut MemSink,
 ) -> u8
 where
     H::EngineSource: Drop,
-    H::EngineSink: LetGo + Drop,
+    H::EngineSink: ClosableSink + Drop,
     H::EngineProcess: Drop + Send,
-    requires { IsUnused (H.books host.old) }
+    requires { HostIsUnused (H.ledger host.old) }
 {
-    let words = words_of(rt, alloc, words);
-    status_of(rt, alloc, program, words.as_slice(), interface, host, diag)
+    let arguments = words_of(rt, alloc, arguments);
+    status_of(
+        rt,
+        alloc,
+        program,
+        arguments.as_slice(),
+        interface,
+        host,
+        diag,
+    )
 }

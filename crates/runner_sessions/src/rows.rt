@@ -1,6 +1,6 @@
 // Tables as texts: a row of fields with bars between, and a semicolon after each row but the last.
 
-/// What stands before the first bar, and what stands behind it: nothing if there is no bar.
+/// The text before the first bar, and the text behind it: nothing if there is no bar.
 pub fn cut(row: &str) -> (&str, &str) {
     row.split_once('|').unwrap_or((row, ""))
 }

@@ -1,21 +1,21 @@
 // Whole runs of a program over a host in memory, whose engine waits for the log.
-ghost use Rattle.child_engine.specs.Hosts.{IsUnused};
-ghost use Rattle.child_engine.specs.Memory.{books_of};
+ghost use Rattle.child_engine.specs.Hosts.{HostIsUnused};
+ghost use Rattle.child_engine.specs.Memory.{memory_ledger};
 
 use crate::expected::{expect_bytes, expect_true};
 use crate::programs::{Program, run_program};
 use crate::rows::{cut, three_of};
 use crate::streams::sink;
 use child_engine::{Fails, MemHost};
-use host_run::Interface;
 use paced_host::{DueText, PacedHost, PacedTexts};
+use program_lifecycle::Interface;
 use std::alloc::Global;
 use std::process::Abort;
 use std::sync::Wait;
 use std::sync::atomic::AtomicU64;
 use std::thread::Threads;
 
-/// What the interface says once the log took so many lines, and what each engine says, as many
+/// The text of the interface once the log took so many lines, and the text of each engine, as many
 /// bytes at a read as the piece; the k-th read waits until the log took the k-th number of lines.
 #[derive(Clone, Copy)]
 pub struct Peers {
@@ -72,25 +72,25 @@ fn expect_status(rt: &impl Abort, row: &str, found: u8, field: &str) {
 #[derive(Clone, Copy)]
 struct RunRow<'a> {
     text: &'a str,
-    words: &'a str,
+    arguments: &'a str,
     call: &'a str,
     code: &'a str,
     output: &'a str,
-    told: &'a str,
+    reported: &'a str,
 }
 
 // The fields of a row, of which a name is the first.
 fn read_row(text: &str) -> RunRow<'_> {
-    let (_, words, others) = three_of(text);
+    let (_, arguments, others) = three_of(text);
     let (call, code, texts) = three_of(others);
-    let (output, told) = cut(texts);
+    let (output, reported) = cut(texts);
     RunRow {
         text,
-        words,
+        arguments,
         call,
         code,
         output,
-        told,
+        reported,
     }
 }
 
@@ -101,7 +101,7 @@ fn make_host<'a>(
     row: &RunRow,
     lines: &'a AtomicU64,
 ) -> PacedHost<'a>
-    ensures { IsUnused (books_of result.host) }
+    ensures { HostIsUnused (memory_ledger result.host) }
 {
     expect_true(rt, row.text, peers.piece > 0);
     let fails = fails_named(row.call);
@@ -123,7 +123,7 @@ fn expect_run<'a, R: Threads + Wait + Sync + Abort>(
     lines: &'a AtomicU64,
     host: &mut PacedHost<'a>,
 )
-    requires { IsUnused (books_of host.old.host) }
+    requires { HostIsUnused (memory_ledger host.old.host) }
 {
     let mut interface = Interface {
         input: PacedTexts::new(lines, peers.iface),
@@ -134,14 +134,14 @@ fn expect_run<'a, R: Threads + Wait + Sync + Abort>(
         rt,
         alloc,
         peers.program,
-        row.words,
+        row.arguments,
         &mut interface,
         host,
         &mut diag,
     );
     expect_status(rt, row.text, status, row.code);
     expect_field(rt, row.text, interface.output.taken(), row.output);
-    expect_field(rt, row.text, diag.taken(), row.told);
+    expect_field(rt, row.text, diag.taken(), row.reported);
 }
 
 /// Runs a program on a row, and gives the host, which shows the log.
@@ -171,7 +171,7 @@ pub fn expect_runs<R: Threads + Wait + Sync + Abort>(
     }
 }
 
-// Whether a host has this log alone, and was asked for so many engines of one argument.
+// Expects that a host has this log alone, and was asked for so many engines of one argument.
 fn expect_kept(rt: &impl Abort, row: &str, host: &PacedHost, log: &WholeLog) {
     expect_bytes(rt, row, host.logged(), log.text);
     let was_asked = host.was_asked_for(log.engines, &["engine", "-x y"], log.name);

@@ -33,9 +33,9 @@ pub fn letters_before(rt: &impl Abort, alloc: Global, letters: usize, bytes: &[u
 
 /// The words between commas; of no text, no word. `\xff` stands for the byte, which is no text.
 pub fn words_of(rt: &impl Abort, alloc: Global, text: &str) -> Vec<Vec<u8>> {
-    let mut words: Vec<Vec<u8>> = Vec::new(alloc);
+    let mut arguments: Vec<Vec<u8>> = Vec::new(alloc);
     if text.is_empty() {
-        return words;
+        return arguments;
     }
     for part in text.split(',') {
         let bytes = if part == "\\xff" {
@@ -43,8 +43,8 @@ pub fn words_of(rt: &impl Abort, alloc: Global, text: &str) -> Vec<Vec<u8>> {
         } else {
             part.as_bytes()
         };
-        let word = Vec::from_slice(alloc, bytes).expect(rt, "memory for a word");
-        words.push(word).expect(rt, "memory for the words");
+        let argument = Vec::from_slice(alloc, bytes).expect(rt, "memory for a word");
+        arguments.push(argument).expect(rt, "memory for the words");
     }
-    words
+    arguments
 }

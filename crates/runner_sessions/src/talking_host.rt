@@ -1,7 +1,7 @@
 // A host whose engines wait for what is written, and which keeps its log.
 ghost use Rattle.std.specs.Prelude.{◌≡◌, None, false};
-ghost use Rattle.child_engine.specs.Hosts.{unused_books};
-ghost use Rattle.runner_sessions.specs.Talking.{books_with};
+ghost use Rattle.child_engine.specs.Hosts.{unused_ledger};
+ghost use Rattle.runner_sessions.specs.Talking.{ledger_with};
 
 use crate::paced_sink::PacedSink;
 use child_engine::{Faults, Host, HostFault, Started};
@@ -34,8 +34,8 @@ impl<'a> TalkingHost<'a> {
         lives: &'static [&'static [DueText]],
         mark: &'static [u8],
     ) -> TalkingHost<'a>
-        ensures { books_with result.runs_out result.logs_out result.runs_closed result.logs_closed
-            ≡ unused_books None false }
+        ensures { ledger_with result.runs_out result.logs_out result.runs_closed result.logs_closed
+            ≡ unused_ledger None false }
     {
         TalkingHost {
             written,
@@ -50,7 +50,7 @@ impl<'a> TalkingHost<'a> {
         }
     }
 
-    /// What its logs took.
+    /// The bytes of its logs.
     pub fn logged(&self) -> &[u8] {
         self.logged.as_slice()
     }
@@ -59,8 +59,8 @@ impl<'a> TalkingHost<'a> {
 impl<'a> Host for TalkingHost<'a> {
     ghost use Rattle.std.specs.Prelude.{◌≡◌, ◌<◌, length};
     ghost use Rattle.child_engine.specs.Hosts.{ClosesBy, with_closed_run};
-    ghost use Rattle.child_engine.specs.Real.{untold_runs, untold_source, untold_sink};
-    ghost use Rattle.runner_sessions.specs.Talking.{books_with};
+    ghost use Rattle.child_engine.specs.Real.{mute_runs, mute_source, real_mute_sink};
+    ghost use Rattle.runner_sessions.specs.Talking.{ledger_with};
 
     type EngineSource = PacedTexts<'a>;
 
@@ -72,12 +72,12 @@ impl<'a> Host for TalkingHost<'a> {
 
     ghost faults = { λ h. h.faults };
 
-    ghost books = { λ h. books_with h.runs_out h.logs_out h.runs_closed h.logs_closed };
+    ghost ledger = { λ h. ledger_with h.runs_out h.logs_out h.runs_closed h.logs_closed };
 
     fn start(
         &mut self,
         alloc: Global,
-        _words: &[String],
+        _arguments: &[String],
     ) -> Result<Started<PacedTexts<'a>, PacedSink<'a>, ()>, HostFault> {
         let Some(texts) = self.lives.get(usize::from(self.runs_out)) else {
             self.faults.starts = self.faults.starts.saturating_add(1);
@@ -96,15 +96,15 @@ impl<'a> Host for TalkingHost<'a> {
         Ok(PacedSink::ready(alloc, self.written, self.mark))
     }
 
-    #[tactic(auto, using(child_engine::proofs::Untold::runs_count))]
+    #[tactic(auto, using(child_engine::proofs::Mute::runs_count))]
     fn close(&mut self, run: Started<PacedTexts<'a>, PacedSink<'a>, ()>) -> Result<(), Failed>
-        requires { length (untold_runs self.old.runs_closed) < self.old.runs_out }
-        ensures books { books_with self.new.runs_out self.new.logs_out
+        requires { length (mute_runs self.old.runs_closed) < self.old.runs_out }
+        ensures ledger { ledger_with self.new.runs_out self.new.logs_out
             self.new.runs_closed self.new.logs_closed
             ≡ with_closed_run
-            (books_with self.old.runs_out self.old.logs_out
+            (ledger_with self.old.runs_out self.old.logs_out
             self.old.runs_closed self.old.logs_closed)
-            (untold_source 0) (untold_sink 0) }
+            (mute_source 0) (real_mute_sink 0) }
         ensures cause { ClosesBy self.old.faults self.new.faults 0 0 result }
     {
         let Started {
@@ -116,7 +116,7 @@ impl<'a> Host for TalkingHost<'a> {
         Ok(())
     }
 
-    #[tactic(auto, using(child_engine::proofs::Untold::logs_count))]
+    #[tactic(auto, using(child_engine::proofs::Mute::logs_count))]
     fn close_log(&mut self, log: PacedSink<'a>) {
         let _ = self.logged.extend_from_slice(log.bytes());
         self.logs_closed += 1;

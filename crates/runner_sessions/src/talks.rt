@@ -1,16 +1,16 @@
 // Whole runs of a program whose interface and engines wait for one another: a program that reads
 // one of them to its end before the other never ends.
 ghost use Rattle.std.specs.Prelude.{◌≡◌, None, false};
-ghost use Rattle.child_engine.specs.Hosts.{unused_books};
-ghost use Rattle.runner_sessions.specs.Talking.{books_with};
+ghost use Rattle.child_engine.specs.Hosts.{unused_ledger};
+ghost use Rattle.runner_sessions.specs.Talking.{ledger_with};
 
 use crate::expected::{expect_bytes, expect_true};
 use crate::paced_sink::PacedSink;
 use crate::programs::{Program, run_program};
 use crate::streams::sink;
 use crate::talking_host::TalkingHost;
-use host_run::Interface;
 use paced_host::{DueText, PacedTexts};
+use program_lifecycle::Interface;
 use std::alloc::Global;
 use std::process::Abort;
 use std::sync::Wait;
@@ -24,7 +24,7 @@ use std::thread::Threads;
 pub struct Talk {
     pub name: &'static str,
     pub program: Program,
-    pub words: &'static str,
+    pub arguments: &'static str,
     pub iface: &'static [DueText],
     pub lives: &'static [&'static [DueText]],
     pub mark: &'static [u8],
@@ -34,22 +34,22 @@ pub struct Talk {
 }
 
 // Runs a program between peers that are made for a talk, and compares what it answers and writes.
-fn expect_told<'a, R: Threads + Wait + Sync + Abort>(
+fn expect_reported<'a, R: Threads + Wait + Sync + Abort>(
     rt: &R,
     alloc: Global,
     talk: &Talk,
     interface: &mut Interface<PacedTexts<'a>, PacedSink<'a>>,
     host: &mut TalkingHost<'a>,
 )
-    requires { books_with host.old.runs_out host.old.logs_out host.old.runs_closed
-        host.old.logs_closed ≡ unused_books None false }
+    requires { ledger_with host.old.runs_out host.old.logs_out host.old.runs_closed
+        host.old.logs_closed ≡ unused_ledger None false }
 {
     let mut diag = sink(rt, alloc, 1_000, &[]);
     let status = run_program(
         rt,
         alloc,
         talk.program,
-        talk.words,
+        talk.arguments,
         interface,
         host,
         &mut diag,
@@ -66,5 +66,5 @@ pub fn expect_talk<R: Threads + Wait + Sync + Abort>(rt: &R, alloc: Global, talk
         input: PacedTexts::new(&written, talk.iface),
         output: PacedSink::ready(alloc, &written, b"\n"),
     };
-    expect_told(rt, alloc, talk, &mut interface, &mut host);
+    expect_reported(rt, alloc, talk, &mut interface, &mut host);
 }

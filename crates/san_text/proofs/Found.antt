@@ -11,8 +11,8 @@ use Rattle.std.specs.Option.{is_some, ok_or}
 use Rattle.std.specs.Ordering.{is_eq}
 use Rattle.chess_board.specs.Laws.{IsLegal}
 use Rattle.chess_board.specs.Position.{Position}
-use Rattle.chess_board.specs.Text.{ComesBefore, text_of}
-use Rattle.san_text.specs.Fit.{agrees, AgreesText, IsRead, IsSpelled}
+use Rattle.chess_board.specs.Text.{ComesBefore, text_of_move}
+use Rattle.san_text.specs.Fit.{agrees, AgreesText, SanReads, SanIsSpelled}
 use Rattle.san_text.specs.Spelling.{SanSpelling, spelling_of_san}
 use Rattle.san_text.specs.declared.fault.SanFault.TheVariants.{NoFit, Ambiguous}
 use Rattle.chess_board.specs.declared.board.Move.{Move}
@@ -65,16 +65,16 @@ some_found (Some a) e = (a, refl)
 
 -- a text does not come before itself
 not_before : (a : Move) → ComesBefore a a → ⊥
-not_before a h = let e = is_eq-slice_cmp (text_of a) (text_of a) ∙ (bytes_eq-Decides (text_of a) (text_of a)).1 refl in cc (ap is_eq h, e)
+not_before a h = let e = is_eq-slice_cmp (text_of_move a) (text_of_move a) ∙ (bytes_eq-Decides (text_of_move a) (text_of_move a)).1 refl in cc (ap is_eq h, e)
 
 -- a second one that fits is another
 pub two_found : (p : Move → Bool) (xs : List Move) (i : ℕ) (m : Move) (found : Option Move) → i < length xs → m ≡ get_or xs i m → p m ≡ true → filter p (take i xs) ≡ found_list found → is_some found ≡ true → AllPairs ComesBefore xs
     → (a : Move) × (Contains xs a × ((p a ≡ true) × (a ≡ m → ⊥)))
 two_found p xs i m found l e t inv some ordered =
     let f = some_found found some in
-    let front : filter p (take (i + 1) xs) ≡ f.0 ∷ m ∷ [] = found_more p xs i m l e t ∙ ap (λ ys. ys ++ m ∷ []) (inv ∙ ap found_list f.1) in
+    let prefix : filter p (take (i + 1) xs) ≡ f.0 ∷ m ∷ [] = found_more p xs i m l e t ∙ ap (λ ys. ys ++ m ∷ []) (inv ∙ ap found_list f.1) in
     let all : filter p xs ≡ f.0 ∷ m ∷ filter p (drop (i + 1) xs) =
-    ap (λ (ys : List Move). filter p ys) (sym (take-append-drop (i + 1) xs)) ∙ filter-append p (take (i + 1) xs) (drop (i + 1) xs) ∙ ap (λ ys. ys ++ filter p (drop (i + 1) xs)) front in
+    ap (λ (ys : List Move). filter p ys) (sym (take-append-drop (i + 1) xs)) ∙ filter-append p (take (i + 1) xs) (drop (i + 1) xs) ∙ ap (λ ys. ys ++ filter p (drop (i + 1) xs)) prefix in
     let first = first_kept p xs f.0 (m ∷ filter p (drop (i + 1) xs)) all in
     let pairs : AllPairs ComesBefore (f.0 ∷ m ∷ filter p (drop (i + 1) xs)) = subst (λ (ys : List Move). AllPairs ComesBefore ys) all (AllPairs-filter ComesBefore p xs ordered) in
     (f.0, (first.0, (first.1, λ same. not_before f.0 (subst (λ (x : Move). ComesBefore f.0 x) (sym same) (pairs 0 1 m (omega arith) (omega arith))))))
@@ -83,9 +83,9 @@ pub all_found : (p : Move → Bool) (xs : List Move) (i : ℕ) (found : Option M
 all_found p xs i found l e = ap (λ (ys : List Move). filter p ys) (sym (take_all i xs l)) ∙ e
 
 -- what is read at the end
-pub read_end : (p : Position) (text : List ℕ) (s : SanSpelling) (xs : List Move) (found : Option Move) → spelling_of_san text ≡ Some s → ((m : Move) → Contains xs m ↔ IsLegal p m.from.index m.to.index m.promotion) → filter (agrees p s) xs ≡ found_list found → IsRead p text (ok_or found NoFit)
+pub read_end : (p : Position) (text : List ℕ) (s : SanSpelling) (xs : List Move) (found : Option Move) → spelling_of_san text ≡ Some s → ((m : Move) → Contains xs m ↔ IsLegal p m.from.index m.to.index m.promotion) → filter (agrees p s) xs ≡ found_list found → SanReads p text (ok_or found NoFit)
 read_end p text s xs None e each f = (
-  subst (λ (o : Option SanSpelling). IsSpelled o) (sym e) tt,
+  subst (λ (o : Option SanSpelling). SanIsSpelled o) (sym e) tt,
   λ n h. let c = passes_stay (agrees p s) xs n ((each n).1 h.0) (subst (λ (o : Option SanSpelling). AgreesText p o n) e h.1) in
       let d = subst (λ (ys : List Move). Contains ys n) f c in absurd (omega (arith, d.1)),
 )
@@ -97,7 +97,7 @@ read_end p text s xs (Some a) e each f =
 
 -- two that fit
 pub read_two : (p : Position) (text : List ℕ) (s : SanSpelling) (xs : List Move) (i : ℕ) (m : Move) (found : Option Move) → spelling_of_san text ≡ Some s → ((m : Move) → Contains xs m ↔ IsLegal p m.from.index m.to.index m.promotion) → AllPairs ComesBefore xs
-    → i < length xs → m ≡ get_or xs i m → agrees p s m ≡ true → filter (agrees p s) (take i xs) ≡ found_list found → is_some found ≡ true → IsRead p text (Err Ambiguous)
+    → i < length xs → m ≡ get_or xs i m → agrees p s m ≡ true → filter (agrees p s) (take i xs) ≡ found_list found → is_some found ≡ true → SanReads p text (Err Ambiguous)
 read_two p text s xs i m found e each ordered l g t inv some =
     let two = two_found (agrees p s) xs i m found l g t inv some ordered in
     let fits : (n : Move) → agrees p s n ≡ true → AgreesText p (spelling_of_san text) n = λ n h. subst (λ (o : Option SanSpelling). AgreesText p o n) (sym e) h in

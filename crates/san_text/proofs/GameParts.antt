@@ -11,8 +11,8 @@ use Rattle.chess_board.specs.Play.{start_position}
 use Rattle.fen_text.specs.Written.{position_fen}
 use Rattle.game_record.specs.Game.{Ply, position_after_ply}
 use Rattle.game_record.proofs.Lines.{standard_test}
-use Rattle.san_text.specs.GameSan.{san}
-use Rattle.san_text.specs.GameText.{number_by, move_parts, spaced_parts, tag_of}
+use Rattle.san_text.specs.GameSan.{san_of_ply}
+use Rattle.san_text.specs.GameText.{move_number_by, move_parts, spaced_parts, tag_of}
 
 pub spaced-append : (a b : List (List ℕ)) → spaced_parts (a ++ b) ≡ spaced_parts a ++ spaced_parts b
 spaced-append [] b = refl
@@ -30,10 +30,10 @@ joined (part ∷ next ∷ parts) last =
 
 -- a move after its number, and the moves after it
 pub one_more : (p : Position) (m : Ply) (moves : List Ply)
-    → spaced_parts (move_parts p (m ∷ moves)) ≡ spaced_parts (number_by p.side p.full ++ san p m ∷ []) ++ spaced_parts (move_parts (position_after_ply p m) moves)
+    → spaced_parts (move_parts p (m ∷ moves)) ≡ spaced_parts (move_number_by p.side p.full ++ san_of_ply p m ∷ []) ++ spaced_parts (move_parts (position_after_ply p m) moves)
 one_more p m moves =
-    ap spaced_parts (sym (append_assoc (number_by p.side p.full) (san p m ∷ []) (move_parts (position_after_ply p m) moves)))
-    ∙ spaced-append (number_by p.side p.full ++ san p m ∷ []) (move_parts (position_after_ply p m) moves)
+    ap spaced_parts (sym (append_assoc (move_number_by p.side p.full) (san_of_ply p m ∷ []) (move_parts (position_after_ply p m) moves)))
+    ∙ spaced-append (move_number_by p.side p.full ++ san_of_ply p m ∷ []) (move_parts (position_after_ply p m) moves)
 
 pub length-number : (n : ℕ) → n ≤ 99999 → length (decimal n) ≤ 5
 length-number n h = length-decimal-le 5 n (lit< tt) (omega arith) (omega arith)

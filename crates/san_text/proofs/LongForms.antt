@@ -7,7 +7,7 @@ use Rattle.std.proofs.lemmas.Bool.{and_parts}
 use Rattle.chess_board.specs.declared.board.Kind.{Kind}
 use Rattle.chess_board.specs.declared.board.Kind.TheVariants.{Pawn, Knight, Bishop, Rook, Queen, King}
 use Rattle.chess_board.specs.declared.board.Move.{Move}
-use Rattle.chess_board.specs.Board.{file_of, rank_of, square_at}
+use Rattle.chess_board.specs.Board.{file_of, rank_of_square, square_at}
 use Rattle.chess_board.specs.Position.{Position}
 use Rattle.chess_board.specs.Rules.{is_legal}
 use Rattle.chess_board.specs.Laws.{IsLegal}
@@ -16,9 +16,9 @@ use Rattle.chess_board.proofs.Equal.{kinds-Decides}
 use Rattle.chess_board.proofs.Legal.{legal-law}
 use Rattle.chess_board.proofs.Places.{move_same}
 use Rattle.chess_board.proofs.Texts.{legal-written}
-use Rattle.san_text.specs.Writing.{same_kind, kind_at, letter, promotion_letters}
+use Rattle.san_text.specs.Writing.{same_san_kind, kind_at, letter, promotion_letters}
 use Rattle.san_text.specs.Spelling.{Target, unmarked, file_named, rank_named, kind_named, promoted, promotion_read, target_of, square_read}
-use Rattle.san_text.specs.LongForm.{is_link, bare_promotion, IsLongForm, FitsLong, IsLongRead, Way, way_of, way_from, way_read, may_move, moved_by, man_moved, long_read}
+use Rattle.san_text.specs.LongForm.{is_link, bare_promotion, IsLongForm, FitsLong, IsLongRead, Way, way_of, way_from, way_read, may_move, moved_by, piece_moved, long_read}
 use Rattle.san_text.proofs.Texts.{file_small, rank_small, square_again, file_is, rank_is, promotion_is}
 use Rattle.san_text.proofs.Bools.{differs}
 
@@ -63,8 +63,8 @@ fits_read p text m h =
     let a = m.from.index in
     let b = m.to.index in
     let becomes = becomes_is m.promotion form.becomes (legal-written p m h.0) form.promotes in
-    let read = way_is (file_of a) (rank_of a) (file_of b) (rank_of b) form.link form.becomes m.promotion (file_small a) (rank_small a m.from.on_board) (file_small b) (rank_small b m.to.on_board) form.linked becomes in
-    let squares : way (file_of a) (rank_of a) (file_of b) (rank_of b) m.promotion ≡ way_of m = rw (square_again a, square_again b) refl in
+    let read = way_is (file_of a) (rank_of_square a) (file_of b) (rank_of_square b) form.link form.becomes m.promotion (file_small a) (rank_small a m.from.on_board) (file_small b) (rank_small b m.to.on_board) form.linked becomes in
+    let squares : way (file_of a) (rank_of_square a) (file_of b) (rank_of_square b) m.promotion ≡ way_of m = rw (square_again a, square_again b) refl in
     ap (long_read p) form.whole ∙ by_letter p (kind_at p a) (file_of a) _ (file_small a)
     ∙ ap (moved_by p (kind_at p a)) (read ∙ ap (λ w. Some w) squares) ∙ moved_is p m h.0
 
@@ -90,20 +90,20 @@ named_back low high b n e =
     let n_is : b - low ≡ n = ap (λ o. number_in o n) k.1 in
     (omega arith, omega arith)
 
-letter_by : (k q r s n : Bool) (b : ℕ) (man : Kind) → (b == 75) ≡ k → (b == 81) ≡ q → (b == 82) ≡ r → (b == 66) ≡ s → (b == 78) ≡ n
-    → cond k (Some King) (cond q (Some Queen) (cond r (Some Rook) (cond s (Some Bishop) (cond n (Some Knight) None)))) ≡ Some man → letter man ≡ b ∷ []
-letter_by true q r s n b man e f g h i is = let same : King ≡ man = cc is in subst (λ k. letter k ≡ b ∷ []) same (ap (λ c. c ∷ []) (sym ((Decides-eqb b 75).0 e)))
-letter_by false true r s n b man e f g h i is = let same : Queen ≡ man = cc is in subst (λ k. letter k ≡ b ∷ []) same (ap (λ c. c ∷ []) (sym ((Decides-eqb b 81).0 f)))
-letter_by false false true s n b man e f g h i is = let same : Rook ≡ man = cc is in subst (λ k. letter k ≡ b ∷ []) same (ap (λ c. c ∷ []) (sym ((Decides-eqb b 82).0 g)))
-letter_by false false false true n b man e f g h i is = let same : Bishop ≡ man = cc is in subst (λ k. letter k ≡ b ∷ []) same (ap (λ c. c ∷ []) (sym ((Decides-eqb b 66).0 h)))
-letter_by false false false false true b man e f g h i is = let same : Knight ≡ man = cc is in subst (λ k. letter k ≡ b ∷ []) same (ap (λ c. c ∷ []) (sym ((Decides-eqb b 78).0 i)))
-letter_by false false false false false b man e f g h i is = absurd (cc)
+letter_by : (k q r s n : Bool) (b : ℕ) (occupant : Kind) → (b == 75) ≡ k → (b == 81) ≡ q → (b == 82) ≡ r → (b == 66) ≡ s → (b == 78) ≡ n
+    → cond k (Some King) (cond q (Some Queen) (cond r (Some Rook) (cond s (Some Bishop) (cond n (Some Knight) None)))) ≡ Some occupant → letter occupant ≡ b ∷ []
+letter_by true q r s n b occupant e f g h i is = let same : King ≡ occupant = cc is in subst (λ k. letter k ≡ b ∷ []) same (ap (λ c. c ∷ []) (sym ((Decides-eqb b 75).0 e)))
+letter_by false true r s n b occupant e f g h i is = let same : Queen ≡ occupant = cc is in subst (λ k. letter k ≡ b ∷ []) same (ap (λ c. c ∷ []) (sym ((Decides-eqb b 81).0 f)))
+letter_by false false true s n b occupant e f g h i is = let same : Rook ≡ occupant = cc is in subst (λ k. letter k ≡ b ∷ []) same (ap (λ c. c ∷ []) (sym ((Decides-eqb b 82).0 g)))
+letter_by false false false true n b occupant e f g h i is = let same : Bishop ≡ occupant = cc is in subst (λ k. letter k ≡ b ∷ []) same (ap (λ c. c ∷ []) (sym ((Decides-eqb b 66).0 h)))
+letter_by false false false false true b occupant e f g h i is = let same : Knight ≡ occupant = cc is in subst (λ k. letter k ≡ b ∷ []) same (ap (λ c. c ∷ []) (sym ((Decides-eqb b 78).0 i)))
+letter_by false false false false false b occupant e f g h i is = absurd (cc)
 
-letter_back : (b : ℕ) (man : Kind) → kind_named b ≡ Some man → letter man ≡ b ∷ []
-letter_back b man is = letter_by (b == 75) (b == 81) (b == 82) (b == 66) (b == 78) b man refl refl refl refl refl is
+letter_back : (b : ℕ) (occupant : Kind) → kind_named b ≡ Some occupant → letter occupant ≡ b ∷ []
+letter_back b occupant is = letter_by (b == 75) (b == 81) (b == 82) (b == 66) (b == 78) b occupant refl refl refl refl refl is
 
-piece_some : (b : ℕ) (man : Kind) (promotion : Option Kind) → kind_named b ≡ Some man → Some man ≡ promotion → (bare_promotion promotion ≡ b ∷ []) × (promotion_letters promotion ≡ 61 ∷ b ∷ [])
-piece_some b man promotion e h = let l = letter_back b man e in subst (λ q. (bare_promotion q ≡ b ∷ []) × (promotion_letters q ≡ 61 ∷ b ∷ [])) h (l, ap (λ xs. 61 ∷ xs) l)
+piece_some : (b : ℕ) (occupant : Kind) (promotion : Option Kind) → kind_named b ≡ Some occupant → Some occupant ≡ promotion → (bare_promotion promotion ≡ b ∷ []) × (promotion_letters promotion ≡ 61 ∷ b ∷ [])
+piece_some b occupant promotion e h = let l = letter_back b occupant e in subst (λ q. (bare_promotion q ≡ b ∷ []) × (promotion_letters q ≡ 61 ∷ b ∷ [])) h (l, ap (λ xs. 61 ∷ xs) l)
 
 piece_back : (b : ℕ) (k promotion : Option Kind) → kind_named b ≡ k → promoted k ≡ Some promotion → (bare_promotion promotion ≡ b ∷ []) × (promotion_letters promotion ≡ 61 ∷ b ∷ [])
 piece_back b None promotion e h = absurd (cc)
@@ -146,7 +146,7 @@ way_parts (Some f) (Some r) (Some target) w e = (f, (r, (refl, (refl, (ap (λ o.
 -- a square that two bytes name
 record IsSquare (f r s : ℕ) : Type 0 where
   file : f ≡ 97 + file_of s
-  rank : r ≡ 49 + rank_of s
+  rank : r ≡ 49 + rank_of_square s
 
 square_back : (f r a b s : ℕ) → file_named f ≡ Some a → rank_named r ≡ Some b → s ≡ square_at a b → IsSquare f r s
 square_back f r a b s e g h =
@@ -162,7 +162,7 @@ square_back f r a b s e g h =
 record Lands (text : List ℕ) (t : Target) : Type 0 where
   becomes : List ℕ
   promotes : (becomes ≡ bare_promotion t.promotion) ⊎ (becomes ≡ promotion_letters t.promotion)
-  whole : text ≡ (97 + file_of t.to) ∷ (49 + rank_of t.to) ∷ becomes
+  whole : text ≡ (97 + file_of t.to) ∷ (49 + rank_of_square t.to) ∷ becomes
 
 target_back : (text : List ℕ) (t : Target) → square_read text ≡ Some t → Lands text t
 target_back [] t e = absurd (cc)
@@ -182,7 +182,7 @@ record Goes (text : List ℕ) (w : Way) : Type 0 where
   becomes : List ℕ
   linked : is_link link ≡ true
   promotes : (becomes ≡ bare_promotion w.target.promotion) ⊎ (becomes ≡ promotion_letters w.target.promotion)
-  whole : text ≡ (97 + file_of w.from) ∷ (49 + rank_of w.from) ∷ link ∷ (97 + file_of w.target.to) ∷ (49 + rank_of w.target.to) ∷ becomes
+  whole : text ≡ (97 + file_of w.from) ∷ (49 + rank_of_square w.from) ∷ link ∷ (97 + file_of w.target.to) ∷ (49 + rank_of_square w.target.to) ∷ becomes
 
 way_back : (text : List ℕ) (w : Way) → way_read text ≡ Some w → Goes text w
 way_back [] w e = absurd (cc)
@@ -198,22 +198,22 @@ way_back (f ∷ r ∷ link ∷ rest) w e =
       becomes = to.becomes;
       linked = k.0;
       promotes = to.promotes;
-      whole = ap (λ c. c ∷ r ∷ link ∷ rest) at.file ∙ ap (λ c. (97 + file_of w.from) ∷ c ∷ link ∷ rest) at.rank ∙ ap (λ c. (97 + file_of w.from) ∷ (49 + rank_of w.from) ∷ link ∷ c) to.whole;
+      whole = ap (λ c. c ∷ r ∷ link ∷ rest) at.file ∙ ap (λ c. (97 + file_of w.from) ∷ c ∷ link ∷ rest) at.rank ∙ ap (λ c. (97 + file_of w.from) ∷ (49 + rank_of_square w.from) ∷ link ∷ c) to.whole;
     }
 
-moved_back : (p : Position) (man : Kind) (o : Option Way) (w : Way) → moved_by p man o ≡ Some w → (o ≡ Some w) × (may_move p man w ≡ true)
-moved_back p man None w e = absurd (cc)
-moved_back p man (Some v) w e =
-    let k = kept (may_move p man v) (Some v) w e in
-    (k.1, subst (λ u. may_move p man u ≡ true) (ap (λ o. way_in o w) k.1) k.0)
+moved_back : (p : Position) (occupant : Kind) (o : Option Way) (w : Way) → moved_by p occupant o ≡ Some w → (o ≡ Some w) × (may_move p occupant w ≡ true)
+moved_back p occupant None w e = absurd (cc)
+moved_back p occupant (Some v) w e =
+    let k = kept (may_move p occupant v) (Some v) w e in
+    (k.1, subst (λ u. may_move p occupant u ≡ true) (ap (λ o. way_in o w) k.1) k.0)
 
--- a man of such a kind, whose letter is before its squares
-form_by : (p : Position) (m : Move) (man : Kind) (front text : List ℕ) → front ≡ letter man → moved_by p man (way_read text) ≡ Some (way_of m) → IsLegal p m.from.index m.to.index m.promotion × IsLongForm p m (front ++ text)
-form_by p m man front text e h =
-    let moved = moved_back p man (way_read text) (way_of m) h in
-    let tests = and_parts (same_kind (kind_at p m.from.index) man) (is_legal p m.from.index m.to.index m.promotion) moved.1 in
+-- a piece of such a kind, whose letter is before its squares
+form_by : (p : Position) (m : Move) (occupant : Kind) (prefix text : List ℕ) → prefix ≡ letter occupant → moved_by p occupant (way_read text) ≡ Some (way_of m) → IsLegal p m.from.index m.to.index m.promotion × IsLongForm p m (prefix ++ text)
+form_by p m occupant prefix text e h =
+    let moved = moved_back p occupant (way_read text) (way_of m) h in
+    let tests = and_parts (same_san_kind (kind_at p m.from.index) occupant) (is_legal p m.from.index m.to.index m.promotion) moved.1 in
     let goes = way_back text (way_of m) moved.0 in
-    let same : kind_at p m.from.index ≡ man = (kinds-Decides (kind_at p m.from.index) man).0 tests.0 in (
+    let same : kind_at p m.from.index ≡ occupant = (kinds-Decides (kind_at p m.from.index) occupant).0 tests.0 in (
       (legal-law p m.from.index m.to.index m.promotion).0 tests.1,
       record {
         link = goes.link;
@@ -224,8 +224,8 @@ form_by p m man front text e h =
       },
     )
 
-read_by : (p : Position) (m : Move) (k : Option Kind) (b : ℕ) (bs : List ℕ) → kind_named b ≡ k → man_moved p k b bs ≡ Some (way_of m) → IsLegal p m.from.index m.to.index m.promotion × IsLongForm p m (b ∷ bs)
-read_by p m (Some man) b bs e h = form_by p m man (b ∷ []) bs (sym (letter_back b man e)) h
+read_by : (p : Position) (m : Move) (k : Option Kind) (b : ℕ) (bs : List ℕ) → kind_named b ≡ k → piece_moved p k b bs ≡ Some (way_of m) → IsLegal p m.from.index m.to.index m.promotion × IsLongForm p m (b ∷ bs)
+read_by p m (Some occupant) b bs e h = form_by p m occupant (b ∷ []) bs (sym (letter_back b occupant e)) h
 read_by p m None b bs e h = form_by p m Pawn [] (b ∷ bs) refl h
 
 read_fits : (p : Position) (m : Move) (text : List ℕ) → long_read p text ≡ Some (way_of m) → IsLegal p m.from.index m.to.index m.promotion × IsLongForm p m text

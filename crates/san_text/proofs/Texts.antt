@@ -1,4 +1,4 @@
--- What is written is read as it was meant.
+-- The text written is read as it was meant.
 use Rattle.std.proofs.Common.{◌≡◌, ◌≢◌, ℕ, ◌+◌, ◌*◌, ◌-◌, ◌/◌, ◌%◌, ◌<◌, ◌≤◌, List, [], ◌∷◌, ◌++◌, Bool, true, false, not, ◌&&◌, ◌||◌, cond, ◌==◌, Option, Some, None, refl, ap, sym, subst, ◌∙◌, arith, append_assoc, append-nil, ◌⊎◌, inl, inr}
 use Rattle.std.specs.Prelude.{nat_le}
 use Rattle.std.proofs.lemmas.Bool.Decides.{nat_tests}
@@ -6,20 +6,20 @@ use Rattle.std.specs.Str.{bytes_eq}
 use mathlib.Core.Bool.{and-false}
 use Rattle.chess_board.specs.declared.board.Kind.{Kind}
 use Rattle.chess_board.specs.declared.board.Kind.TheVariants.{Pawn, Knight, Bishop, Rook, Queen, King}
-use Rattle.chess_board.specs.Board.{file_of, rank_of, square_at}
+use Rattle.chess_board.specs.Board.{file_of, rank_of_square, square_at}
 use Rattle.chess_board.specs.Text.{IsOfficer}
 use Rattle.san_text.specs.Writing.{letter, promotion_letters, file_letter, rank_digit}
-use Rattle.san_text.specs.Spelling.{Target, SanSpelling, Goes, is_mark, unmarked, file_named, rank_named, kind_named, promotion_read, target_of, square_read, target_read, goes, first_of, rank_read, file_read, places_read, man_read, is_short, is_long, read_unmarked}
+use Rattle.san_text.specs.Spelling.{Target, SanSpelling, Goes, is_check_byte, unmarked, file_named, rank_named, kind_named, promotion_read, target_of, square_read, target_read, goes, first_of, rank_read, file_read, places_read, piece_read, is_short, is_long_castling, read_unmarked}
 use Rattle.san_text.proofs.Unmarked.{keeps_other, drops_mark}
 use Rattle.san_text.proofs.Bools.{differs}
 
 pub file_small : (s : ℕ) → file_of s < 8
 file_small s = omega arith
 
-pub rank_small : (s : ℕ) → s < 64 → rank_of s < 8
+pub rank_small : (s : ℕ) → s < 64 → rank_of_square s < 8
 rank_small s h = omega arith
 
-pub square_again : (s : ℕ) → square_at (file_of s) (rank_of s) ≡ s
+pub square_again : (s : ℕ) → square_at (file_of s) (rank_of_square s) ≡ s
 square_again s = omega arith
 
 le_true : (a b : ℕ) → a ≤ b → nat_le a b ≡ true
@@ -85,7 +85,7 @@ not_rank false q f r promotion h = rw (differs (49 + q) 120 (λ e. omega arith),
 no_promotion : (takes : Bool) (f r : ℕ) (promotion : Option Kind) → f < 8 → promotion_read (tail takes f r promotion) ≡ None
 no_promotion true f r promotion h = refl
 no_promotion false f r None h = rw (differs (97 + f) 61 (λ e. omega arith)) refl
-no_promotion false f r (Some man) h = refl
+no_promotion false f r (Some occupant) h = refl
 
 not_both : (takes : Bool) (g q f r : ℕ) (promotion : Option Kind) → g < 8 → q < 8 → f < 8 → target_read ((97 + g) ∷ (49 + q) ∷ tail takes f r promotion) ≡ None
 not_both takes g q f r promotion h i j = rw (differs (97 + g) 120 (λ e. omega arith), file_is g h, rank_is q i, no_promotion takes f r promotion j) refl
@@ -101,21 +101,21 @@ abbrev pub Below : Option ℕ → Type 0
 Below None = Unit {0}
 Below (Some n) = n < 8
 
-pub places_are : (man : Kind) (file rank : Option ℕ) (takes : Bool) (f r : ℕ) (promotion : Option Kind) → Below file → Below rank → f < 8 → r < 8 → IsOfficer promotion
-    → places_read man (place_text file rank ++ tail takes f r promotion) ≡ Some (Goes man file rank (target f r promotion))
-places_are man None None takes f r promotion a b h i o = rw (tail_is takes f r promotion h i o) refl
-places_are man (Some g) None takes f r promotion a b h i o = rw (not_file takes g f r promotion a h, file_is g a, tail_is takes f r promotion h i o) refl
-places_are man None (Some q) takes f r promotion a b h i o = rw (not_rank takes q f r promotion b, no_file q b, rank_is q b, tail_is takes f r promotion h i o) refl
-places_are man (Some g) (Some q) takes f r promotion a b h i o = rw (not_both takes g q f r promotion a b h, file_is g a, not_rank takes q f r promotion b, rank_is q b, tail_is takes f r promotion h i o) refl
+pub places_are : (occupant : Kind) (file rank : Option ℕ) (takes : Bool) (f r : ℕ) (promotion : Option Kind) → Below file → Below rank → f < 8 → r < 8 → IsOfficer promotion
+    → places_read occupant (place_text file rank ++ tail takes f r promotion) ≡ Some (Goes occupant file rank (target f r promotion))
+places_are occupant None None takes f r promotion a b h i o = rw (tail_is takes f r promotion h i o) refl
+places_are occupant (Some g) None takes f r promotion a b h i o = rw (not_file takes g f r promotion a h, file_is g a, tail_is takes f r promotion h i o) refl
+places_are occupant None (Some q) takes f r promotion a b h i o = rw (not_rank takes q f r promotion b, no_file q b, rank_is q b, tail_is takes f r promotion h i o) refl
+places_are occupant (Some g) (Some q) takes f r promotion a b h i o = rw (not_both takes g q f r promotion a b h, file_is g a, not_rank takes q f r promotion b, rank_is q b, tail_is takes f r promotion h i o) refl
 
 -- a text that ends with no sign
 abbrev pub EndsPlain : List ℕ → Type 0
-EndsPlain xs = (front : List ℕ) × ((c : ℕ) × ((xs ≡ front ++ c ∷ []) × (is_mark c ≡ false)))
+EndsPlain xs = (prefix : List ℕ) × ((c : ℕ) × ((xs ≡ prefix ++ c ∷ []) × (is_check_byte c ≡ false)))
 
 pub ends_behind : (xs ys : List ℕ) → EndsPlain ys → EndsPlain (xs ++ ys)
 ends_behind xs ys e = (xs ++ e.0, (e.1.0, (ap (λ l. xs ++ l) e.1.1.0 ∙ sym (append_assoc xs e.0 (e.1.0 ∷ [])), e.1.1.1)))
 
-digit_plain : (r : ℕ) → r < 8 → is_mark (49 + r) ≡ false
+digit_plain : (r : ℕ) → r < 8 → is_check_byte (49 + r) ≡ false
 digit_plain r h = rw (differs (49 + r) 43 (λ e. omega arith), differs (49 + r) 35 (λ e. omega arith), differs (49 + r) 33 (λ e. omega arith), differs (49 + r) 63 (λ e. omega arith)) refl
 
 target_plain : (f r : ℕ) (promotion : Option Kind) → r < 8 → IsOfficer promotion → EndsPlain (target_text f r promotion)
@@ -128,7 +128,7 @@ target_plain f r (Some Pawn) h o = absurd o
 target_plain f r (Some King) h o = absurd o
 
 -- a sign of check or mate is dropped
-pub mark_dropped : (xs : List ℕ) → EndsPlain xs → (mark : List ℕ) → (mark ≡ []) ⊎ ((c : ℕ) × ((mark ≡ c ∷ []) × (is_mark c ≡ true))) → unmarked (xs ++ mark) ≡ xs
+pub mark_dropped : (xs : List ℕ) → EndsPlain xs → (mark : List ℕ) → (mark ≡ []) ⊎ ((c : ℕ) × ((mark ≡ c ∷ []) × (is_check_byte c ≡ true))) → unmarked (xs ++ mark) ≡ xs
 mark_dropped xs e mark (inl none) =
     ap (λ m. unmarked (xs ++ m)) none ∙ ap unmarked (append-nil xs ∙ e.1.1.0) ∙ keeps_other e.0 e.1.0 e.1.1.1 ∙ sym e.1.1.0
 mark_dropped xs e mark (inr sign) =

@@ -1,13 +1,13 @@
--- Which legal moves fit a text.
+-- The legal moves that fit a text.
 use Rattle.std.specs.Prelude.{◌≡◌, ◌≢◌, ℕ, List, Bool, true, not, ◌&&◌, ◌||◌}
 use Rattle.std.specs.Prelude.{◌==◌, Option, Some, None, IsTrue, Result, Ok, Err}
 use Rattle.std.specs.Option.{option_eq}
 use Rattle.chess_board.specs.declared.board.Kind.{Kind}
 use Rattle.chess_board.specs.declared.board.Move.{Move}
-use Rattle.chess_board.specs.Board.{file_of, rank_of}
+use Rattle.chess_board.specs.Board.{file_of, rank_of_square}
 use Rattle.chess_board.specs.Position.{Position}
 use Rattle.chess_board.specs.Laws.{IsLegal}
-use Rattle.san_text.specs.Writing.{same_kind, kind_at, castles_short, castles_long, IsSan}
+use Rattle.san_text.specs.Writing.{same_san_kind, kind_at, castles_short, castles_long, IsSan}
 use Rattle.san_text.specs.Spelling.{SanSpelling, Short, Long, Goes, Target, spelling_of_san}
 use Rattle.san_text.specs.declared.fault.SanFault.{SanFault}
 use Rattle.san_text.specs.declared.fault.SanFault.TheVariants.{BadSan, NoFit, Ambiguous}
@@ -20,41 +20,41 @@ allows (Some k) n = k == n
 abbrev pub castles : Position → Move → Bool
 castles p m = castles_short p m || castles_long p m
 
--- Whether a move agrees with a spelling: castling with its spellings alone, another move in its
--- man's kind, in the file and rank that are given, in the square reached and in the promotion.
+-- True if a move agrees with a spelling: castling with its spellings alone, another move in its
+-- piece's kind, in the file and rank that are given, in the square reached and in the promotion.
 abbrev pub agrees : Position → SanSpelling → Move → Bool
 agrees p Short m = castles_short p m
 agrees p Long m = castles_long p m
 agrees p (Goes kind file rank target) m =
-    (not (castles p m) && same_kind (kind_at p m.from.index) kind)
-    && ((allows file (file_of m.from.index) && allows rank (rank_of m.from.index))
-    && ((m.to.index == target.to) && option_eq same_kind m.promotion target.promotion))
+    (not (castles p m) && same_san_kind (kind_at p m.from.index) kind)
+    && ((allows file (file_of m.from.index) && allows rank (rank_of_square m.from.index))
+    && ((m.to.index == target.to) && option_eq same_san_kind m.promotion target.promotion))
 
 abbrev pub AgreesText : Position → Option SanSpelling → Move → Type 0
 AgreesText p None m = ⊥
 AgreesText p (Some s) m = IsTrue (agrees p s m)
 
 -- a legal move that agrees with what the text spells
-abbrev pub Fits : Position → List ℕ → Move → Type 0
-Fits p text m =
+abbrev pub MoveFitsSan : Position → List ℕ → Move → Type 0
+MoveFitsSan p text m =
     IsLegal p m.from.index m.to.index m.promotion × AgreesText p (spelling_of_san text) m
 
-abbrev pub IsSpelled : Option SanSpelling → Type 0
-IsSpelled None = ⊥
-IsSpelled (Some s) = Unit {0}
+abbrev pub SanIsSpelled : Option SanSpelling → Type 0
+SanIsSpelled None = ⊥
+SanIsSpelled (Some s) = Unit {0}
 
 -- the text fits this move and no other
 abbrev pub FitsAlone : Position → List ℕ → Move → Type 0
-FitsAlone p text m = Fits p text m × ((n : Move) → Fits p text n → n ≡ m)
+FitsAlone p text m = MoveFitsSan p text m × ((n : Move) → MoveFitsSan p text n → n ≡ m)
 
--- What a text is read as: a move that is the one that fits, or BadSan if the text has no spelling,
+-- The reading of a text: a move that is the one that fits, or BadSan if the text has no spelling,
 -- NoFit if it has one and no legal move fits, Ambiguous if two or more fit.
-abbrev pub IsRead : Position → List ℕ → Result Move SanFault → Type 0
-IsRead p text (Ok m) = FitsAlone p text m
-IsRead p text (Err BadSan) = spelling_of_san text ≡ None
-IsRead p text (Err NoFit) = IsSpelled (spelling_of_san text) × ((n : Move) → Fits p text n → ⊥)
-IsRead p text (Err Ambiguous) =
-    (a : Move) × ((b : Move) × (Fits p text a × Fits p text b × (a ≢ b)))
+abbrev pub SanReads : Position → List ℕ → Result Move SanFault → Type 0
+SanReads p text (Ok m) = FitsAlone p text m
+SanReads p text (Err BadSan) = spelling_of_san text ≡ None
+SanReads p text (Err NoFit) = SanIsSpelled (spelling_of_san text) × ((n : Move) → MoveFitsSan p text n → ⊥)
+SanReads p text (Err Ambiguous) =
+    (a : Move) × ((b : Move) × (MoveFitsSan p text a × MoveFitsSan p text b × (a ≢ b)))
 
 -- what is written of a legal move fits it alone, so reading it gives the move back
 abbrev pub IsReadBack : Type 0

@@ -9,44 +9,44 @@ use Rattle.chess_board.specs.Position.{Position}
 use Rattle.fen_text.specs.Written.{position_fen}
 use Rattle.game_record.specs.declared.ending.GameEnd.{GameEnd}
 use Rattle.game_record.specs.declared.ending.GameEnd.TheVariants.{Mate}
-use Rattle.game_record.specs.Game.{Ply, Game, position_after_ply, now_of}
+use Rattle.game_record.specs.Game.{Ply, Game, position_after_ply, current_position}
 use Rattle.game_record.specs.Ending.{ended_of}
 use Rattle.game_record.specs.Line.{is_standard}
-use Rattle.san_text.specs.GameSan.{san}
+use Rattle.san_text.specs.GameSan.{san_of_ply}
 use Rattle.line_io.specs.Lines.{line_feed}
 use Rattle.peer_words.specs.Bytes.{blank}
 
 -- `N.` stands before a move of White, and nothing before a move of Black
-abbrev pub number_by : Side → ℕ → List (List ℕ)
-number_by White n = (decimal n ++ codes ".") ∷ []
-number_by Black n = []
+abbrev pub move_number_by : Side → ℕ → List (List ℕ)
+move_number_by White n = (decimal n ++ codes ".") ∷ []
+move_number_by Black n = []
 
 -- but `N...` before a game's first move, if Black plays it
-abbrev pub beginning_by : Side → ℕ → List (List ℕ)
-beginning_by White n = []
-beginning_by Black n = (decimal n ++ codes "...") ∷ []
+abbrev pub first_number_by : Side → ℕ → List (List ℕ)
+first_number_by White n = []
+first_number_by Black n = (decimal n ++ codes "...") ∷ []
 
 -- each move after its number
 abbrev pub move_parts : Position → List Ply → List (List ℕ)
 move_parts p [] = []
 move_parts p (m ∷ moves) =
-    number_by p.side p.full ++ san p m ∷ move_parts (position_after_ply p m) moves
+    move_number_by p.side p.full ++ san_of_ply p m ∷ move_parts (position_after_ply p m) moves
 
 -- who won: not the side on move, if it is mated; nobody, if the game has ended otherwise
-abbrev pub result_by : Side → Option GameEnd → List ℕ
-result_by side None = codes "*"
-result_by White (Some Mate) = codes "0-1"
-result_by Black (Some Mate) = codes "1-0"
-result_by side (Some end) = codes "1/2-1/2"
+abbrev pub result_text_by : Side → Option GameEnd → List ℕ
+result_text_by side None = codes "*"
+result_text_by White (Some Mate) = codes "0-1"
+result_text_by Black (Some Mate) = codes "1-0"
+result_text_by side (Some end) = codes "1/2-1/2"
 
-abbrev pub result_of : Game → List ℕ
-result_of g = result_by (now_of g).side (ended_of g)
+abbrev pub result_text_of : Game → List ℕ
+result_text_of g = result_text_by (current_position g).side (ended_of g)
 
 -- the numbers, the moves and the result
-abbrev pub parts_of : Game → List (List ℕ)
-parts_of g =
-    beginning_by g.start.side g.start.full
-    ++ (move_parts g.start g.moves ++ result_of g ∷ [])
+abbrev pub game_text_parts : Game → List (List ℕ)
+game_text_parts g =
+    first_number_by g.start.side g.start.full
+    ++ (move_parts g.start g.moves ++ result_text_of g ∷ [])
 
 -- the tag of the start: none, if it is the standard start with its counts 0 and 1
 abbrev pub tag_of : Position → List ℕ
@@ -54,7 +54,7 @@ tag_of p = if is_standard p then [] else codes "[FEN \"" ++ (position_fen p ++ c
 
 -- One blank stands between the parts of the line.
 unfoldable pub game_text : Game → List ℕ
-game_text g = tag_of g.start ++ (join_with_byte blank (parts_of g) ++ line_feed ∷ [])
+game_text g = tag_of g.start ++ (join_with_byte blank (game_text_parts g) ++ line_feed ∷ [])
 
 -- each part with a blank after it
 abbrev pub spaced_parts : List (List ℕ) → List ℕ

@@ -10,7 +10,7 @@ use Rattle.chess_board.specs.Rules.{is_legal}
 use Rattle.chess_board.specs.Laws.{IsLegal}
 use Rattle.san_text.specs.Spelling.{Target, capture_sign, unmarked, file_named}
 use Rattle.san_text.specs.Spelling.{rank_named, kind_named, square_read}
-use Rattle.san_text.specs.Writing.{same_kind, kind_at, letter, file_letter}
+use Rattle.san_text.specs.Writing.{same_san_kind, kind_at, letter, file_letter}
 use Rattle.san_text.specs.Writing.{rank_digit, promotion_letters}
 
 abbrev pub dash : ℕ
@@ -28,7 +28,7 @@ abbrev pub bare_promotion : Option Kind → List ℕ
 bare_promotion None = []
 bare_promotion (Some kind) = letter kind
 
--- The long form of a move: the letter of the man on the square that it leaves (a pawn has
+-- The long form of a move: the letter of the piece on the square that it leaves (a pawn has
 -- none), this square, `-` or `x`, the square reached, and the letter of what a pawn becomes,
 -- with or without `=` before it.
 pub record IsLongForm (p : Position) (m : Move) (text : List ℕ) : Type 0 where
@@ -75,20 +75,20 @@ way_read (f ∷ r ∷ link ∷ rest) =
     if is_link link then way_from (file_named f) (rank_named r) (square_read rest) else None
 way_read _ = None
 
--- whether a man of such a kind may legally go so
+-- whether a piece of such a kind may legally go so
 abbrev pub may_move : Position → Kind → Way → Bool
-may_move p man way =
-    same_kind (kind_at p way.from) man && is_legal p way.from way.target.to way.target.promotion
+may_move p occupant way =
+    same_san_kind (kind_at p way.from) occupant && is_legal p way.from way.target.to way.target.promotion
 
 abbrev pub moved_by : Position → Kind → Option Way → Option Way
-moved_by p man None = None
-moved_by p man (Some way) = if may_move p man way then Some way else None
+moved_by p occupant None = None
+moved_by p occupant (Some way) = if may_move p occupant way then Some way else None
 
--- a man by its letter, or a pawn
-abbrev pub man_moved : Position → Option Kind → ℕ → List ℕ → Option Way
-man_moved p (Some man) b bs = moved_by p man (way_read bs)
-man_moved p None b bs = moved_by p Pawn (way_read (b ∷ bs))
+-- a piece by its letter, or a pawn
+abbrev pub piece_moved : Position → Option Kind → ℕ → List ℕ → Option Way
+piece_moved p (Some occupant) b bs = moved_by p occupant (way_read bs)
+piece_moved p None b bs = moved_by p Pawn (way_read (b ∷ bs))
 
 abbrev pub long_read : Position → List ℕ → Option Way
 long_read p [] = None
-long_read p (b ∷ bs) = man_moved p (kind_named b) b bs
+long_read p (b ∷ bs) = piece_moved p (kind_named b) b bs

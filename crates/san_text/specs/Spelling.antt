@@ -1,4 +1,4 @@
--- How a text in standard algebraic notation is read, whatever is on the board.
+-- The reading of a text in standard algebraic notation, whatever is on the board.
 use Rattle.std.specs.Prelude.{ℕ, ◌+◌, ◌*◌, ◌-◌, List, [], ◌∷◌, Bool, true, false, ◌&&◌}
 use Rattle.std.specs.Prelude.{◌||◌, if◌then◌else◌, ◌==◌, nat_le, Option, Some, None, codes}
 use Rattle.std.specs.List.{list_all}
@@ -17,7 +17,7 @@ pub record Target : Type 0 where
   pub to : ℕ
   pub promotion : Option Kind
 
--- what a text says: castling, or a man's kind, its file and rank if they are
+-- what a text says: castling, or a piece's kind, its file and rank if they are
 -- given, and the square reached
 pub data SanSpelling : Type 0 where
   Short : SanSpelling
@@ -30,13 +30,13 @@ promotion_sign = 61
 abbrev pub capture_sign : ℕ
 capture_sign = 120
 
-abbrev pub is_mark : ℕ → Bool
-is_mark b = (b == 43 || b == 35) || (b == 33 || b == 63)
+abbrev pub is_check_byte : ℕ → Bool
+is_check_byte b = (b == 43 || b == 35) || (b == 33 || b == 63)
 
 -- without the signs `+`, `#`, `!` and `?` at the end
 abbrev pub unmarked : List ℕ → List ℕ
 unmarked [] = []
-unmarked (b ∷ bs) = if list_all is_mark (b ∷ bs) then [] else b ∷ unmarked bs
+unmarked (b ∷ bs) = if list_all is_check_byte (b ∷ bs) then [] else b ∷ unmarked bs
 
 abbrev pub file_named : ℕ → Option ℕ
 file_named b = if nat_le letter_a b && nat_le b letter_h then Some (b - letter_a) else None
@@ -44,7 +44,7 @@ file_named b = if nat_le letter_a b && nat_le b letter_h then Some (b - letter_a
 abbrev pub rank_named : ℕ → Option ℕ
 rank_named b = if nat_le digit_one b && nat_le b digit_eight then Some (b - digit_one) else None
 
--- the man that a capital letter names
+-- the piece that a capital letter names
 abbrev pub kind_named : ℕ → Option Kind
 kind_named b =
     if b == 75 then Some King
@@ -86,8 +86,8 @@ target_read [] = None
 target_read (b ∷ bs) = if b == capture_sign then square_read bs else square_read (b ∷ bs)
 
 abbrev pub goes : Kind → Option ℕ → Option ℕ → Option Target → Option SanSpelling
-goes man file rank None = None
-goes man file rank (Some target) = Some (Goes man file rank target)
+goes occupant file rank None = None
+goes occupant file rank (Some target) = Some (Goes occupant file rank target)
 
 -- the first reading, else the second
 abbrev pub first_of : Option SanSpelling → Option SanSpelling → Option SanSpelling
@@ -96,31 +96,31 @@ first_of None other = other
 
 -- a rank that is given, and the target after it
 abbrev pub rank_read : Kind → Option ℕ → List ℕ → Option SanSpelling
-rank_read man file [] = None
-rank_read man file (r ∷ rest) = given (rank_named r) where
+rank_read occupant file [] = None
+rank_read occupant file (r ∷ rest) = given (rank_named r) where
   given : Option ℕ → Option SanSpelling
   given None = None
-  given (Some rank) = goes man file (Some rank) (target_read rest)
+  given (Some rank) = goes occupant file (Some rank) (target_read rest)
 
 -- a file that is given, and perhaps a rank, and the target after them
 abbrev pub file_read : Kind → List ℕ → Option SanSpelling
-file_read man [] = None
-file_read man (f ∷ rest) = given (file_named f) where
+file_read occupant [] = None
+file_read occupant (f ∷ rest) = given (file_named f) where
   given : Option ℕ → Option SanSpelling
   given None = None
   given (Some file) =
-      first_of (goes man (Some file) None (target_read rest)) (rank_read man (Some file) rest)
+      first_of (goes occupant (Some file) None (target_read rest)) (rank_read occupant (Some file) rest)
 
 -- the target alone, or after a file, a rank, or both
 abbrev pub places_read : Kind → List ℕ → Option SanSpelling
-places_read man text =
-    first_of (goes man None None (target_read text))
-    (first_of (file_read man text) (rank_read man None text))
+places_read occupant text =
+    first_of (goes occupant None None (target_read text))
+    (first_of (file_read occupant text) (rank_read occupant None text))
 
 -- an officer after its letter, or a pawn
-abbrev pub man_read : List ℕ → Option SanSpelling
-man_read [] = None
-man_read (b ∷ bs) = named (kind_named b) where
+abbrev pub piece_read : List ℕ → Option SanSpelling
+piece_read [] = None
+piece_read (b ∷ bs) = named (kind_named b) where
   named : Option Kind → Option SanSpelling
   named (Some kind) = places_read kind bs
   named None = places_read Pawn (b ∷ bs)
@@ -128,12 +128,12 @@ man_read (b ∷ bs) = named (kind_named b) where
 abbrev pub is_short : List ℕ → Bool
 is_short text = bytes_eq text (codes "O-O") || bytes_eq text (codes "0-0")
 
-abbrev pub is_long : List ℕ → Bool
-is_long text = bytes_eq text (codes "O-O-O") || bytes_eq text (codes "0-0-0")
+abbrev pub is_long_castling : List ℕ → Bool
+is_long_castling text = bytes_eq text (codes "O-O-O") || bytes_eq text (codes "0-0-0")
 
 abbrev pub read_unmarked : List ℕ → Option SanSpelling
 read_unmarked text =
-    if is_short text then Some Short else (if is_long text then Some Long else man_read text)
+    if is_short text then Some Short else (if is_long_castling text then Some Long else piece_read text)
 
 -- what the text spells
 abbrev pub spelling_of_san : List ℕ → Option SanSpelling
@@ -142,10 +142,10 @@ spelling_of_san text = read_unmarked (unmarked text)
 abbrev pub plain_target : arrival.Target → Target
 plain_target t = record { to = t.to.index; promotion = t.promotion }
 
-abbrev pub plain : code.SanSpelling → SanSpelling
-plain spellings.Short = Short
-plain spellings.Long = Long
-plain (spellings.Goes kind file rank target) = Goes kind file rank (plain_target target)
+abbrev pub plain_spelling : code.SanSpelling → SanSpelling
+plain_spelling spellings.Short = Short
+plain_spelling spellings.Long = Long
+plain_spelling (spellings.Goes kind file rank target) = Goes kind file rank (plain_target target)
 
 abbrev pub plain_targets : Option arrival.Target → Option Target
 plain_targets None = None
@@ -153,4 +153,4 @@ plain_targets (Some t) = Some (plain_target t)
 
 abbrev pub plains : Option code.SanSpelling → Option SanSpelling
 plains None = None
-plains (Some s) = Some (plain s)
+plains (Some s) = Some (plain_spelling s)

@@ -7,10 +7,10 @@ use Rattle.chess_board.specs.declared.board.Kind.TheVariants.{Pawn, Knight, Bish
 use Rattle.chess_board.specs.declared.board.Kind.TheVariants.{Rook, Queen, King}
 use Rattle.chess_board.specs.declared.board.Move.{Move}
 use Rattle.chess_board.specs.contracts.board.KindPartialEq.TheImpl as kinds
-use Rattle.san_text.specs.declared.men.RivalSquares.{RivalSquares}
-use Rattle.san_text.specs.declared.men.RivalSquares.TheVariants.{Board, File, Rank}
+use Rattle.san_text.specs.declared.pieces.RivalSquares.{RivalSquares}
+use Rattle.san_text.specs.declared.pieces.RivalSquares.TheVariants.{Board, File, Rank}
 use Rattle.chess_board.specs.Attack.{is_checked}
-use Rattle.chess_board.specs.Board.{man_at, file_of, rank_of, is_empty}
+use Rattle.chess_board.specs.Board.{piece_at, file_of, rank_of_square, is_vacant}
 use Rattle.chess_board.specs.Board.{is_king_kind, is_pawn_kind, some_square}
 use Rattle.chess_board.specs.Place.{has_any_way}
 use Rattle.chess_board.specs.Position.{Position}
@@ -20,11 +20,11 @@ use Rattle.chess_board.specs.Play.{kind_on, position_after, HasLegal}
 use Rattle.chess_board.specs.Text.{letter_a, digit_one}
 
 -- `==` of two kinds
-abbrev pub same_kind : Kind → Kind → Bool
-same_kind = (kinds.eq-value).it
+abbrev pub same_san_kind : Kind → Kind → Bool
+same_san_kind = (kinds.eq-value).it
 
 abbrev pub kind_at : Position → ℕ → Kind
-kind_at p s = kind_on (man_at p.men s)
+kind_at p s = kind_on (piece_at p.pieces s)
 
 -- the king goes two squares towards a rook: castling
 abbrev pub castles_short : Position → Move → Bool
@@ -37,26 +37,26 @@ castles_long p m =
     is_king_kind (kind_at p m.from.index)
     && ((m.from.index == king_home p.side) && (m.to.index + 2 == king_home p.side))
 
--- a man stands on the square reached, or a pawn leaves its file: also en passant
-abbrev pub is_capture : Position → Move → Bool
-is_capture p m =
-    not (is_empty (man_at p.men m.to.index))
+-- a piece stands on the square reached, or a pawn leaves its file: also en passant
+abbrev pub move_captures : Position → Move → Bool
+move_captures p m =
+    not (is_vacant (piece_at p.pieces m.to.index))
     || (is_pawn_kind (kind_at p m.from.index) && not (file_of m.from.index == file_of m.to.index))
 
--- another man of the kind and side may legally go there, from this square
+-- another piece of the kind and side may legally go there, from this square
 abbrev pub is_rival : Position → Move → ℕ → Bool
 is_rival p m s =
-    (not (s == m.from.index) && same_kind (kind_at p s) (kind_at p m.from.index))
+    (not (s == m.from.index) && same_san_kind (kind_at p s) (kind_at p m.from.index))
     && is_legal p s m.to.index m.promotion
 
 -- on the same file, on the same rank, or anywhere
 abbrev pub is_within : RivalSquares → ℕ → ℕ → Bool
 is_within Board a b = true
 is_within File a b = file_of a == file_of b
-is_within Rank a b = rank_of a == rank_of b
+is_within Rank a b = rank_of_square a == rank_of_square b
 
--- a man of the kind and side that may legally go there stands on another square, on the board, or
--- on the man's file or rank
+-- a piece of the kind and side that may legally go there stands on another square, on the board, or
+-- on the piece's file or rank
 abbrev pub has_rival : Position → Move → RivalSquares → Bool
 has_rival p m within = some_square (λ s. is_within within s m.from.index && is_rival p m s)
 
@@ -64,10 +64,10 @@ abbrev pub file_letter : ℕ → ℕ
 file_letter s = letter_a + file_of s
 
 abbrev pub rank_digit : ℕ → ℕ
-rank_digit s = digit_one + rank_of s
+rank_digit s = digit_one + rank_of_square s
 
 -- nothing, else the file, else the rank, else both: the first that
--- distinguishes the man from the others
+-- distinguishes the piece from the others
 abbrev pub distinction : Position → Move → List ℕ
 distinction p m =
     if not (has_rival p m Board) then []
@@ -75,7 +75,7 @@ distinction p m =
     else (if not (has_rival p m Rank) then rank_digit m.from.index ∷ []
     else file_letter m.from.index ∷ rank_digit m.from.index ∷ []))
 
--- the letter of a man: a pawn has none
+-- the letter of a piece: a pawn has none
 abbrev pub letter : Kind → List ℕ
 letter Pawn = []
 letter Knight = codes "N"
@@ -84,11 +84,11 @@ letter Rook = codes "R"
 letter Queen = codes "Q"
 letter King = codes "K"
 
--- where the man comes from: a pawn's file if it captures, another man's distinction
+-- where the piece comes from: a pawn's file if it captures, another piece's distinction
 abbrev pub origin : Position → Move → List ℕ
 origin p m =
     if is_pawn_kind (kind_at p m.from.index)
-    then (if is_capture p m then file_letter m.from.index ∷ [] else [])
+    then (if move_captures p m then file_letter m.from.index ∷ [] else [])
     else distinction p m
 
 abbrev pub promotion_letters : Option Kind → List ℕ
@@ -99,7 +99,7 @@ abbrev pub target : Move → List ℕ
 target m = file_letter m.to.index ∷ rank_digit m.to.index ∷ promotion_letters m.promotion
 
 abbrev pub capture_text : Position → Move → List ℕ
-capture_text p m = if is_capture p m then codes "x" else []
+capture_text p m = if move_captures p m then codes "x" else []
 
 -- the text without a sign of check or mate
 abbrev pub body : Position → Move → List ℕ
@@ -108,38 +108,38 @@ body p m =
     else (if castles_long p m then codes "O-O-O"
     else letter (kind_at p m.from.index) ++ (origin p m ++ (capture_text p m ++ target m)))
 
-abbrev pub after : Position → Move → Position
-after p m = position_after p m.from.index m.to.index m.promotion
+abbrev pub position_after_move : Position → Move → Position
+position_after_move p m = position_after p m.from.index m.to.index m.promotion
 
 -- `#` if the side on move is mated, else `+` if it is in check, else nothing
-abbrev pub IsMark : Position → List ℕ → Type 0
-IsMark p mark =
-    ((mark ≡ codes "#") × (IsChecked p.men p.side × (¬ HasLegal p)))
-    ⊎ (((mark ≡ codes "+") × (IsChecked p.men p.side × HasLegal p))
-    ⊎ ((mark ≡ []) × (¬ IsChecked p.men p.side)))
+abbrev pub IsCheckMark : Position → List ℕ → Type 0
+IsCheckMark p mark =
+    ((mark ≡ codes "#") × (IsChecked p.pieces p.side × (¬ HasLegal p)))
+    ⊎ (((mark ≡ codes "+") × (IsChecked p.pieces p.side × HasLegal p))
+    ⊎ ((mark ≡ []) × (¬ IsChecked p.pieces p.side)))
 
 -- the text is the move, written
 pub record IsSan (p : Position) (m : Move) (text : List ℕ) : Type 0 where
   pub mark : List ℕ
-  pub fits : IsMark (after p m) mark
+  pub fits : IsCheckMark (position_after_move p m) mark
   pub whole : text ≡ body p m ++ mark
 
 -- the mark as a function: after a move that checks, `+` if the side on move
 -- has a legal move, else `#`
 abbrev pub sign : Position → List ℕ
 sign p =
-    if is_checked p.men p.side then (if has_any_way p then codes "+" else codes "#")
+    if is_checked p.pieces p.side then (if has_any_way p then codes "+" else codes "#")
     else []
 
 -- the text of a move
-unfoldable pub san : Position → Move → List ℕ
-san p m = body p m ++ sign (after p m)
+unfoldable pub san_of_move : Position → Move → List ℕ
+san_of_move p m = body p m ++ sign (position_after_move p m)
 
 -- it is the one text of the move by the standard
 abbrev pub IsTheText : Type 0
-IsTheText = (p : Position) (m : Move) (text : List ℕ) → IsSan p m text ↔ (text ≡ san p m)
+IsTheText = (p : Position) (m : Move) (text : List ℕ) → IsSan p m text ↔ (text ≡ san_of_move p m)
 
 -- No text of a legal move has more than seven bytes.
-abbrev pub AreShort : Type 0
-AreShort =
-    (p : Position) (m : Move) → IsLegal p m.from.index m.to.index m.promotion → length (san p m) ≤ 7
+abbrev pub SanTextsAreShort : Type 0
+SanTextsAreShort =
+    (p : Position) (m : Move) → IsLegal p m.from.index m.to.index m.promotion → length (san_of_move p m) ≤ 7

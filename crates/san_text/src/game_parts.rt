@@ -3,8 +3,8 @@ ghost use Rattle.std.specs.Prelude.{◌≡◌, ◌+◌, ◌*◌, ◌≤◌, ◌+
 ghost use Rattle.line_io.specs.Out.{with};
 ghost use Rattle.chess_board.specs.Laws.{IsLegal};
 ghost use Rattle.game_record.specs.Game.{ply_of, plies_of, AreLegal};
-ghost use Rattle.san_text.specs.GameSan.{san};
-ghost use Rattle.san_text.specs.GameText.{number_by, beginning_by, move_parts, result_by, spaced_parts};
+ghost use Rattle.san_text.specs.GameSan.{san_of_ply};
+ghost use Rattle.san_text.specs.GameText.{move_number_by, first_number_by, move_parts, result_text_by, spaced_parts};
 ghost use Rattle.chess_board.specs.Play.{top_count};
 
 use crate::write_san;
@@ -30,7 +30,7 @@ fn put_number(number: u32, behind: &[u8], out: &mut Out)
 /// Puts what stands before a move by its side: its number, if White plays it.
 fn put_place(at: &Position, out: &mut Out)
     requires room { length out.old.text + 9 ≤ out.old.room }
-    ensures text { out.new ≡ with out.old (spaced_parts (number_by at.now.side at.now.full)) }
+    ensures text { out.new ≡ with out.old (spaced_parts (move_number_by at.now.side at.now.full)) }
     ensures few { length out.new.text ≤ length out.old.text + 7 }
 {
     at.facts();
@@ -44,7 +44,7 @@ fn put_place(at: &Position, out: &mut Out)
 pub fn put_beginning(start: &Position, out: &mut Out)
     requires room { length out.old.text + 9 ≤ out.old.room }
     ensures text { out.new
-        ≡ with out.old (spaced_parts (beginning_by start.now.side start.now.full)) }
+        ≡ with out.old (spaced_parts (first_number_by start.now.side start.now.full)) }
     ensures few { length out.new.text ≤ length out.old.text + 9 }
 {
     start.facts();
@@ -59,7 +59,8 @@ fn put_move(at: &Position, m: Move, out: &mut Out)
     requires legal { IsLegal at.now m.from.index m.to.index m.promotion }
     requires room { length out.old.text + 17 ≤ out.old.room }
     ensures text { out.new ≡ with out.old
-        (spaced_parts (number_by at.now.side at.now.full ++ san at.now (ply_of m) ∷ [])) }
+        (spaced_parts (move_number_by at.now.side at.now.full ++ san_of_ply at.now (ply_of m) ∷
+        [])) }
     ensures few { length out.new.text ≤ length out.old.text + 15 }
 {
     put_place(at, out);
@@ -84,7 +85,7 @@ pub fn put_moves(start: &Position, moves: &[Move], out: &mut Out)
 
 /// The result of a game that has ended so, or has not, if this side is on move.
 pub fn result_text(side: Side, ended: Option<GameEnd>) -> &'static [u8]
-    ensures text { result.now ≡ result_by side ended }
+    ensures text { result.now ≡ result_text_by side ended }
     ensures short { length result.now ≤ 7 }
 {
     match (side, ended) {

@@ -1,6 +1,6 @@
 // Laws of what is written and read.
 ghost use Rattle.san_text.specs.Fit.{IsReadBack, TextsDiffer};
-ghost use Rattle.san_text.specs.Writing.{AreShort, IsTheText};
+ghost use Rattle.san_text.specs.Writing.{SanTextsAreShort, IsTheText};
 
 /// The text of a legal move fits it and no other legal move, and different legal moves of a position
 /// have different texts.
@@ -12,5 +12,5 @@ pub fn texts_tell_moves_apart()
 /// A move has one text, of at most seven bytes.
 pub fn moves_have_one_text()
     ensures one { IsTheText }
-    ensures short { AreShort }
+    ensures short { SanTextsAreShort }
 {}

@@ -4,6 +4,23 @@
 //!
 //! The spelling of the notation is that of appendix C of the FIDE Laws of Chess, with the distinctions of the export
 //! format of the PGN standard (8.2.3); the text of a game is that of its sections 8.2 and 9.7.2. No call takes memory.
+//!
+//! `read_san` gives the one legal move that fits a text, or says that the text has no spelling, that no legal
+//! move fits, or that more than one does. `write_san` writes of a legal move the one text that the standard
+//! gives it, of at most seven bytes, which fits that move alone. `write_game` writes the moves of a game with
+//! their numbers and the result, in at most `GAME_ROOM` bytes.
+//!
+//! An example, which a test runs on the runtime `rt`:
+//!
+//! ```
+//! let start = Position::start();
+//! let knight = read_san(&start, b"Nf3").expect(&rt, "a legal move");
+//! assert!(rt; Some(knight) == read_move(b"g1f3"));
+//! assert!(rt; start.legal(knight));
+//! assert!(rt; write_san(&start, knight).as_slice() == b"Nf3".as_slice());
+//! assert!(rt; read_san(&start, b"Nd4") == Err(SanFault::NoFit));
+//! assert!(rt; read_san(&start, b"knight") == Err(SanFault::BadSan));
+//! ```
 #![tactic(auto)]
 
 mod fault;
@@ -12,7 +29,7 @@ mod game_laws;
 mod game_parts;
 mod laws;
 mod long_form;
-mod men;
+mod pieces;
 mod reading;
 mod spelling;
 mod writing;

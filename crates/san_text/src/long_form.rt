@@ -3,7 +3,7 @@ ghost use Rattle.std.specs.Prelude.{◌≡◌, ◌||◌, ◌==◌};
 ghost use Rattle.std.specs.Option.{option_map};
 ghost use Rattle.san_text.specs.LongForm.{is_link, way_of, way_read, moved_by, long_read, IsLongRead};
 
-use crate::men::kind_at;
+use crate::pieces::kind_at;
 use crate::spelling::{file_named, kind_named, rank_named, read_square, unmarked};
 use chess_board::{Kind, Move, Position, Square};
 
@@ -33,7 +33,7 @@ fn read_way(text: &[u8]) -> Option<Move>
     })
 }
 
-// The legal move of a man of such a kind.
+// The legal move of a piece of such a kind.
 fn read_moved(at: &Position, kind: Kind, text: &[u8]) -> Option<Move>
     ensures { option_map way_of result ≡ moved_by at.now kind (way_read text.now) }
 {
@@ -46,7 +46,7 @@ fn read_moved(at: &Position, kind: Kind, text: &[u8]) -> Option<Move>
 }
 
 // The legal move of an officer after its letter, or of a pawn.
-fn read_man(at: &Position, text: &[u8]) -> Option<Move>
+fn read_piece(at: &Position, text: &[u8]) -> Option<Move>
     ensures { option_map way_of result ≡ long_read at.now text.now }
 {
     let [letter, rest @ ..] = text else {
@@ -60,11 +60,11 @@ fn read_man(at: &Position, text: &[u8]) -> Option<Move>
 
 /// The legal move that a text is in long algebraic form: `Nb1-c3`, `e4xd5`, `e7-e8=Q+`.
 ///
-/// The form is the letter of the man (a pawn has none), the square that it leaves, `-` or `x`, the
+/// The form is the letter of the piece (a pawn has none), the square that it leaves, `-` or `x`, the
 /// square reached, and the letter of what a pawn becomes, with or without `=` before it. Signs `+`,
 /// `#`, `!` and `?` at the end are dropped. Whether there is a `-` or an `x` is not compared.
 pub fn read_long_form(at: &Position, text: &[u8]) -> Option<Move>
     ensures { IsLongRead at.now text.now result }
 {
-    read_man(at, unmarked(text))
+    read_piece(at, unmarked(text))
 }

@@ -2,12 +2,12 @@
 ghost use Rattle.std.specs.Prelude.{◌≡◌, ℕ};
 ghost use Rattle.chess_board.specs.declared.board.Move.{Move as AnyMove};
 ghost use Rattle.chess_board.specs.Laws.{IsLegal};
-ghost use Rattle.san_text.specs.Fit.{agrees, allows, IsRead};
+ghost use Rattle.san_text.specs.Fit.{agrees, allows, SanReads};
 ghost use Rattle.san_text.specs.Writing.{IsSan};
-ghost use Rattle.san_text.specs.Spelling.{Goes, plain, plain_target};
+ghost use Rattle.san_text.specs.Spelling.{Goes, plain_spelling, plain_target};
 
 use crate::SanFault;
-use crate::men::{castles_long, castles_short, kind_at};
+use crate::pieces::{castles_long, castles_short, kind_at};
 use crate::spelling::{SanSpelling, Target, read_spelling};
 use chess_board::{Kind, Move, Position};
 
@@ -21,7 +21,7 @@ fn allows(given: Option<u8>, number: u8) -> bool
     }
 }
 
-// Whether a move that is not castling agrees with what is given of its man and its target.
+// True if a move that is not castling agrees with what is given of its piece and its target.
 fn goes_so(
     at: &Position,
     m: Move,
@@ -33,15 +33,15 @@ fn goes_so(
     ensures { result ≡ agrees at.now (Goes kind file rank (plain_target target.now)) m }
 {
     let castles = castles_short(at, m) || castles_long(at, m);
-    let man = !castles && kind_at(at, m.from) == kind;
+    let occupant = !castles && kind_at(at, m.from) == kind;
     let origin = allows(file, m.from.file()) && allows(rank, m.from.rank());
     let arrival = m.to.index == target.to.index && m.promotion == target.promotion;
-    man && (origin && arrival)
+    occupant && (origin && arrival)
 }
 
-// Whether a move agrees with a spelling.
+// True if a move agrees with a spelling.
 fn agrees(at: &Position, spelling: &SanSpelling, m: Move) -> bool
-    ensures { result ≡ agrees at.now (plain spelling.now) m }
+    ensures { result ≡ agrees at.now (plain_spelling spelling.now) m }
 {
     match spelling {
         SanSpelling::Short => castles_short(at, m),
@@ -57,11 +57,11 @@ fn agrees(at: &Position, spelling: &SanSpelling, m: Move) -> bool
 
 /// The one legal move that fits a text.
 ///
-/// A legal move fits if its man, the file and rank that are given, the square reached and the
+/// A legal move fits if its piece, the file and rank that are given, the square reached and the
 /// promotion agree with the text. Castling fits its own texts alone. Whether there is an `x`, or a sign of
 /// check or mate, is not compared.
 pub fn read_san(at: &Position, text: &[u8]) -> Result<Move, SanFault>
-    ensures read { IsRead at.now text.now result }
+    ensures read { SanReads at.now text.now result }
     ensures written { (m : AnyMove) → IsLegal at.now m.from.index m.to.index m.promotion
         → IsSan at.now m text.now → result ≡ Ok m }
 {

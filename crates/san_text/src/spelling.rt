@@ -1,6 +1,6 @@
-// How a text is read, whatever is on the board.
+// The reading of a text, whatever is on the board.
 ghost use Rattle.std.specs.Prelude.{◌≡◌, IfSome, ◌<◌};
-ghost use Rattle.san_text.specs.Spelling.{unmarked, is_mark, file_named, rank_named, kind_named, promoted, promotion_read, square_read, target_read, rank_read, file_read, places_read, man_read, spelling_of_san, plain_targets, plains, goes};
+ghost use Rattle.san_text.specs.Spelling.{unmarked, is_check_byte, file_named, rank_named, kind_named, promoted, promotion_read, square_read, target_read, rank_read, file_read, places_read, piece_read, spelling_of_san, plain_targets, plains, goes};
 
 use chess_board::{Kind, Square};
 
@@ -11,7 +11,7 @@ pub struct Target {
     pub promotion: Option<Kind>,
 }
 
-/// What a text says: castling, or a man's kind, its file and rank, counted from 0, if they are
+/// The content of a text: castling, or a piece's kind, its file and rank, counted from 0, if they are
 /// given, and the square reached.
 #[derive(Clone, Copy)]
 pub enum SanSpelling {
@@ -26,7 +26,7 @@ pub enum SanSpelling {
 }
 
 fn is_mark(byte: u8) -> bool
-    ensures { result ≡ is_mark byte }
+    ensures { result ≡ is_check_byte byte }
 {
     byte == b'+' || byte == b'#' || byte == b'!' || byte == b'?'
 }
@@ -69,7 +69,7 @@ pub fn rank_named(byte: u8) -> Option<u8>
     }
 }
 
-/// The man that a capital letter names.
+/// The piece that a capital letter names.
 pub fn kind_named(byte: u8) -> Option<Kind>
     ensures { result ≡ kind_named byte }
 {
@@ -133,7 +133,7 @@ fn read_target(text: &[u8]) -> Option<Target>
     }
 }
 
-// What a target after such a man, file and rank spells.
+// The spelling of a target after such a piece, file and rank.
 fn goes(
     kind: Kind,
     file: Option<u8>,
@@ -192,8 +192,8 @@ fn read_places(kind: Kind, text: &[u8]) -> Option<SanSpelling>
 }
 
 // An officer after its letter, or a pawn.
-fn read_man(text: &[u8]) -> Option<SanSpelling>
-    ensures { plains result ≡ man_read text.now }
+fn read_piece(text: &[u8]) -> Option<SanSpelling>
+    ensures { plains result ≡ piece_read text.now }
 {
     let [letter, rest @ ..] = text else {
         return None;
@@ -204,7 +204,7 @@ fn read_man(text: &[u8]) -> Option<SanSpelling>
     }
 }
 
-/// What a text spells.
+/// The spelling of a text.
 ///
 /// Signs `+`, `#`, `!` and `?` at the end are dropped. The rest is `O-O`, `O-O-O`, `0-0` or
 /// `0-0-0`; or an optional letter of `KQRBN`, an optional file, an optional rank, an optional `x`,
@@ -219,5 +219,5 @@ pub fn read_spelling(text: &[u8]) -> Option<SanSpelling>
     if text == b"O-O-O".as_slice() || text == b"0-0-0".as_slice() {
         return Some(SanSpelling::Long);
     }
-    read_man(text)
+    read_piece(text)
 }

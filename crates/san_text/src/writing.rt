@@ -3,13 +3,13 @@ ghost use Rattle.std.specs.Prelude.{◌≡◌, ◌+◌, ◌≤◌, ◌<◌, ◌+
 ghost use Rattle.arrayvec.specs.ArrayVec.{array_vec_len};
 ghost use Rattle.chess_board.specs.Laws.{IsLegal};
 ghost use Rattle.san_text.specs.Fit.{FitsAlone};
-ghost use Rattle.san_text.specs.Writing.{letter, file_letter, rank_digit, distinction, origin, promotion_letters, body, kind_at, san, IsMark, IsSan};
+ghost use Rattle.san_text.specs.Writing.{letter, file_letter, rank_digit, distinction, origin, promotion_letters, body, kind_at, san_of_move, IsCheckMark, IsSan};
 
-use crate::men::{RivalSquares, castles_long, castles_short, has_rival, is_capture, kind_at};
+use crate::pieces::{RivalSquares, castles_long, castles_short, has_rival, is_capture, kind_at};
 use arrayvec::ArrayVec;
 use chess_board::{Kind, Move, Position, Square, State};
 
-// The letter of a man: a pawn has none.
+// The letter of a piece: a pawn has none.
 fn letter(kind: Kind) -> &'static [u8]
     ensures { result.now ≡ letter kind }
 {
@@ -37,7 +37,7 @@ fn promotion_letters(promotion: Option<Kind>) -> &'static [u8]
     }
 }
 
-// What distinguishes the man from others of its kind that may go there: nothing, a file, a rank, or both.
+// The distinction of the piece from others of its kind that may go there: nothing, a file, a rank, or both.
 fn distinction(at: &Position, m: Move) -> ArrayVec<u8, 2>
     ensures { result.items ≡ distinction at.now m }
 {
@@ -58,7 +58,7 @@ fn distinction(at: &Position, m: Move) -> ArrayVec<u8, 2>
     text
 }
 
-// Where the man comes from: a pawn's file if it captures, another man's distinction.
+// Where the piece comes from: a pawn's file if it captures, another piece's distinction.
 fn origin(at: &Position, m: Move) -> ArrayVec<u8, 2>
     ensures { result.items ≡ origin at.now m }
 {
@@ -117,7 +117,7 @@ fn body(at: &Position, m: Move) -> ArrayVec<u8, 7>
 
 // `#` if the side on move is mated, else `+` if it is in check.
 fn mark(after: &Position) -> &'static [u8]
-    ensures fits { IsMark after.now result.now }
+    ensures fits { IsCheckMark after.now result.now }
     ensures short { length result.now ≤ 1 }
 {
     match after.state() {
@@ -130,13 +130,13 @@ fn mark(after: &Position) -> &'static [u8]
 /// The text of a legal move.
 ///
 /// Castling is `O-O` or `O-O-O`. A pawn's move is its file and `x` if it captures, the square
-/// reached, and `=` with the letter of the man that it becomes. Another man's move is its letter of
+/// reached, and `=` with the letter of the piece that it becomes. Another piece's move is its letter of
 /// `KQRBN`, what distinguishes it from others that may go there, `x` if it captures, and the square
 /// reached. `#` follows if the move mates, else `+` if it checks.
 pub fn write_san(at: &Position, m: Move) -> ArrayVec<u8, 7>
     requires { IsLegal at.now m.from.index m.to.index m.promotion }
     ensures written { IsSan at.now m result.items }
-    ensures text { result.items ≡ san at.now m }
+    ensures text { result.items ≡ san_of_move at.now m }
     ensures alone { FitsAlone at.now result.items m }
 {
     let mut text = body(at, m);

@@ -10,7 +10,7 @@ use Rattle.std.proofs.lemmas.Bool.{and_parts}
 use Rattle.std.proofs.lemmas.Option.{cond_some}
 use Rattle.std.proofs.lemmas.Slice.Eq.{bytes_eq-Decides}
 use Rattle.std.proofs.lemmas.Fmt.{length-decimal-le}
-use Rattle.peer_words.specs.Tokens.{is_white, is_token, rest, tokens}
+use Rattle.peer_words.specs.Tokens.{is_white, is_token, rest_after_token, tokens}
 use Rattle.peer_words.proofs.TokenLists.{tokens_more, tokens_alone, tokens_some}
 use Rattle.peer_words.proofs.Written.{decimal_digits, digits_decimal}
 use Rattle.peer_words.proofs.Runs.{all_of}
@@ -23,14 +23,14 @@ use Rattle.policy_rules.specs.declared.table.Value.{Value}
 use Rattle.policy_rules.specs.declared.table.Value.TheVariants.{Truth, Number}
 use Rattle.policy_rules.specs.declared.table.Choice.{Choice}
 use Rattle.policy_rules.specs.Policy.{IsProper, usual}
-use Rattle.policy_rules.specs.Table.{IsWithin, first_settings, has_usual_rest, is_same, is_usual, is_usual_in, later_settings, name_of, range_of, settings, truth_text, value_of, value_text, with_value}
-use Rattle.policy_rules.specs.Words.{choice_at, choice_for, choice_of, choices_of, value_in, with_choices, with_first, within}
-use Rattle.script_lines.specs.Header.{SpellsHeader, header_of, header_text, header_with, if_written, settings_in, word_of, words_text}
+use Rattle.policy_rules.specs.Table.{IsWithinRange, first_settings, has_usual_rest, is_same_value, is_usual, is_usual_in, later_settings, name_of, range_of_setting, settings, truth_text, setting_value, setting_value_text, settings_with_value}
+use Rattle.policy_rules.specs.Words.{choice_at, choice_for, choice_of, choices_of, range_value, with_choices, with_first, within}
+use Rattle.script_lines.specs.Header.{SpellsHeader, header_of, header_text, header_with, if_written, header_settings_in, setting_word_of, words_text}
 use Rattle.script_lines.proofs.Numerals.{same_text}
 
 -- VALUES
 
-pub is_within : (s : Settings) → IsProper s → (r : Setting) → IsWithin (range_of r) (value_of s r)
+pub is_within : (s : Settings) → IsProper s → (r : Setting) → IsWithinRange (range_of_setting r) (setting_value s r)
 is_within s p names.ResignMoves = (p.some_moves, p.few_moves)
 is_within s p names.ResignScore = (omega arith, p.low_score)
 is_within s p r = tt
@@ -40,7 +40,7 @@ abbrev pub IsSmall : Value → Type 0
 IsSmall (Truth b) = Unit {0}
 IsSmall (Number n) = n < 10 ^ 6
 
-pub is_small : (s : Settings) → IsProper s → (r : Setting) → IsSmall (value_of s r)
+pub is_small : (s : Settings) → IsProper s → (r : Setting) → IsSmall (setting_value s r)
 is_small s p names.ResignMoves = let m = p.few_moves in omega arith
 is_small s p names.ResignScore = let m = p.low_score in omega arith
 is_small s p r = tt
@@ -49,7 +49,7 @@ in_range : (low high n : ℕ) → low ≤ n → n ≤ high → (nat_le low n && 
 in_range low high n a b = grind (arith, nat_tests)
 
 -- what is written of a value is read again
-value_again : (range : Range) (v : Value) → IsWithin range v → IsSmall v → value_in range (value_text v) ≡ Some v
+value_again : (range : Range) (v : Value) → IsWithinRange range v → IsSmall v → range_value range (setting_value_text v) ≡ Some v
 value_again ranges.Truth (Truth true) w k = refl
 value_again ranges.Truth (Truth false) w k = refl
 value_again ranges.Truth (Number n) w k = absurd w
@@ -73,23 +73,23 @@ named_again r text = named_by r text (behind_name (name_of r) text)
 
 -- what the settings choose under a name
 abbrev pub choice_in : Settings → Setting → Choice
-choice_in s r = record { setting = r; value = value_of s r }
+choice_in s r = record { setting = r; value = setting_value s r }
 
-choice_again : (s : Settings) → IsProper s → (r : Setting) → choice_of (word_of s r) ≡ Some (choice_in s r)
+choice_again : (s : Settings) → IsProper s → (r : Setting) → choice_of (setting_word_of s r) ≡ Some (choice_in s r)
 choice_again s p r =
-    named_again r (value_text (value_of s r))
-    ∙ ap (λ (o : Option Value). option_map (λ v. record { setting = r; value = v }) o) (value_again (range_of r) (value_of s r) (is_within s p r) (is_small s p r))
+    named_again r (setting_value_text (setting_value s r))
+    ∙ ap (λ (o : Option Value). option_map (λ v. record { setting = r; value = v }) o) (value_again (range_of_setting r) (setting_value s r) (is_within s p r) (is_small s p r))
 
-choices_again : (s : Settings) → IsProper s → (list : List Setting) → choices_of (map (word_of s) list) ≡ Some (map (choice_in s) list)
+choices_again : (s : Settings) → IsProper s → (list : List Setting) → choices_of (map (setting_word_of s) list) ≡ Some (map (choice_in s) list)
 choices_again s p [] = refl
 choices_again s p (r ∷ rs) =
-    ap (λ (o : Option Choice). with_first o (choices_of (map (word_of s) rs))) (choice_again s p r)
+    ap (λ (o : Option Choice). with_first o (choices_of (map (setting_word_of s) rs))) (choice_again s p r)
     ∙ ap (λ (o : Option (List Choice)). with_first (Some (choice_in s r)) o) (choices_again s p rs)
 
 no_blank : (c : ℕ) → is_ascii_digit c ≡ true → not (is_white c) ≡ true
 no_blank c h = grind (arith, nat_tests)
 
-value_black : (v : Value) → IsSmall v → list_all (λ b. not (is_white b)) (value_text v) ≡ true
+value_black : (v : Value) → IsSmall v → list_all (λ b. not (is_white b)) (setting_value_text v) ≡ true
 value_black (Truth true) k = refl
 value_black (Truth false) k = refl
 value_black (Number n) k = all_of is_ascii_digit (λ b. not (is_white b)) no_blank (decimal n) (decimal_digits n (omega arith))
@@ -101,16 +101,16 @@ name_black r text = refl
 token_by : (text : List ℕ) → 0 < length text → list_all (λ b. not (is_white b)) text ≡ true → is_token text ≡ true
 token_by text l h = let some : nat_lt 0 (length text) ≡ true = grind (arith, nat_tests) in rw (some, h) refl
 
-word_token : (s : Settings) → IsProper s → (r : Setting) → is_token (word_of s r) ≡ true
+word_token : (s : Settings) → IsProper s → (r : Setting) → is_token (setting_word_of s r) ≡ true
 word_token s p r =
-    let text = value_text (value_of s r) in
-    token_by (word_of s r) (omega (arith, length-append (name_of r) (61 ∷ text))) (name_black r text ∙ value_black (value_of s r) (is_small s p r))
+    let text = setting_value_text (setting_value s r) in
+    token_by (setting_word_of s r) (omega (arith, length-append (name_of r) (61 ∷ text))) (name_black r text ∙ value_black (setting_value s r) (is_small s p r))
 
-words_tokens : (s : Settings) → IsProper s → (list : List Setting) (first : List ℕ) → is_token first ≡ true → tokens (first ++ words_text s list) ≡ first ∷ map (word_of s) list
+words_tokens : (s : Settings) → IsProper s → (list : List Setting) (first : List ℕ) → is_token first ≡ true → tokens (first ++ words_text s list) ≡ first ∷ map (setting_word_of s) list
 words_tokens s p [] first t = ap tokens (append-nil first) ∙ tokens_alone first t
 words_tokens s p (r ∷ rs) first t =
-    tokens_more first (word_of s r ++ words_text s rs) 32 t refl
-    ∙ ap (λ ts. first ∷ ts) (words_tokens s p rs (word_of s r) (word_token s p r))
+    tokens_more first (setting_word_of s r ++ words_text s rs) 32 t refl
+    ∙ ap (λ ts. first ∷ ts) (words_tokens s p rs (setting_word_of s r) (word_token s p r))
 
 -- HEADERS
 
@@ -137,7 +137,7 @@ tails : (a b : List ℕ) (x y : List (List ℕ)) → a ∷ x ≡ b ∷ y → x �
 tails a b x y e = cc
 
 -- the words of a header
-header_tokens : (usual : Bool) (s : Settings) → IsProper s → tokens (rest (header_by usual s)) ≡ map (word_of s) (list_of usual)
+header_tokens : (usual : Bool) (s : Settings) → IsProper s → tokens (rest_after_token (header_by usual s)) ≡ map (setting_word_of s) (list_of usual)
 header_tokens true s p =
     let line = header_by true s in
     tails _ _ _ _ (sym (tokens_some line 35 (50 ∷ []) refl) ∙ words_tokens s p first_settings (35 ∷ 50 ∷ []) refl)
@@ -149,20 +149,20 @@ header_tokens false s p =
 all_chosen : (s : Settings) → with_choices usual (map (choice_in s) settings) ≡ s
 all_chosen s = refl
 
-same_truth : (a b : Bool) → is_same (Truth a) (Truth b) ≡ true → Truth a ≡ Truth b
+same_truth : (a b : Bool) → is_same_value (Truth a) (Truth b) ≡ true → Truth a ≡ Truth b
 same_truth true true h = refl
 same_truth true false h = cc
 same_truth false true h = cc
 same_truth false false h = refl
 
-same_value : (a b : Value) → is_same a b ≡ true → a ≡ b
+same_value : (a b : Value) → is_same_value a b ≡ true → a ≡ b
 same_value (Truth a) (Truth b) h = same_truth a b h
 same_value (Truth a) (Number n) h = cc
 same_value (Number m) (Truth b) h = cc
 same_value (Number m) (Number n) h = let same : m ≡ n = grind (arith, nat_tests) in ap (λ k. Number k) same
 
 -- what is chosen as it is
-unchanged : (s : Settings) (r : Setting) → with_value s r (value_of s r) ≡ s
+unchanged : (s : Settings) (r : Setting) → settings_with_value s r (setting_value s r) ≡ s
 unchanged s names.Resign = refl
 unchanged s r = refl
 
@@ -172,8 +172,8 @@ usual_chosen s t [] h k = refl
 usual_chosen s t (r ∷ rs) h k =
     let one = and_parts (is_usual s r) (is_usual_in rs s) h in
     let two = and_parts (is_usual t r) (is_usual_in rs t) k in
-    let same = same_value (value_of s r) (value_of usual r) one.0 ∙ sym (same_value (value_of t r) (value_of usual r) two.0) in
-    ap (λ u. with_choices u (map (choice_in s) rs)) (ap (with_value t r) same ∙ unchanged t r)
+    let same = same_value (setting_value s r) (setting_value usual r) one.0 ∙ sym (same_value (setting_value t r) (setting_value usual r) two.0) in
+    ap (λ u. with_choices u (map (choice_in s) rs)) (ap (settings_with_value t r) same ∙ unchanged t r)
     ∙ usual_chosen s t rs one.1 two.1
 
 -- those of the first ones do so if all others have their usual values
@@ -184,11 +184,11 @@ chosen : (v : Bool) (s : Settings) → has_usual_rest s ≡ v → with_choices u
 chosen true s h = first_chosen s h
 chosen false s h = all_chosen s
 
-settings_again : (s : Settings) → IsProper s → settings_in (tokens (rest (header_text s))) ≡ Some s
+settings_again : (s : Settings) → IsProper s → header_settings_in (tokens (rest_after_token (header_text s))) ≡ Some s
 settings_again s p =
     let v = has_usual_rest s in
-    ap (λ line. settings_in (tokens (rest line))) (header_words s)
-    ∙ ap settings_in (header_tokens v s p)
+    ap (λ line. header_settings_in (tokens (rest_after_token line))) (header_words s)
+    ∙ ap header_settings_in (header_tokens v s p)
     ∙ ap (option_map (with_choices usual)) (choices_again s p (list_of v))
     ∙ ap Some (chosen v s refl)
 
@@ -205,7 +205,7 @@ written_by (Some t) line s h =
 
 -- what is read is spelled so
 pub header_spelled : (line : List ℕ) (s : Settings) → IsProper s → header_of line ≡ Some s → SpellsHeader line s
-header_spelled line s p h = record { proper = p; text = written_by (settings_in (tokens (rest line))) line s h }
+header_spelled line s p h = record { proper = p; text = written_by (header_settings_in (tokens (rest_after_token line))) line s h }
 
 pub spelled_header : (line : List ℕ) (s : Settings) → SpellsHeader line s → header_of line ≡ Some s
 spelled_header line s h = ap header_of h.text ∙ header_again s h.proper
@@ -224,7 +224,7 @@ most_value names.ResignMoves = 4
 most_value names.ResignScore = 6
 most_value r = 5
 
-short_value : (s : Settings) → IsProper s → (r : Setting) → length (value_text (value_of s r)) ≤ most_value r
+short_value : (s : Settings) → IsProper s → (r : Setting) → length (setting_value_text (setting_value s r)) ≤ most_value r
 short_value s p names.Resign = short_truth s.resign
 short_value s p names.ResignMoves = length-decimal-le 4 s.resign_moves (lit< tt) (let m = p.few_moves in omega arith) (omega arith)
 short_value s p names.ResignScore = length-decimal-le 6 s.resign_score (lit< tt) (let m = p.low_score in omega arith) (omega arith)
@@ -241,14 +241,14 @@ words_length s p (r ∷ rs) =
     let v = short_value s p r in
     omega (
       arith,
-      length-append (name_of r) (61 ∷ value_text (value_of s r)),
-      length-append (word_of s r) (words_text s rs),
+      length-append (name_of r) (61 ∷ setting_value_text (setting_value s r)),
+      length-append (setting_word_of s r) (words_text s rs),
     )
 
 -- the first word of a list has its room in the words of all
-pub first_word : (s : Settings) (list : List Setting) → 1 ≤ length list → length (word_of s (slice_index_or list 0 names.Resign)) + 1 ≤ length (words_text s list)
+pub first_word : (s : Settings) (list : List Setting) → 1 ≤ length list → length (setting_word_of s (slice_index_or list 0 names.Resign)) + 1 ≤ length (words_text s list)
 first_word s [] h = absurd (omega arith)
-first_word s (r ∷ rs) h = omega (arith, length-append (32 ∷ word_of s r) (words_text s rs))
+first_word s (r ∷ rs) h = omega (arith, length-append (32 ∷ setting_word_of s r) (words_text s rs))
 
 length_by : (usual : Bool) (s : Settings) → IsProper s → length (header_by usual s) ≤ 163
 length_by true s p = let l = words_length s p first_settings in omega arith

@@ -9,14 +9,14 @@ use Rattle.peer_words.proofs.Written.{decimal_digits}
 use Rattle.line_io.specs.Event.{has_feed}
 use Rattle.policy_rules.specs.declared.settings.Settings.{Settings}
 use Rattle.policy_rules.specs.Policy.{IsProper}
-use Rattle.script_lines.specs.Marks.{SpellsNone, mark_of}
+use Rattle.script_lines.specs.Marks.{SpellsNone, mark_spelled}
 use Rattle.policy_rules.specs.declared.table.Setting.{Setting}
 use Rattle.policy_rules.specs.declared.table.Setting.TheVariants as names
 use Rattle.policy_rules.specs.declared.table.Value.{Value}
 use Rattle.policy_rules.specs.declared.table.Value.TheVariants.{Truth, Number}
-use Rattle.policy_rules.specs.Table.{first_settings, has_usual_rest, name_of, settings, truth_text, value_of, value_text}
-use Rattle.script_lines.specs.Header.{header_text, word_of, words_text}
-use Rattle.script_lines.specs.StepLine.{step_line}
+use Rattle.policy_rules.specs.Table.{first_settings, has_usual_rest, name_of, settings, truth_text, setting_value, setting_value_text}
+use Rattle.script_lines.specs.Header.{header_text, setting_word_of, words_text}
+use Rattle.script_lines.specs.StepLine.{step_number_line}
 use Rattle.script_lines.specs.Kinds.{LinesAreOfOneKind, HeadersAreLines, StepLinesAreLines}
 use Rattle.script_lines.proofs.Spelled.{read_of, none_some}
 use Rattle.script_lines.proofs.Numerals.{step_length}
@@ -24,7 +24,7 @@ use Rattle.script_lines.proofs.Headers.{IsSmall, is_small, header_by, header_len
 
 -- a line that begins so has no mark
 no_mark : (line rest : List ℕ) (sign : ℕ) → line ≡ 35 ∷ sign ∷ rest → SpellsNone line
-no_mark line rest sign e = λ mark s. none_some (sym (ap mark_of e) ∙ read_of line mark s)
+no_mark line rest sign e = λ mark s. none_some (sym (ap mark_spelled e) ∙ read_of line mark s)
 
 no_second : (a b : List ℕ) → 35 ∷ 50 ∷ a ≡ 35 ∷ 32 ∷ b → ⊥
 no_second a b e = absurd (cc)
@@ -65,22 +65,22 @@ both_fed (x ∷ xs) b e f = by (x == 10) (has_feed xs) e (λ h. both_fed xs b h 
     by true t e g = absurd (cc)
     by false t e g = g e
 
-pub step_fed : (n : ℕ) → n < 10 ^ 18 → has_feed (step_line n) ≡ false
+pub step_fed : (n : ℕ) → n < 10 ^ 18 → has_feed (step_number_line n) ≡ false
 step_fed n h = number_fed n (omega arith)
 
 name_fed : (r : Setting) (text : List ℕ) → has_feed (name_of r ++ 61 ∷ text) ≡ has_feed text
 name_fed names.Resign text = refl
 name_fed r text = refl
 
-value_fed : (v : Value) → IsSmall v → has_feed (value_text v) ≡ false
+value_fed : (v : Value) → IsSmall v → has_feed (setting_value_text v) ≡ false
 value_fed (Truth b) k = truth_fed b
 value_fed (Number n) k = number_fed n (omega arith)
 
 words_fed : (s : Settings) → IsProper s → (list : List Setting) → has_feed (words_text s list) ≡ false
 words_fed s p [] = refl
 words_fed s p (r ∷ rs) =
-    both_fed (word_of s r) (words_text s rs)
-    (name_fed r (value_text (value_of s r)) ∙ value_fed (value_of s r) (is_small s p r))
+    both_fed (setting_word_of s r) (words_text s rs)
+    (name_fed r (setting_value_text (setting_value s r)) ∙ value_fed (setting_value s r) (is_small s p r))
     (words_fed s p rs)
 
 fed_by : (usual : Bool) (s : Settings) → IsProper s → has_feed (header_by usual s) ≡ false

@@ -10,7 +10,7 @@ use Rattle.std.proofs.lemmas.Bool.{and_parts}
 use Rattle.peer_words.specs.Numbers.{digits}
 use Rattle.peer_words.proofs.Sizes.{digits_small}
 use Rattle.peer_words.proofs.Written.{digits_decimal}
-use Rattle.script_lines.specs.StepLine.{as_written, numeral, step_line, SpellsStep, step_of, step_number}
+use Rattle.script_lines.specs.StepLine.{as_written, numeral, step_number_line, SpellsStep, step_of, step_number}
 
 pub same_text : (text : List ℕ) → bytes_eq text text ≡ true
 same_text text = (bytes_eq-Decides text text).1 refl
@@ -53,13 +53,13 @@ step_spelled [] n h = absurd (cc)
 step_spelled (a ∷ []) n h = absurd (cc)
 step_spelled (a ∷ b ∷ text) n h = step_by a b text n h
 
-pub step_again : (n : ℕ) → n < 10 ^ 18 → step_of (step_line n) ≡ Some n
+pub step_again : (n : ℕ) → n < 10 ^ 18 → step_of (step_number_line n) ≡ Some n
 step_again n h = numeral_again 18 n (omega arith) (omega arith) h
 
 pub step_exact : (line : List ℕ) (n : ℕ) → (step_of line ≡ Some n) ↔ SpellsStep line n
 step_exact line n = (step_spelled line n, λ s. ap step_of s.text ∙ step_again n s.below)
 
-pub step_length : (n : ℕ) → n < 10 ^ 18 → length (step_line n) ≤ 20
+pub step_length : (n : ℕ) → n < 10 ^ 18 → length (step_number_line n) ≤ 20
 step_length n h = omega (arith, length-decimal-le 18 n (lit< tt) h (omega arith))
 
 pub number_below : (k : ℕ) → step_number k < 10 ^ 18

@@ -4,21 +4,21 @@ use Rattle.std.specs.List.{flat_map}
 use Rattle.std.specs.Option.{option_map}
 use Rattle.std.specs.Str.{bytes_eq}
 use Rattle.peer_words.specs.Bytes.{blank, equals}
-use Rattle.peer_words.specs.Tokens.{rest, tokens}
+use Rattle.peer_words.specs.Tokens.{rest_after_token, tokens}
 use Rattle.policy_rules.specs.declared.settings.Settings.{Settings}
 use Rattle.policy_rules.specs.declared.table.Setting.{Setting}
 use Rattle.policy_rules.specs.Policy.{IsProper, usual}
 use Rattle.policy_rules.specs.Table.{first_settings, has_usual_rest, name_of}
-use Rattle.policy_rules.specs.Table.{settings, value_of, value_text}
+use Rattle.policy_rules.specs.Table.{settings, setting_value, setting_value_text}
 use Rattle.policy_rules.specs.Words.{choices_of, with_choices}
 
 -- the word NAME=VALUE of a setting
-abbrev pub word_of : Settings → Setting → List ℕ
-word_of s setting = name_of setting ++ equals ∷ value_text (value_of s setting)
+abbrev pub setting_word_of : Settings → Setting → List ℕ
+setting_word_of s setting = name_of setting ++ equals ∷ setting_value_text (setting_value s setting)
 
 -- the words of these settings, with a blank before each
 abbrev pub words_text : Settings → List Setting → List ℕ
-words_text s list = flat_map (λ setting. blank ∷ word_of s setting) list
+words_text s list = flat_map (λ setting. blank ∷ setting_word_of s setting) list
 
 abbrev pub header_with : List ℕ → List Setting → Settings → List ℕ
 header_with version list s = version ++ words_text s list
@@ -35,8 +35,8 @@ pub record SpellsHeader (line : List ℕ) (settings : Settings) : Type 0 where
   pub text : line ≡ header_text settings
 
 -- the settings that words choose, beginning with the usual ones
-abbrev pub settings_in : List (List ℕ) → Option Settings
-settings_in words = option_map (with_choices usual) (choices_of words)
+abbrev pub header_settings_in : List (List ℕ) → Option Settings
+header_settings_in words = option_map (with_choices usual) (choices_of words)
 
 abbrev pub if_written : List ℕ → Option Settings → Option Settings
 if_written line None = None
@@ -45,4 +45,4 @@ if_written line (Some s) = if bytes_eq (header_text s) line then Some s else Non
 -- the settings that a line states as a header: its words choose them, and it is what is written
 -- of them
 abbrev pub header_of : List ℕ → Option Settings
-header_of line = if_written line (settings_in (tokens (rest line)))
+header_of line = if_written line (header_settings_in (tokens (rest_after_token line)))

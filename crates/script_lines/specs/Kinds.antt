@@ -5,7 +5,7 @@ use Rattle.policy_rules.specs.declared.settings.Settings.{Settings}
 use Rattle.policy_rules.specs.Policy.{IsProper}
 use Rattle.script_lines.specs.Header.{SpellsHeader, header_text}
 use Rattle.script_lines.specs.Marks.{SpellsNone}
-use Rattle.script_lines.specs.StepLine.{SpellsStep, step_line}
+use Rattle.script_lines.specs.StepLine.{SpellsStep, step_number_line}
 use Rattle.line_io.specs.declared.limits.TheConstants.{SCRIPT_LINE}
 
 -- The line is spelled by one of the three grammars at most.
@@ -27,4 +27,4 @@ abbrev pub HeadersAreLines : Type 0
 HeadersAreLines = (settings : Settings) → IsProper settings → IsShortLine (header_text settings)
 
 abbrev pub StepLinesAreLines : Type 0
-StepLinesAreLines = (number : ℕ) → number < 10 ^ 18 → IsShortLine (step_line number)
+StepLinesAreLines = (number : ℕ) → number < 10 ^ 18 → IsShortLine (step_number_line number)

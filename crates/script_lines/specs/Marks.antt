@@ -17,14 +17,14 @@ pub data Mark : Type 0 where
   ToIface : (line : List ℕ) → Mark
   ToEngine : (line : List ℕ) → Mark
 
-abbrev pub plain : code.Mark → Mark
-plain (marks.Event e) = Happens (event_of e)
-plain (marks.ToIface line) = ToIface line.now
-plain (marks.ToEngine line) = ToEngine line.now
+abbrev pub plain_mark : code.Mark → Mark
+plain_mark (marks.Event e) = Happens (event_of e)
+plain_mark (marks.ToIface line) = ToIface line.now
+plain_mark (marks.ToEngine line) = ToEngine line.now
 
 -- what a reading of a mark answers
 abbrev pub mark_if_read : Result code.Mark BadMark → Option Mark
-mark_if_read (Ok m) = Some (plain m)
+mark_if_read (Ok m) = Some (plain_mark m)
 mark_if_read (Err e) = None
 
 abbrev pub event_if_read : Option event.Event → Option Event
@@ -36,55 +36,55 @@ abbrev pub is_written : List ℕ → Bool
 is_written line = nat_le (length line) (SCRIPT_LINE - 2) && not (has_feed line)
 
 -- the text of an event's mark: Open has none
-abbrev pub event_text : Event → List ℕ
-event_text Open = []
-event_text (Iface line) = codes "x " ++ line
-event_text IfaceLong = codes "x!"
-event_text IfaceEnd = codes "x."
-event_text IfaceLost = codes "x?"
-event_text (Engine line) = codes "u " ++ line
-event_text EngineLong = codes "u!"
-event_text EngineEnd = codes "u."
-event_text EngineLost = codes "u?"
+abbrev pub event_mark_text : Event → List ℕ
+event_mark_text Open = []
+event_mark_text (Iface line) = codes "x " ++ line
+event_mark_text IfaceLong = codes "x!"
+event_mark_text IfaceEnd = codes "x."
+event_mark_text IfaceLost = codes "x?"
+event_mark_text (Engine line) = codes "u " ++ line
+event_mark_text EngineLong = codes "u!"
+event_mark_text EngineEnd = codes "u."
+event_mark_text EngineLost = codes "u?"
 
 abbrev pub mark_text : Mark → List ℕ
-mark_text (Happens event) = event_text event
+mark_text (Happens event) = event_mark_text event
 mark_text (ToIface line) = codes "X " ++ line
 mark_text (ToEngine line) = codes "U " ++ line
 
 -- a mark that is in scripts
-abbrev pub IsSpelled : Mark → Type 0
-IsSpelled (Happens Open) = ⊥
-IsSpelled (Happens (Iface line)) = IsTrue (is_line line)
-IsSpelled (Happens (Engine line)) = IsTrue (is_line line)
-IsSpelled (Happens event) = Unit {0}
-IsSpelled (ToIface line) = IsTrue (is_written line)
-IsSpelled (ToEngine line) = IsTrue (is_written line)
+abbrev pub IsMarkSpelled : Mark → Type 0
+IsMarkSpelled (Happens Open) = ⊥
+IsMarkSpelled (Happens (Iface line)) = IsTrue (is_line line)
+IsMarkSpelled (Happens (Engine line)) = IsTrue (is_line line)
+IsMarkSpelled (Happens event) = Unit {0}
+IsMarkSpelled (ToIface line) = IsTrue (is_written line)
+IsMarkSpelled (ToEngine line) = IsTrue (is_written line)
 
 -- The line spells the mark.
 abbrev pub SpellsMark : List ℕ → Mark → Type 0
-SpellsMark line mark = IsSpelled mark × (line ≡ mark_text mark)
+SpellsMark line mark = IsMarkSpelled mark × (line ≡ mark_text mark)
 
 abbrev pub SpellsNone : List ℕ → Type 0
 SpellsNone line = (mark : Mark) → SpellsMark line mark → ⊥
 
-abbrev pub is_empty : List ℕ → Bool
-is_empty bytes = length bytes == 0
+abbrev pub is_empty_line : List ℕ → Bool
+is_empty_line bytes = length bytes == 0
 
 -- the event of the interface that a sign and what follows it stand for
 abbrev pub iface_event : ℕ → List ℕ → Option Event
 iface_event sign rest =
     if sign == blank && is_line rest then Some (Iface rest)
-    else (if sign == exclamation_mark && is_empty rest then Some IfaceLong
-    else (if sign == point && is_empty rest then Some IfaceEnd
-    else (if sign == question_mark && is_empty rest then Some IfaceLost else None)))
+    else (if sign == exclamation_mark && is_empty_line rest then Some IfaceLong
+    else (if sign == point && is_empty_line rest then Some IfaceEnd
+    else (if sign == question_mark && is_empty_line rest then Some IfaceLost else None)))
 
 abbrev pub engine_event : ℕ → List ℕ → Option Event
 engine_event sign rest =
     if sign == blank && is_line rest then Some (Engine rest)
-    else (if sign == exclamation_mark && is_empty rest then Some EngineLong
-    else (if sign == point && is_empty rest then Some EngineEnd
-    else (if sign == question_mark && is_empty rest then Some EngineLost else None)))
+    else (if sign == exclamation_mark && is_empty_line rest then Some EngineLong
+    else (if sign == point && is_empty_line rest then Some EngineEnd
+    else (if sign == question_mark && is_empty_line rest then Some EngineLost else None)))
 
 abbrev pub happens : Option Event → Option Mark
 happens (Some e) = Some (Happens e)
@@ -104,8 +104,8 @@ abbrev pub engine_line_letter : ℕ
 engine_line_letter = 85
 
 -- the mark that a line spells
-abbrev pub mark_of : List ℕ → Option Mark
-mark_of (letter ∷ sign ∷ rest) =
+abbrev pub mark_spelled : List ℕ → Option Mark
+mark_spelled (letter ∷ sign ∷ rest) =
     if letter == iface_event_letter then happens (iface_event sign rest)
     else (if letter == engine_event_letter then happens (engine_event sign rest)
     else (if letter == iface_line_letter && (sign == blank && is_written rest)
@@ -113,7 +113,7 @@ mark_of (letter ∷ sign ∷ rest) =
     else (if letter == engine_line_letter && (sign == blank && is_written rest)
     then Some (ToEngine rest)
     else None)))
-mark_of line = None
+mark_spelled line = None
 
 -- what follows a mark's text in a script
 abbrev pub line_end : Mark → List ℕ

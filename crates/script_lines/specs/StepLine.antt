@@ -9,13 +9,13 @@ abbrev pub hash : ℕ
 hash = 35
 
 -- the line that numbers a step, without its line feed
-abbrev pub step_line : ℕ → List ℕ
-step_line number = codes "# " ++ decimal number
+abbrev pub step_number_line : ℕ → List ℕ
+step_number_line number = codes "# " ++ decimal number
 
 -- The line numbers a step so; the number has at most 18 digits.
 pub record SpellsStep (line : List ℕ) (number : ℕ) : Type 0 where
   pub below : number < 10 ^ 18
-  pub text : line ≡ step_line number
+  pub text : line ≡ step_number_line number
 
 abbrev pub as_written : Option ℕ → List ℕ → Option ℕ
 as_written None text = None

@@ -5,8 +5,8 @@ ghost use Rattle.peer_words.specs.Bytes.{blank};
 ghost use Rattle.peer_words.specs.Tokens.{tokens};
 ghost use Rattle.policy_rules.specs.declared.settings.Settings.{Settings as SomeSettings};
 ghost use Rattle.policy_rules.specs.Policy.{IsProper};
-ghost use Rattle.policy_rules.specs.Table.{truth_text, value_text};
-ghost use Rattle.script_lines.specs.Header.{SpellsHeader, header_of, header_text, header_with, settings_in, word_of, words_text};
+ghost use Rattle.policy_rules.specs.Table.{truth_text, setting_value_text};
+ghost use Rattle.script_lines.specs.Header.{SpellsHeader, header_of, header_text, header_with, header_settings_in, setting_word_of, words_text};
 ghost use Rattle.script_lines.specs.declared.header.TheConstants.{HEADER_ROOM};
 
 use arrayvec::ArrayVec;
@@ -35,8 +35,8 @@ fn truth_text(value: bool) -> &'static [u8]
 }
 
 fn put_value(value: Value, text: &mut HeaderText)
-    requires { length text.old.items + length (value_text value) ≤ HEADER_ROOM }
-    ensures { text.new.items ≡ text.old.items ++ value_text value }
+    requires { length text.old.items + length (setting_value_text value) ≤ HEADER_ROOM }
+    ensures { text.new.items ≡ text.old.items ++ setting_value_text value }
 {
     match value {
         Value::Truth(value) => put(truth_text(value), text),
@@ -46,8 +46,9 @@ fn put_value(value: Value, text: &mut HeaderText)
 
 // Puts a blank and the word of a setting.
 fn put_word(settings: &Settings, setting: Setting, text: &mut HeaderText)
-    requires { length text.old.items + (length (word_of settings.now setting) + 1) ≤ HEADER_ROOM }
-    ensures { text.new.items ≡ text.old.items ++ blank ∷ word_of settings.now setting }
+    requires { length text.old.items + (length (setting_word_of settings.now setting) + 1) ≤
+        HEADER_ROOM }
+    ensures { text.new.items ≡ text.old.items ++ blank ∷ setting_word_of settings.now setting }
 {
     put(b" ", text);
     put(setting.row().name.as_bytes(), text);
@@ -91,7 +92,7 @@ fn header_text(settings: &Settings) -> HeaderText
 
 // The settings that words choose, beginning with the usual ones.
 fn read_settings(words: &[u8]) -> Option<Settings>
-    ensures value { result ≡ settings_in (tokens words.now) }
+    ensures value { result ≡ header_settings_in (tokens words.now) }
     ensures proper { IfSome result (λ settings. IsProper settings) }
 {
     let mut settings = Settings::usual();
@@ -132,7 +133,7 @@ pub fn write_header(settings: &Settings, out: &mut Out)
     requires room { length out.old.text + HEADER_ROOM ≤ out.old.room }
     ensures written { out.new ≡ with out.old (header_text settings.now) }
     ensures short { length (header_text settings.now) ≤ HEADER_ROOM }
-    // What is written is read again.
+    // The text written is read again.
     ensures again { header_of (header_text settings.now) ≡ Some settings.now }
 {
     out.put(header_text(settings).as_slice());

@@ -1,5 +1,5 @@
 // Laws of the lines of scripts.
-ghost use Rattle.script_lines.specs.Scripts.{ReadsSpelling, HasLines, HasShortLines, ReadsBack, ReadsOneWay};
+ghost use Rattle.script_lines.specs.Scripts.{ReadsSpelling, HasLines, HasShortLines, ScriptReadsBack, ReadsOneWay};
 ghost use Rattle.script_lines.specs.Kinds.{LinesAreOfOneKind, HeadersAreLines, StepLinesAreLines};
 
 /// A line is read as the mark that it spells. The lines of a script are the texts of its marks,
@@ -8,7 +8,7 @@ pub fn scripts_are_read_back()
     ensures spelling { ReadsSpelling }
     ensures lines { HasLines }
     ensures short { HasShortLines }
-    ensures back { ReadsBack }
+    ensures back { ScriptReadsBack }
     ensures one_way { ReadsOneWay }
 {}
 

@@ -1,7 +1,7 @@
 // Marks: the lines of a script.
 ghost use Rattle.std.specs.Prelude.{◌≡◌, ◌+◌, ◌++◌, ◌≤◌, length, Some, IfOk, OnErr};
 ghost use Rattle.line_io.specs.Event.{is_line};
-ghost use Rattle.script_lines.specs.Marks.{IsSpelled, SpellsMark, SpellsNone, is_written, iface_event, engine_event, event_if_read, plain, mark_if_read, mark_of, mark_text, line_end, mark_line};
+ghost use Rattle.script_lines.specs.Marks.{IsMarkSpelled, SpellsMark, SpellsNone, is_written, iface_event, engine_event, event_if_read, plain_mark, mark_if_read, mark_spelled, mark_text, line_end, mark_line};
 ghost use Rattle.line_io.specs.Out.{with};
 
 use line_io::{Event, Out, PEER_LINE, SCRIPT_LINE};
@@ -10,7 +10,7 @@ use line_io::{Event, Out, PEER_LINE, SCRIPT_LINE};
 #[derive(Clone, Copy, Debug)]
 pub struct BadMark;
 
-/// What a line of a script says: what happened, or a line that was written to a peer.
+/// The meaning of a line of a script: what happened, or a line that was written to a peer.
 ///
 /// A mark is a letter, one blank and a line, or a letter and a sign: `x LINE`, `u LINE` for a line
 /// of the interface, of the engine; `x!`, `u!` for a long one, `x.`, `u.` for the end of its input,
@@ -62,15 +62,15 @@ fn engine_event(sign: u8, rest: &[u8]) -> Option<Event<'_>>
 
 /// The mark that a line spells, without its line feed.
 pub fn read_mark(line: &[u8]) -> Result<Mark<'_>, BadMark>
-    ensures exact { mark_if_read result ≡ mark_of line.now }
-    ensures spelled { IfOk result (λ mark. SpellsMark line.now (plain mark)) }
+    ensures exact { mark_if_read result ≡ mark_spelled line.now }
+    ensures spelled { IfOk result (λ mark. SpellsMark line.now (plain_mark mark)) }
     ensures bad { OnErr result (SpellsNone line.now) }
 {
     mark_in(line)
 }
 
 fn mark_in(line: &[u8]) -> Result<Mark<'_>, BadMark>
-    ensures { mark_if_read result ≡ mark_of line.now }
+    ensures { mark_if_read result ≡ mark_spelled line.now }
 {
     let [letter, sign, rest @ ..] = line else {
         return Err(BadMark);
@@ -86,18 +86,18 @@ fn mark_in(line: &[u8]) -> Result<Mark<'_>, BadMark>
 
 /// Writes the text of a mark, without a line feed. `Open` has none.
 pub fn write_mark(mark: &Mark, out: &mut Out)
-    requires { length out.old.text + length (mark_text (plain mark.now)) ≤ out.old.room }
-    ensures written { out.new ≡ with out.old (mark_text (plain mark.now)) }
-    // What is written of a mark that some line spells is read again.
-    ensures again { IsSpelled (plain mark.now)
-        → mark_of (mark_text (plain mark.now)) ≡ Some (plain mark.now) }
+    requires { length out.old.text + length (mark_text (plain_mark mark.now)) ≤ out.old.room }
+    ensures written { out.new ≡ with out.old (mark_text (plain_mark mark.now)) }
+    // The text written of a mark that some line spells is read again.
+    ensures again { IsMarkSpelled (plain_mark mark.now)
+        → mark_spelled (mark_text (plain_mark mark.now)) ≡ Some (plain_mark mark.now) }
 {
     put_text(mark, out);
 }
 
 fn put_text(mark: &Mark, out: &mut Out)
-    requires { length out.old.text + length (mark_text (plain mark.now)) ≤ out.old.room }
-    ensures { out.new ≡ with out.old (mark_text (plain mark.now)) }
+    requires { length out.old.text + length (mark_text (plain_mark mark.now)) ≤ out.old.room }
+    ensures { out.new ≡ with out.old (mark_text (plain_mark mark.now)) }
 {
     match mark {
         Mark::Event(Event::Open) => {}
@@ -114,9 +114,9 @@ fn put_text(mark: &Mark, out: &mut Out)
     }
 }
 
-// What follows a mark's text in a script.
+// The bytes behind a mark's text in a script.
 fn line_end(mark: &Mark) -> &'static [u8]
-    ensures { result.now ≡ line_end (plain mark.now) }
+    ensures { result.now ≡ line_end (plain_mark mark.now) }
 {
     match mark {
         Mark::Event(Event::Open) => b"",
@@ -126,17 +126,17 @@ fn line_end(mark: &Mark) -> &'static [u8]
 
 /// Writes a mark as a line of a script: its text and a line feed. `Open` has no line.
 pub fn write_mark_line(mark: &Mark, out: &mut Out)
-    requires { length out.old.text + length (mark_line (plain mark.now)) ≤ out.old.room }
-    ensures written { out.new ≡ with out.old (mark_line (plain mark.now)) }
+    requires { length out.old.text + length (mark_line (plain_mark mark.now)) ≤ out.old.room }
+    ensures written { out.new ≡ with out.old (mark_line (plain_mark mark.now)) }
 {
     write_mark(mark, out);
     out.put(line_end(mark));
 }
 
-fn put_line(front: &[u8], line: &[u8], out: &mut Out)
-    requires { length out.old.text + length front.now + length line.now ≤ out.old.room }
-    ensures { out.new ≡ with out.old (front.now ++ line.now) }
+fn put_line(prefix: &[u8], line: &[u8], out: &mut Out)
+    requires { length out.old.text + length prefix.now + length line.now ≤ out.old.room }
+    ensures { out.new ≡ with out.old (prefix.now ++ line.now) }
 {
-    out.put(front);
+    out.put(prefix);
     out.put(line);
 }

@@ -1,13 +1,13 @@
 // Step lines.
 ghost use Rattle.std.specs.Prelude.{◌≡◌, ◌↔◌, ◌+◌, ◌<◌, ◌≤◌, ◌^◌, ℕ, suc, length, Some, IfSome};
 ghost use Rattle.line_io.specs.Out.{with};
-ghost use Rattle.script_lines.specs.StepLine.{SpellsStep, numeral, step_line, step_number, step_of};
+ghost use Rattle.script_lines.specs.StepLine.{SpellsStep, numeral, step_number_line, step_number, step_of};
 
 use itoa::Buffer;
 use line_io::Out;
 use peer_words::read_digits;
 
-/// How many numbers the steps of a script have. After the last one they begin again at 0.
+/// The count of the numbers of a script's steps. After the last one they begin again at 0.
 const NUMBERS: u64 = 1_000_000_000_000_000_000;
 
 /// The number of so many digits at most that is written so, without leading zeros.
@@ -45,10 +45,10 @@ fn step_in(line: &[u8]) -> Option<u64>
 pub fn write_step(number: u64, out: &mut Out)
     requires below { number < 10 ^ 18 }
     requires room { length out.old.text + 20 ≤ out.old.room }
-    ensures written { out.new ≡ with out.old (step_line number) }
-    ensures short { length (step_line number) ≤ 20 }
-    // What is written is read again.
-    ensures again { step_of (step_line number) ≡ Some number }
+    ensures written { out.new ≡ with out.old (step_number_line number) }
+    ensures short { length (step_number_line number) ≤ 20 }
+    // The text written is read again.
+    ensures again { step_of (step_number_line number) ≡ Some number }
 {
     out.put(b"# ");
     out.put(Buffer::new().format(number).as_bytes());

@@ -3,8 +3,8 @@ ghost use Rattle.std.specs.Prelude.{◌≡◌, ◌+◌, ◌*◌, ◌<◌, ◌≤
 ghost use Rattle.line_io.specs.Event.{event_of};
 ghost use Rattle.script_lines.specs.Marks.{line_marked, event_marked};
 ghost use Rattle.line_io.specs.Out.{with};
-ghost use Rattle.script_lines.specs.StepLine.{step_line};
-ghost use Rattle.script_lines.specs.StepText.{lines_marked, numbered_marks, step_marks, written_marks};
+ghost use Rattle.script_lines.specs.StepLine.{step_number_line};
+ghost use Rattle.script_lines.specs.StepText.{lines_marked, numbered_marks, marks_of_written, written_marks};
 ghost use Rattle.script_lines.specs.declared.step_text.TheConstants.{STEP_ROOM};
 ghost use Rattle.line_io.specs.Lines.{line_feed};
 ghost use Rattle.line_io.specs.declared.limits.TheConstants.{PEER_LINE, SCRIPT_LINE};
@@ -50,7 +50,7 @@ pub fn put_written(iface: &[u8], engine: &[u8], out: &mut Out)
 fn put_step_line(number: u64, out: &mut Out)
     requires number { number < 10 ^ 18 }
     requires room { length out.old.text + 21 ≤ out.old.room }
-    ensures written { out.new ≡ with out.old (step_line number ++ line_feed ∷ []) }
+    ensures written { out.new ≡ with out.old (step_number_line number ++ line_feed ∷ []) }
     ensures few { length out.new.text ≤ length out.old.text + 21 }
 {
     write_step(number, out);
@@ -62,7 +62,7 @@ fn put_marks(event: &Event, iface: &[u8], engine: &[u8], out: &mut Out)
     requires iface { length iface.now ≤ SCRIPT_LINE }
     requires engine { length engine.now ≤ SCRIPT_LINE }
     requires room { length out.old.text + (PEER_LINE + 3 + 8 * SCRIPT_LINE) ≤ out.old.room }
-    ensures { out.new ≡ with out.old (step_marks (event_of event.now) iface.now engine.now) }
+    ensures { out.new ≡ with out.old (marks_of_written (event_of event.now) iface.now engine.now) }
 {
     write_mark_line(&Mark::Event(*event), out);
     put_written(iface, engine, out);
@@ -76,7 +76,7 @@ pub fn put_step(event: &Event, iface: &[u8], engine: &[u8], out: &mut Out)
     requires engine { length engine.now ≤ SCRIPT_LINE }
     requires room { length out.old.text + STEP_ROOM ≤ out.old.room }
     ensures written { out.new
-        ≡ with out.old (step_marks (event_of event.now) iface.now engine.now) }
+        ≡ with out.old (marks_of_written (event_of event.now) iface.now engine.now) }
 {
     put_marks(event, iface, engine, out);
 }

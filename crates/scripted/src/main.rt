@@ -2,7 +2,7 @@
 #![tactic(auto)]
 
 use line_io::{ReadAdapter, WriteAdapter};
-use program_edges::{About, ClosedStreams, NO_MEMORY, answer_about, words_of};
+use program_command_line::{About, ClosedStreams, NO_MEMORY, answer_about, arguments_of};
 use scripted_engine::scripted_main;
 use std::fs::File;
 use std::io::{ErrorKind, Read};
@@ -33,9 +33,9 @@ impl Read for OpenedLate<'_> {
     }
 }
 
-/// The name of the script, if there are words.
-fn name_in(words: &[Vec<u8>]) -> &[u8] {
-    match words.first() {
+/// The name of the script, if there are arguments.
+fn name_in(arguments: &[Vec<u8>]) -> &[u8] {
+    match arguments.first() {
         Some(word) => word.as_slice(),
         None => b"",
     }
@@ -55,22 +55,22 @@ fn main(rt: HostRuntime) -> ExitCode {
     let Some(closed) = ClosedStreams::fill(&rt) else {
         return ExitCode::from(NO_MEMORY);
     };
-    let Ok(words) = words_of(&rt, rt.alloc(), usize::MAX) else {
+    let Ok(arguments) = arguments_of(&rt, rt.alloc(), usize::MAX) else {
         return ExitCode::from(NO_MEMORY);
     };
     let mut output = closed.output(WriteAdapter::new(rt.stdout()));
-    if let Some(status) = answer_about(rt.alloc(), words.as_slice(), &ABOUT, &mut output) {
+    if let Some(status) = answer_about(rt.alloc(), arguments.as_slice(), &ABOUT, &mut output) {
         return ExitCode::from(status.code);
     }
     let mut file = ReadAdapter::new(OpenedLate {
         rt: &rt,
-        name: name_in(words.as_slice()),
+        name: name_in(arguments.as_slice()),
         file: None,
     });
     let mut input = closed.input(ReadAdapter::new(rt.stdin()));
     let status = scripted_main(
         rt.alloc(),
-        words.as_slice(),
+        arguments.as_slice(),
         &mut file,
         &mut input,
         &mut output,

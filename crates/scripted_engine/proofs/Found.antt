@@ -128,8 +128,8 @@ none_of true n e = cc e
 none_of false n e = refl
 
 -- the place that a set tells of a word
-pub place_told : (word : List ℕ) (keys : List (Vec ℕ)) (at : ℕ) → Some at ≡ position (λ k. bytes_eq word (vec_items k)) keys → (at ≡ place_of word (names keys)) × (at < length (names keys))
-place_told word keys at e =
+pub place_replied : (word : List ℕ) (keys : List (Vec ℕ)) (at : ℕ) → Some at ≡ position (λ k. bytes_eq word (vec_items k)) keys → (at ≡ place_of word (names keys)) × (at < length (names keys))
+place_replied word keys at e =
     let place = position_or_len (λ k. bytes_eq word (vec_items k)) keys in
     let b = some_of (ltb place (length keys)) place at e in
     let t = b.0 in
@@ -139,8 +139,8 @@ place_told word keys at e =
     omega_lt : (at place : ℕ) (keys : List (Vec ℕ)) → ltb place (length keys) ≡ true → at ≡ place → at < length (names keys)
     omega_lt at place keys t s = let z = size_names keys in grind (arith, nat_tests)
 
-pub none_told : (word : List ℕ) (keys : List (Vec ℕ)) → None ≡ position (λ k. bytes_eq word (vec_items k)) keys → length (names keys) ≤ place_of word (names keys)
-none_told word keys e =
+pub none_replied : (word : List ℕ) (keys : List (Vec ℕ)) → None ≡ position (λ k. bytes_eq word (vec_items k)) keys → length (names keys) ≤ place_of word (names keys)
+none_replied word keys e =
     let place = position_or_len (λ k. bytes_eq word (vec_items k)) keys in
     let b = none_of (ltb place (length keys)) place e in
     let s = place_names word keys in

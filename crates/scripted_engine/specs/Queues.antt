@@ -15,8 +15,8 @@ pub record Queue : Type 0 where
 abbrev pub none : Queue
 none = record { answers = []; next = 0 }
 
-abbrev pub with_text : Queue → List ℕ → Queue
-with_text q text = record { answers = q.answers ++ text ∷ []; next = q.next }
+abbrev pub queue_with_text : Queue → List ℕ → Queue
+queue_with_text q text = record { answers = q.answers ++ text ∷ []; next = q.next }
 
 -- the next answer is that after this one, and the last one stays
 abbrev pub queue_at_next : Queue → Queue
@@ -25,11 +25,11 @@ queue_at_next q = record {
   next = if nat_lt 1 (length q.answers - q.next) then q.next + 1 else q.next;
 }
 
-abbrev pub text_at : Queue → ℕ → List ℕ
-text_at q at = option_map_or (λ t. t) (slice_get q.answers at) []
+abbrev pub queued_text_at : Queue → ℕ → List ℕ
+queued_text_at q at = option_map_or (λ t. t) (slice_get q.answers at) []
 
 -- the words, and of each its answers
-pub record Scripted : Type 0 where
+pub record ScriptedAnswers : Type 0 where
   pub words : List (List ℕ)
   pub queues : List Queue
 
@@ -42,7 +42,7 @@ find word (w ∷ ws) (q ∷ qs) = if bytes_eq word w then q else find word ws qs
 -- the same, once a block was added
 abbrev pub find_with : Block → List ℕ → List (List ℕ) → List Queue → Queue
 find_with block word words queues =
-    if bytes_eq block.word word then with_text (find word words queues) block.answer
+    if bytes_eq block.word word then queue_with_text (find word words queues) block.answer
     else find word words queues
 
 -- the words of a set

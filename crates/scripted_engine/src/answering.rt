@@ -1,11 +1,10 @@
 // Answers the lines that a script is given.
 ghost use Rattle.std.specs.Prelude.{◌≡◌};
-ghost use Rattle.scripted_engine.specs.Ends.{is_quit};
 ghost use Rattle.scripted_engine.specs.Heard.{ending_of};
 
 use crate::{Scripted, ScriptedEnding};
-use line_io::{LinesEnd, Sink, TakesLines, write_all};
-use peer_words::split_token;
+use line_io::{LineConsumer, LinesEnd, Sink, write_all};
+use peer_words::is_quit;
 
 /// Why no more lines are answered.
 #[derive(Clone, Copy)]
@@ -14,7 +13,7 @@ pub enum Stop {
     WriteFailed,
 }
 
-/// How a run ends.
+/// The end of a run.
 pub fn ending_of(end: LinesEnd<Stop>) -> ScriptedEnding
     ensures { result ≡ ending_of end }
 {
@@ -27,14 +26,7 @@ pub fn ending_of(end: LinesEnd<Stop>) -> ScriptedEnding
     }
 }
 
-fn is_quit(line: &[u8]) -> bool
-    ensures { result ≡ is_quit line.now }
-{
-    let (word, _) = split_token(line);
-    word == b"quit".as_slice()
-}
-
-impl<O: Sink> TakesLines<O> for Scripted {
+impl<O: Sink> LineConsumer<O> for Scripted {
     ghost use Rattle.scripted_engine.specs.Heard.{answers_of};
 
     type Stop = Stop;

@@ -1,6 +1,6 @@
 // The answers for one word.
 ghost use Rattle.std.specs.Prelude.{◌≡◌, OnOk, IfErr};
-ghost use Rattle.scripted_engine.specs.Queues.{none, with_text, queue_at_next, text_at};
+ghost use Rattle.scripted_engine.specs.Queues.{none, queue_with_text, queue_at_next, queued_text_at};
 ghost use Rattle.scripted_engine.specs.declared.script.ScriptFault.TheVariants.{NoMemory};
 
 use crate::ScriptFault;
@@ -36,7 +36,7 @@ impl Queue {
 
     /// Puts an answer after the others.
     pub fn add(&mut self, alloc: Global, answer: &[u8]) -> Result<(), ScriptFault>
-        ensures added { OnOk result (self.new ≡ with_text self.old answer.now) }
+        ensures added { OnOk result (self.new ≡ queue_with_text self.old answer.now) }
         ensures memory { IfErr result (λ fault. fault ≡ NoMemory) }
     {
         self.answers.push(Vec::from_slice(alloc, answer)?)?;
@@ -57,7 +57,7 @@ impl Queue {
 
     /// The answer at a place, and nothing if there is none.
     pub fn answer(&self, at: usize) -> &[u8]
-        ensures { result.now ≡ text_at self.now at }
+        ensures { result.now ≡ queued_text_at self.now at }
     {
         match self.answers.get(at) {
             Some(answer) => answer.as_slice(),

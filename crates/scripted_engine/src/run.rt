@@ -1,12 +1,12 @@
 // The program.
 ghost use Rattle.std.specs.Prelude.{◌≡◌, ◌↔◌, ℕ, List, [], length, None, MatchResult};
-ghost use Rattle.line_io.specs.Lines.{empty_reader, Reads};
+ghost use Rattle.line_io.specs.Lines.{empty_reader, SourceGave};
 ghost use Rattle.line_io.specs.Source.{Supplied};
 ghost use Rattle.scripted_engine.specs.Blocks.{Block};
 ghost use Rattle.scripted_engine.specs.Script.{blocks_of, first_bad};
-ghost use Rattle.scripted_engine.specs.Answers.{Stands};
-ghost use Rattle.scripted_engine.specs.Ends.{streams, IsRead, NoScript, Answered, Session};
-ghost use Rattle.scripted_engine.specs.Ends.{AnswersInput, Completes, code_of};
+ghost use Rattle.scripted_engine.specs.Answers.{ScriptAfterLines};
+ghost use Rattle.scripted_engine.specs.Ends.{scripted_streams, ScriptIsRead, NoScript, Answered, Session};
+ghost use Rattle.scripted_engine.specs.Ends.{AnswersInput, CompletesScripted, scripted_status};
 ghost use Rattle.scripted_engine.specs.declared.ending.ScriptedEnding.{ScriptedEnding};
 ghost use Rattle.line_io.specs.declared.limits.TheConstants.{PEER_LINE};
 
@@ -23,8 +23,8 @@ const CHUNK: usize = 65_536;
 fn read_script<F: Source>(alloc: Global, file: &mut F) -> Result<Vec<u8>, ScriptedEnding>
     ensures { let old = F.state file.old in
         let new = F.state file.new in
-        (script : List ℕ) × Reads old new script
-        × MatchResult result (λ read. (read.items ≡ script) × IsRead new script)
+        (script : List ℕ) × SourceGave old new script
+        × MatchResult result (λ read. (read.items ≡ script) × ScriptIsRead new script)
         (NoScript old new script) }
 {
     let mut chunk = vec![in alloc; 0; CHUNK]?;
@@ -51,10 +51,11 @@ fn answer_lines<I: Source, O: Sink>(
     output: &mut O,
 ) -> ScriptedEnding
     requires { lines.old ≡ empty_reader PEER_LINE }
-    ensures { (blocks : List Block) (file file' : Supplied) → Stands scripted.old blocks []
+    ensures { (blocks : List Block) (file file' : Supplied) → ScriptAfterLines scripted.old
+        blocks []
         → Answered result blocks
-        (streams file (I.state input.old) (O.state output.old))
-        (streams file' (I.state input.new) (O.state output.new)) }
+        (scripted_streams file (I.state input.old) (O.state output.old))
+        (scripted_streams file' (I.state input.new) (O.state output.new)) }
 {
     ending_of(take_lines(lines, input, scripted, output))
 }
@@ -63,9 +64,9 @@ fn answer_lines<I: Source, O: Sink>(
 fn open_script<F: Source>(alloc: Global, file: &mut F) -> Result<Scripted, ScriptedEnding>
     ensures { let old = F.state file.old in
         let new = F.state file.new in
-        (script : List ℕ) × Reads old new script
-        × MatchResult result (λ scripted. IsRead new script × (first_bad script ≡ None)
-        × Stands scripted (blocks_of script) []) (NoScript old new script) }
+        (script : List ℕ) × SourceGave old new script
+        × MatchResult result (λ scripted. ScriptIsRead new script × (first_bad script ≡ None)
+        × ScriptAfterLines scripted (blocks_of script) []) (NoScript old new script) }
 {
     let script = read_script(alloc, file)?;
     match Scripted::make(alloc, script.as_slice()) {
@@ -82,8 +83,8 @@ fn run<F: Source, I: Source, O: Sink>(
     output: &mut O,
 ) -> ScriptedEnding
     ensures { Session result
-        (streams (F.state file.old) (I.state input.old) (O.state output.old))
-        (streams (F.state file.new) (I.state input.new) (O.state output.new)) }
+        (scripted_streams (F.state file.old) (I.state input.old) (O.state output.old))
+        (scripted_streams (F.state file.new) (I.state input.new) (O.state output.new)) }
 {
     let Ok(mut lines) = Lines::make(alloc, PEER_LINE) else {
         return ScriptedEnding::NoMemory;
@@ -101,29 +102,30 @@ fn run<F: Source, I: Source, O: Sink>(
 /// `quit`, or at the end of the input. The exit statuses are those of [`ScriptedEnding`].
 pub fn scripted_main<F: Source, I: Source, O: Sink>(
     alloc: Global,
-    words: &[Vec<u8>],
+    arguments: &[Vec<u8>],
     file: &mut F,
     input: &mut I,
     output: &mut O,
 ) -> Status
-    ensures usage { (result.code ≡ 2) ↔ (length words.now ≡ 1 → ⊥) }
+    ensures usage { (result.code ≡ 2) ↔ (length arguments.now ≡ 1 → ⊥) }
     ensures untouched { result.code ≡ 2
         → (file.new ≡ file.old) × (input.new ≡ input.old) × (output.new ≡ output.old) }
-    ensures session { let old = streams (F.state file.old) (I.state input.old)
+    ensures session { let old = scripted_streams (F.state file.old) (I.state input.old)
         (O.state output.old) in
-        let new = streams (F.state file.new) (I.state input.new) (O.state output.new) in
-        length words.now ≡ 1
-        → (ending : ScriptedEnding) × (result.code ≡ code_of ending) × Session ending old new }
-    ensures answers { let old = streams (F.state file.old) (I.state input.old)
+        let new = scripted_streams (F.state file.new) (I.state input.new) (O.state output.new) in
+        length arguments.now ≡ 1
+        → (ending : ScriptedEnding) × (result.code ≡ scripted_status ending) × Session ending old
+        new }
+    ensures answers { let old = scripted_streams (F.state file.old) (I.state input.old)
         (O.state output.old) in
-        let new = streams (F.state file.new) (I.state input.new) (O.state output.new) in
-        length words.now ≡ 1 → AnswersInput result.code old new }
-    ensures complete { let old = streams (F.state file.old) (I.state input.old)
+        let new = scripted_streams (F.state file.new) (I.state input.new) (O.state output.new) in
+        length arguments.now ≡ 1 → AnswersInput result.code old new }
+    ensures complete { let old = scripted_streams (F.state file.old) (I.state input.old)
         (O.state output.old) in
-        let new = streams (F.state file.new) (I.state input.new) (O.state output.new) in
-        length words.now ≡ 1 → Completes result.code old new }
+        let new = scripted_streams (F.state file.new) (I.state input.new) (O.state output.new) in
+        length arguments.now ≡ 1 → CompletesScripted result.code old new }
 {
-    if words.len() != 1 {
+    if arguments.len() != 1 {
         return Status {
             code: ScriptedEnding::Usage.code(),
         };

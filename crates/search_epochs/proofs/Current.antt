@@ -1,4 +1,4 @@
--- What holds of an open current search, by what is kept.
+-- The facts of an open current search, by what is kept.
 use Rattle.std.proofs.Common.{◌≡◌, ℕ, Bool, true, false, not, cond, ◌||◌, ◌==◌, refl, sym, ap, subst, ◌∙◌}
 use mathlib.Core.Bool.{not-not}
 use Rattle.peer_words.specs.declared.kinds.GoKind.{GoKind}
@@ -10,9 +10,9 @@ use Rattle.search_epochs.specs.declared.words.Call.TheVariants as calls
 use Rattle.search_epochs.specs.declared.words.Said.TheVariants as said
 use Rattle.search_epochs.specs.declared.words.Orders.{Orders}
 use Rattle.search_epochs.specs.declared.words.Orders.TheVariants as orders
-use Rattle.search_epochs.specs.Tickets.{Engine, Search, What, Says, Ticketed, DialogueTurn, TicketWithin, LastWithin, before_orders, is_move, is_nothing, kind_of}
+use Rattle.search_epochs.specs.Tickets.{Engine, Search, What, Says, Ticketed, DialogueTurn, TicketWithin, LastWithin, before_orders, is_move, is_no_call, kind_of}
 use Rattle.search_epochs.specs.Dialogue.{Dialogue, forget, stale_state, settled_state, choose, choose_search, after_what, mid_dialogue, dialogue_between_steps}
-use Rattle.search_epochs.specs.History.{answers, answers_at, is_end}
+use Rattle.search_epochs.specs.History.{answers_call, answers_at, is_engine_end}
 use Rattle.search_epochs.proofs.Whole.{mid_kept}
 
 -- of an open current search, its kind
@@ -36,10 +36,10 @@ answers_kept (Says said.Best) (states.Search kinds.Move stale s) = not stale
 answers_kept w e = false
 
 -- in a step without a new epoch the call of an open current search stays
-heard_current : (P : GoKind → Call → Type 0) (v : Dialogue) (w : What) (call call' : Call) → call' ≡ cond (answers_kept w v.state || is_end w) calls.Nothing call
+heard_current : (P : GoKind → Call → Type 0) (v : Dialogue) (w : What) (call call' : Call) → call' ≡ cond (answers_kept w v.state || is_engine_end w) calls.Nothing call
     → IfCurrent v.state (λ k. P k call) → IfCurrent (after_what v w).state (λ k. P k call')
 heard_current P v w call call' e h = by_state v.state w e h where
-  by_state : (x : EngineState) (w : What) → call' ≡ cond (answers_kept w x || is_end w) calls.Nothing call → IfCurrent x (λ k. P k call)
+  by_state : (x : EngineState) (w : What) → call' ≡ cond (answers_kept w x || is_engine_end w) calls.Nothing call → IfCurrent x (λ k. P k call)
       → IfCurrent (after_what (record { state = x; spent = v.spent; pondered = v.pondered }) w).state (λ k. P k call')
   by_state (states.Search k stale s) (Says said.Best) e h = tt
   by_state (states.Search k stale s) (Says said.Ended) e h = tt
@@ -49,7 +49,7 @@ heard_current P v w call call' e h = by_state v.state w e h where
 
 -- what holds of the kind and the call of an open current search goes on to the middle of a step
 pub mid_current : (P : GoKind → Call → Type 0) (v : Dialogue) (w : What) (begins_epoch : Bool) (call call' : Call)
-    → (begins_epoch ≡ false → call' ≡ cond (answers_kept w v.state || is_end w) calls.Nothing call)
+    → (begins_epoch ≡ false → call' ≡ cond (answers_kept w v.state || is_engine_end w) calls.Nothing call)
     → IfCurrent v.state (λ k. P k call) → IfCurrent (mid_dialogue v w begins_epoch).state (λ k. P k call')
 mid_current P v w true call call' stays h = none_if_stale (λ k. P k call') (after_what v w).state
 mid_current P v w false call call' stays h = heard_current P v w call call' (stays refl) h
@@ -61,30 +61,30 @@ answers_forgotten epoch e w = refl
 
 -- the same of a dialogue
 pub turned_current : (P : GoKind → Call → Type 0) (t : Ticketed) (u : DialogueTurn) (call : Call) → TicketWithin t.epoch t.engine → LastWithin t.epoch t.last
-    → (u.begins_epoch ≡ false → u.call ≡ cond (answers t u.what || is_end u.what) calls.Nothing call)
+    → (u.begins_epoch ≡ false → u.call ≡ cond (answers_call t u.what || is_engine_end u.what) calls.Nothing call)
     → IfCurrent (forget t.epoch t.engine) (λ k. P k call) → IfCurrent (forget (before_orders t u).epoch (before_orders t u).engine) (λ k. P k u.call)
 turned_current P t u call w l stays h =
     subst (λ (v : Dialogue). IfCurrent v.state (λ k. P k u.call)) (mid_kept t u.hint u w l)
     (mid_current P (dialogue_between_steps t u.hint) u.what u.begins_epoch call u.call
-    (λ r. stays r ∙ ap (λ b. cond (b || is_end u.what) calls.Nothing call) (sym (answers_forgotten t.epoch t.engine u.what))) h)
+    (λ r. stays r ∙ ap (λ b. cond (b || is_engine_end u.what) calls.Nothing call) (sym (answers_forgotten t.epoch t.engine u.what))) h)
 
 module _ (P : Orders → GoKind → Type 0) where
-  search_current : (k : GoKind) (stale wants matches hurry : Bool) → IfCurrent (states.Search k stale false) (P orders.None) → IfCurrent (states.Search k stale false) (P orders.Stop) → (wants ≡ true → P orders.Hit kinds.Move)
-      → IfCurrent (settled_state (states.Search k stale false) (choose_search k stale wants matches hurry)) (P (choose_search k stale wants matches hurry))
+  search_current : (k : GoKind) (stale wants matches move_now : Bool) → IfCurrent (states.Search k stale false) (P orders.None) → IfCurrent (states.Search k stale false) (P orders.Stop) → (wants ≡ true → P orders.Hit kinds.Move)
+      → IfCurrent (settled_state (states.Search k stale false) (choose_search k stale wants matches move_now)) (P (choose_search k stale wants matches move_now))
   search_current kinds.Move false wants matches true n s h = s
-  search_current kinds.Ponder stale true true hurry n s h = h refl
+  search_current kinds.Ponder stale true true move_now n s h = h refl
   search_current kinds.Ponder false false true true n s h = n
   search_current k false wants matches false n s h = n
-  search_current k true wants true hurry n s h = tt
-  search_current k true wants matches hurry n s h = tt
-  search_current k stale wants matches hurry n s h = n
+  search_current k true wants true move_now n s h = tt
+  search_current k true wants matches move_now n s h = tt
+  search_current k stale wants matches move_now n s h = n
 
   -- and on through the orders: a search is begun for what is owed, hit if a Move is owed, or goes on
-  pub settled_current : (e : EngineState) (o : Call) (unsent matches hurry : Bool) → IfCurrent e (P orders.None) → IfCurrent e (P orders.Stop)
-      → (is_nothing o ≡ false → P (orders.Begin o) (kind_of o)) → (is_move o ≡ true → P orders.Hit kinds.Move)
-      → IfCurrent (settled_state e (choose e o unsent matches hurry)) (P (choose e o unsent matches hurry))
-  settled_current (states.Search k stale true) o unsent matches hurry n s b h = n
-  settled_current (states.Search k stale false) o unsent matches hurry n s b h = search_current k stale (is_move o) matches hurry n s h
-  settled_current states.Idle calls.Nothing false matches hurry n s b h = tt
-  settled_current states.Idle o false matches hurry n s b h = b refl
-  settled_current e o unsent matches hurry n s b h = tt
+  pub settled_current : (e : EngineState) (o : Call) (unsent matches move_now : Bool) → IfCurrent e (P orders.None) → IfCurrent e (P orders.Stop)
+      → (is_no_call o ≡ false → P (orders.Begin o) (kind_of o)) → (is_move o ≡ true → P orders.Hit kinds.Move)
+      → IfCurrent (settled_state e (choose e o unsent matches move_now)) (P (choose e o unsent matches move_now))
+  settled_current (states.Search k stale true) o unsent matches move_now n s b h = n
+  settled_current (states.Search k stale false) o unsent matches move_now n s b h = search_current k stale (is_move o) matches move_now n s h
+  settled_current states.Idle calls.Nothing false matches move_now n s b h = tt
+  settled_current states.Idle o false matches move_now n s b h = b refl
+  settled_current e o unsent matches move_now n s b h = tt

@@ -1,14 +1,14 @@
--- How moves are compared.
+-- The comparison of moves.
 use Rattle.std.proofs.Common.{◌≡◌, Option, Some, None, refl}
 use Rattle.std.specs.Option.{option_eq}
 use denote.Enum.Bare.{sameb}
 use Rattle.chess_board.specs.contracts.board.Kind.{the_type}
 use Rattle.chess_board.specs.declared.board.Kind.{Kind}
 use Rattle.chess_board.specs.declared.board.Kind.TheVariants.{Pawn, Knight, Bishop, Rook, Queen, King}
-use Rattle.search_epochs.specs.Tickets.{same_kind}
+use Rattle.search_epochs.specs.Tickets.{same_search_kind}
 
--- what `==` answers at kinds of men
-kinds_compared : (a b : Kind) → sameb the_type a b ≡ same_kind a b
+-- what `==` answers at kinds of pieces
+kinds_compared : (a b : Kind) → sameb the_type a b ≡ same_search_kind a b
 kinds_compared Pawn Pawn = refl
 kinds_compared Knight Knight = refl
 kinds_compared Bishop Bishop = refl
@@ -18,7 +18,7 @@ kinds_compared King King = refl
 kinds_compared _ _ = refl
 
 -- and at what a pawn becomes
-pub promotions_compared : (a b : Option Kind) → option_eq (λ x y. sameb the_type x y) a b ≡ option_eq same_kind a b
+pub promotions_compared : (a b : Option Kind) → option_eq (λ x y. sameb the_type x y) a b ≡ option_eq same_search_kind a b
 promotions_compared None None = refl
 promotions_compared None (Some b) = refl
 promotions_compared (Some a) None = refl

@@ -1,4 +1,4 @@
--- What is kept stands for what was heard and written, call by call.
+-- The kept state stands for what was heard and written, call by call.
 use Rattle.std.proofs.Common.{◌≡◌, ◌↔◌, List, Bool, true, false, cond, ◌&&◌, Option, refl, sym, ap, subst, ◌∙◌}
 use Rattle.chess_board.specs.declared.board.Move.{Move}
 use Rattle.search_epochs.specs.declared.words.EngineState.{EngineState}
@@ -10,14 +10,14 @@ use Rattle.search_epochs.specs.declared.words.Call.{Call}
 use Rattle.search_epochs.specs.declared.words.Call.TheVariants as calls
 use Rattle.search_epochs.specs.declared.words.Orders.{Orders}
 use Rattle.search_epochs.specs.declared.words.Orders.TheVariants as orders
-use Rattle.search_epochs.specs.Tickets.{Ticketed, Word, TicketWithin, LastWithin, AllSetup, Settled, sent_all, hear, rise, is_call_spent, owed, after, is_empty, is_idle, is_move, while_pondering, hint_after}
-use Rattle.search_epochs.specs.Dialogue.{Dialogue, StandsFor, forget, meaning, heard_state, heard_spent, stale_state, settled_state, settled_pondered, after_said, after_epoch, after_settled, settle, choose, hits, is_pondered, words}
+use Rattle.search_epochs.specs.Tickets.{Ticketed, Word, TicketWithin, LastWithin, AllSetup, Settled, sent_all, ticketed_after_heard, rise, is_call_spent, owed, engine_after_orders, has_no_order, is_engine_idle, is_move, while_pondering, hint_after_orders}
+use Rattle.search_epochs.specs.Dialogue.{Dialogue, StandsFor, forget, meaning, heard_state, heard_spent, stale_state, settled_state, settled_pondered, dialogue_after_said, after_epoch, after_settled, settle, choose, hits, is_pondered, words}
 use Rattle.search_epochs.proofs.Settles.{chosen}
 use Rattle.search_epochs.proofs.Turns.{heard_both, spent_both, risen, risen_spent, ordered}
 use Rattle.search_epochs.proofs.Rests.{rested}
 use Rattle.search_epochs.proofs.Hints.{hint_kept}
 
-pub heard_stands : (v : Dialogue) (t : Ticketed) (hint : Option Move) (s : Said) → StandsFor v t hint → StandsFor (after_said v s) (hear t s) hint
+pub heard_stands : (v : Dialogue) (t : Ticketed) (hint : Option Move) (s : Said) → StandsFor v t hint → StandsFor (dialogue_after_said v s) (ticketed_after_heard t s) hint
 heard_stands v t hint s h = record {
   same_state = ap (λ (e : EngineState). heard_state e s) h.same_state ∙ heard_both t.epoch t.engine s;
   same_spent =
@@ -47,35 +47,35 @@ rested_stands v v' t hint e h = record {
 }
 
 -- The orders o are what is chosen by what is kept.
-module _ (v : Dialogue) (t : Ticketed) (hint : Option Move) (call : Call) (unsent : Bool) (played : Option Move) (hurry : Bool) (waiting : List Word) (o : Orders) (is : o ≡ settle v call unsent played hurry) (h : StandsFor v t hint) (a : AllSetup waiting) where
+module _ (v : Dialogue) (t : Ticketed) (hint : Option Move) (call : Call) (unsent : Bool) (played : Option Move) (move_now : Bool) (waiting : List Word) (o : Orders) (is : o ≡ settle v call unsent played move_now) (h : StandsFor v t hint) (a : AllSetup waiting) where
   -- the same is chosen by the dialogue
-  chosen_by : o ≡ choose (forget t.epoch t.engine) (owed t call) unsent (is_pondered hint played) hurry
+  chosen_by : o ≡ choose (forget t.epoch t.engine) (owed t call) unsent (is_pondered hint played) move_now
   chosen_by =
       is
-      ∙ ap (λ (e : EngineState). choose e (cond v.spent calls.Nothing call) unsent (is_pondered v.pondered played) hurry) h.same_state
-      ∙ ap (λ b. choose (forget t.epoch t.engine) (cond b calls.Nothing call) unsent (is_pondered v.pondered played) hurry) h.same_spent
-      ∙ ap (λ (p : Option Move). choose (forget t.epoch t.engine) (owed t call) unsent (is_pondered p played) hurry) h.same_hint
+      ∙ ap (λ (e : EngineState). choose e (cond v.spent calls.Nothing call) unsent (is_pondered v.pondered played) move_now) h.same_state
+      ∙ ap (λ b. choose (forget t.epoch t.engine) (cond b calls.Nothing call) unsent (is_pondered v.pondered played) move_now) h.same_spent
+      ∙ ap (λ (p : Option Move). choose (forget t.epoch t.engine) (owed t call) unsent (is_pondered p played) move_now) h.same_hint
 
-  pub settled_by_view : (unsent ≡ false → is_empty waiting ≡ true)
-      → Settled t.engine t.epoch (owed t call) waiting (is_idle t.engine && unsent) (hits t.engine (is_pondered hint played) (is_move (owed t call))) hurry (words waiting o)
+  pub settled_by_view : (unsent ≡ false → has_no_order waiting ≡ true)
+      → Settled t.engine t.epoch (owed t call) waiting (is_engine_idle t.engine && unsent) (hits t.engine (is_pondered hint played) (is_move (owed t call))) move_now (words waiting o)
   settled_by_view w =
-      subst (λ (x : Orders). Settled t.engine t.epoch (owed t call) waiting (is_idle t.engine && unsent) (hits t.engine (is_pondered hint played) (is_move (owed t call))) hurry (words waiting x)) (sym chosen_by)
-      (chosen t.engine t.epoch (owed t call) waiting unsent (is_pondered hint played) hurry a w)
+      subst (λ (x : Orders). Settled t.engine t.epoch (owed t call) waiting (is_engine_idle t.engine && unsent) (hits t.engine (is_pondered hint played) (is_move (owed t call))) move_now (words waiting x)) (sym chosen_by)
+      (chosen t.engine t.epoch (owed t call) waiting unsent (is_pondered hint played) move_now a w)
 
   pub settled_stands : (v' : Dialogue) → v'.state ≡ settled_state v.state o → v'.spent ≡ v.spent → v'.pondered ≡ settled_pondered v.state v.pondered o
-      → StandsFor v' (after t (words waiting o)) (hint_after t (words waiting o) (owed t call) hint)
+      → StandsFor v' (engine_after_orders t (words waiting o)) (hint_after_orders t (words waiting o) (owed t call) hint)
   settled_stands v' state spent pondered = record {
     same_state =
         state ∙ ap (λ (e : EngineState). settled_state e o) h.same_state
         ∙ subst (λ (x : Orders). settled_state (forget t.epoch t.engine) x ≡ forget t.epoch (sent_all t.epoch t.engine (words waiting x))) (sym chosen_by)
-        (ordered t.epoch t.engine (owed t call) waiting unsent (is_pondered hint played) hurry a);
+        (ordered t.epoch t.engine (owed t call) waiting unsent (is_pondered hint played) move_now a);
     same_spent = spent ∙ h.same_spent;
     same_hint =
         pondered
         ∙ ap (λ (e : EngineState). settled_pondered e v.pondered o) h.same_state
         ∙ ap (λ (p : Option Move). settled_pondered (forget t.epoch t.engine) p o) h.same_hint
-        ∙ subst (λ (x : Orders). settled_pondered (forget t.epoch t.engine) hint x ≡ hint_after t (words waiting x) (owed t call) hint) (sym chosen_by)
-        (hint_kept t.epoch t.engine hint (owed t call) waiting unsent (is_pondered hint played) hurry a);
+        ∙ subst (λ (x : Orders). settled_pondered (forget t.epoch t.engine) hint x ≡ hint_after_orders t (words waiting x) (owed t call) hint) (sym chosen_by)
+        (hint_kept t.epoch t.engine hint (owed t call) waiting unsent (is_pondered hint played) move_now a);
   }
 
 -- nothing is heard if and only if the state stays

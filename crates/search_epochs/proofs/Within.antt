@@ -1,7 +1,7 @@
 -- No ticket is ever above the epoch.
 use Rattle.std.proofs.Common.{ℕ, ◌+◌, List, [], ◌∷◌, Bool, true, false, cond, Option, Some, None, arith}
 use Rattle.peer_words.specs.declared.kinds.GoKind.TheVariants as kinds
-use Rattle.search_epochs.specs.Tickets.{Engine, Boot, Getting, Idle, Search, Gone, Word, Uci, IsReady, Go, PonderHit, Ticketed, TicketWithin, LastWithin, DialogueTurn, heard, said_of, closed_ticket, engine_after_word, sent_all, before_orders}
+use Rattle.search_epochs.specs.Tickets.{Engine, Boot, Getting, Idle, Search, Gone, Word, Uci, IsReady, Go, PonderHit, Ticketed, TicketWithin, LastWithin, DialogueTurn, engine_after_heard, said_of_event, closed_ticket, engine_after_word, sent_all, before_orders}
 use Rattle.search_epochs.specs.History.{dialogue}
 use Rattle.search_epochs.specs.Laws.{TicketsAreWithin}
 use Rattle.search_epochs.proofs.Whole.{heard_within, last_within}
@@ -34,10 +34,10 @@ risen_last epoch (Some n) false l = l
 
 -- after the event and the rise of the epoch
 pub turned_within : (t : Ticketed) (u : DialogueTurn) → TicketWithin t.epoch t.engine → TicketWithin (before_orders t u).epoch (before_orders t u).engine
-turned_within t u w = risen_within t.epoch (heard t.engine (said_of u.what)) u.begins_epoch (heard_within t.epoch t.engine (said_of u.what) w)
+turned_within t u w = risen_within t.epoch (engine_after_heard t.engine (said_of_event u.what)) u.begins_epoch (heard_within t.epoch t.engine (said_of_event u.what) w)
 
 pub turned_last : (t : Ticketed) (u : DialogueTurn) → TicketWithin t.epoch t.engine → LastWithin t.epoch t.last → LastWithin (before_orders t u).epoch (before_orders t u).last
-turned_last t u w l = risen_last t.epoch (closed_ticket t.engine (said_of u.what) t.last) u.begins_epoch (last_within t.epoch t.engine (said_of u.what) t.last w l)
+turned_last t u w l = risen_last t.epoch (closed_ticket t.engine (said_of_event u.what) t.last) u.begins_epoch (last_within t.epoch t.engine (said_of_event u.what) t.last w l)
 
 -- after all exchanges
 pub within : TicketsAreWithin

@@ -9,14 +9,14 @@ use Rattle.search_epochs.specs.declared.words.Call.TheVariants as calls
 use Rattle.search_epochs.specs.Tickets.{Engine, Idle, Search, Gone, Word, Setup, IsReady}
 use Rattle.search_epochs.specs.Tickets.{Position, Go, Stop, PonderHit, Quit, Ticketed}
 use Rattle.search_epochs.specs.Tickets.{DialogueTurn, TicketWithin, LastWithin, AllSetup}
-use Rattle.search_epochs.specs.Tickets.{Settled, IsLiveOnlyAt, Serves, Paired, before_orders}
-use Rattle.search_epochs.specs.Tickets.{after, owed, is_call_spent, is_due, is_hit, is_hurry}
-use Rattle.search_epochs.specs.Tickets.{is_move, is_idle, is_empty, is_nothing, has_quit, only}
+use Rattle.search_epochs.specs.Tickets.{Settled, IsLiveOnlyAt, SearchServesCall, Paired, before_orders}
+use Rattle.search_epochs.specs.Tickets.{engine_after_orders, owed, is_call_spent, is_due, is_ponder_hit, is_move_now}
+use Rattle.search_epochs.specs.Tickets.{is_move, is_engine_idle, has_no_order, is_no_call, has_quit_order, only}
 use Rattle.search_epochs.specs.Dialogue.{dialogue_between_steps, kept_mid, mid_dialogue}
 use Rattle.search_epochs.specs.Dialogue.{settled_by, after_settled, words}
-use Rattle.search_epochs.specs.History.{Exchange, Steady, Chosen, Lawful, dialogue, view}
+use Rattle.search_epochs.specs.History.{Exchange, Steady, Chosen, LawfulHistory, dialogue, view}
 use Rattle.search_epochs.specs.History.{last_hint, last_call, is_closed, call_of_last_search}
-use Rattle.search_epochs.specs.History.{stops_since_go, engine_at, without_orders}
+use Rattle.search_epochs.specs.History.{stop_orders_since_go, engine_at, without_orders}
 
 -- one turn
 
@@ -32,7 +32,7 @@ abbrev pub TurnIsSettled : Type 0
 TurnIsSettled =
     (t : Ticketed) (u : DialogueTurn) → AllSetup u.waiting
     → Settled (before_orders t u).engine (before_orders t u).epoch (owed (before_orders t u) u.call)
-    u.waiting (is_due t u) (is_hit t u) (is_hurry u.what) (words u.waiting (settled_by t u))
+    u.waiting (is_due t u) (is_ponder_hit t u) (is_move_now u.what) (words u.waiting (settled_by t u))
 
 -- and what is kept goes on with the tickets, if the hint afterwards is the one before, unless an
 -- epoch begins, and is named by a call to ponder that is owed
@@ -43,7 +43,7 @@ TurnIsKept =
     → (u.begins_epoch ≡ false → hint ≡ u.hint)
     → ((h : Move) → owed (before_orders t u) u.call ≡ calls.Ponder h → hint ≡ Some h)
     → after_settled (kept_mid t u) (settled_by t u)
-    ≡ dialogue_between_steps (after (before_orders t u) (words u.waiting (settled_by t u))) hint
+    ≡ dialogue_between_steps (engine_after_orders (before_orders t u) (words u.waiting (settled_by t u))) hint
 
 -- what is settled is one list of orders
 abbrev pub SettledIsUnique : Type 0
@@ -65,22 +65,22 @@ SettledIsOnly =
 
 -- a dialogue whose orders the code chose is lawful
 abbrev pub ChosenIsLawful : Type 0
-ChosenIsLawful = (xs : List Exchange) → Steady xs → Chosen xs → Lawful xs
+ChosenIsLawful = (xs : List Exchange) → Steady xs → Chosen xs → LawfulHistory xs
 
 -- a lawful dialogue is one whose orders the code chose
 abbrev pub LawfulIsChosen : Type 0
-LawfulIsChosen = (xs : List Exchange) → Steady xs → Lawful xs → Chosen xs
+LawfulIsChosen = (xs : List Exchange) → Steady xs → LawfulHistory xs → Chosen xs
 
 -- in each, what the code keeps goes with the tickets
 abbrev pub DialogueIsKept : Type 0
 DialogueIsKept =
-    (xs : List Exchange) → Steady xs → Lawful xs
+    (xs : List Exchange) → Steady xs → LawfulHistory xs
     → view xs ≡ dialogue_between_steps (dialogue xs) (last_hint xs)
 
 -- two lawful dialogues in which the same is asked are the same
 abbrev pub DialogueIsUnique : Type 0
 DialogueIsUnique =
-    (xs ys : List Exchange) → Lawful xs → Lawful ys → map without_orders xs ≡ map without_orders ys
+    (xs ys : List Exchange) → LawfulHistory xs → LawfulHistory ys → map without_orders xs ≡ map without_orders ys
     → xs ≡ ys
 
 -- no ticket is ever above the epoch
@@ -95,32 +95,32 @@ TicketsAreWithin =
 -- an open search that is not stopped is current
 abbrev pub LiveIsCurrent : Type 0
 LiveIsCurrent =
-    (xs : List Exchange) → Lawful xs → IsLiveOnlyAt (dialogue xs).epoch (dialogue xs).engine
+    (xs : List Exchange) → LawfulHistory xs → IsLiveOnlyAt (dialogue xs).epoch (dialogue xs).engine
 
 -- a current search that is stopped is for a Move
 abbrev pub StoppedIsForMove : Type 0
 StoppedIsForMove =
-    (xs : List Exchange) (k : GoKind) → Lawful xs
+    (xs : List Exchange) (k : GoKind) → LawfulHistory xs
     → (dialogue xs).engine ≡ Search k (dialogue xs).epoch true → k ≡ kinds.Move
 
 -- there is no open current search beside spent
 abbrev pub CurrentIsUnspent : Type 0
 CurrentIsUnspent =
-    (xs : List Exchange) (k : GoKind) (stopped : Bool) → Lawful xs
+    (xs : List Exchange) (k : GoKind) (stopped : Bool) → LawfulHistory xs
     → (dialogue xs).engine ≡ Search k (dialogue xs).epoch stopped
     → is_call_spent (dialogue xs) ≡ false
 
 -- at most one `stop` is written from a `go` to the next, so in a search, which ends with its answer
 -- and goes on after a `ponderhit`
-abbrev pub StopsOnce : Type 0
-StopsOnce = (xs : List Exchange) → Lawful xs → stops_since_go xs ≤ 1
+abbrev pub StopOrderComesOnce : Type 0
+StopOrderComesOnce = (xs : List Exchange) → LawfulHistory xs → stop_orders_since_go xs ≤ 1
 
 -- an idle engine is left idle only if nothing is owed and nothing waits
 abbrev pub NothingIsLeft : Type 0
 NothingIsLeft =
-    (x : Exchange) (xs : List Exchange) → Lawful (x ∷ xs) → x.closed ≡ false
-    → is_idle (dialogue (x ∷ xs)).engine ≡ true
-    → (is_empty x.turn.waiting ≡ true) × (is_nothing (owed (dialogue (x ∷ xs)) x.turn.call) ≡ true)
+    (x : Exchange) (xs : List Exchange) → LawfulHistory (x ∷ xs) → x.closed ≡ false
+    → is_engine_idle (dialogue (x ∷ xs)).engine ≡ true
+    → (has_no_order x.turn.waiting ≡ true) × (is_no_call (owed (dialogue (x ∷ xs)) x.turn.call) ≡ true)
 
 -- calls
 
@@ -128,61 +128,61 @@ NothingIsLeft =
 -- just this call, hint and all
 abbrev pub CurrentServes : Type 0
 CurrentServes =
-    (xs : List Exchange) (k : GoKind) (stopped : Bool) → Steady xs → Lawful xs
+    (xs : List Exchange) (k : GoKind) (stopped : Bool) → Steady xs → LawfulHistory xs
     → is_closed xs ≡ false
     → (dialogue xs).engine ≡ Search k (dialogue xs).epoch stopped
-    → Serves k (last_call xs) × (call_of_last_search xs ≡ last_call xs)
+    → SearchServesCall k (last_call xs) × (call_of_last_search xs ≡ last_call xs)
 
 -- a call for a Move is never spent: a Move is owed if and only if it is called for
 abbrev pub MoveIsOwed : Type 0
 MoveIsOwed =
-    (xs : List Exchange) → Steady xs → Lawful xs
+    (xs : List Exchange) → Steady xs → LawfulHistory xs
     → is_move (owed (dialogue xs) (last_call xs)) ≡ is_move (last_call xs)
 
 -- where orders stand
 
 -- settings, `isready`, `position` and `go` reach only an idle engine
-abbrev pub needs_idle : Word → Bool
-needs_idle Setup = true
-needs_idle IsReady = true
-needs_idle Position = true
-needs_idle (Go k) = true
-needs_idle w = false
+abbrev pub order_needs_idle : Word → Bool
+order_needs_idle Setup = true
+order_needs_idle IsReady = true
+order_needs_idle Position = true
+order_needs_idle (Go k) = true
+order_needs_idle w = false
 
-abbrev pub IdleGetsThem : Type 0
-IdleGetsThem =
-    (x : Exchange) (xs : List Exchange) (before behind : List Word) (w : Word) → Lawful (x ∷ xs)
+abbrev pub IdleEngineGetsOrders : Type 0
+IdleEngineGetsOrders =
+    (x : Exchange) (xs : List Exchange) (before behind : List Word) (w : Word) → LawfulHistory (x ∷ xs)
     → x.orders ≡ before ++ w ∷ behind
-    → needs_idle w ≡ true → engine_at xs x before ≡ Idle
+    → order_needs_idle w ≡ true → engine_at xs x before ≡ Idle
 
 -- `stop` reaches only an open search that is not stopped
 abbrev pub SearchGetsStop : Type 0
 SearchGetsStop =
-    (x : Exchange) (xs : List Exchange) (before behind : List Word) → Lawful (x ∷ xs)
+    (x : Exchange) (xs : List Exchange) (before behind : List Word) → LawfulHistory (x ∷ xs)
     → x.orders ≡ before ++ Stop ∷ behind
     → (k : GoKind) × (ticket : ℕ) × (engine_at xs x before ≡ Search k ticket false)
 
 -- `ponderhit` reaches only an open Ponder search that is not stopped
 abbrev pub PonderGetsHit : Type 0
 PonderGetsHit =
-    (x : Exchange) (xs : List Exchange) (before behind : List Word) → Lawful (x ∷ xs)
+    (x : Exchange) (xs : List Exchange) (before behind : List Word) → LawfulHistory (x ∷ xs)
     → x.orders ≡ before ++ PonderHit ∷ behind
     → (ticket : ℕ) × (engine_at xs x before ≡ Search kinds.Ponder ticket false)
 
 -- nothing reaches a gone engine
 abbrev pub GoneGetsNothing : Type 0
 GoneGetsNothing =
-    (x : Exchange) (xs : List Exchange) (before behind : List Word) (w : Word) → Lawful (x ∷ xs)
+    (x : Exchange) (xs : List Exchange) (before behind : List Word) (w : Word) → LawfulHistory (x ∷ xs)
     → x.orders ≡ before ++ w ∷ behind
     → engine_at xs x before ≢ Gone
 
 -- each `go` comes directly after a `position`, and each `position` directly before a `go`
 abbrev pub GoFollowsPosition : Type 0
-GoFollowsPosition = (x : Exchange) (xs : List Exchange) → Lawful (x ∷ xs) → Paired x.orders
+GoFollowsPosition = (x : Exchange) (xs : List Exchange) → LawfulHistory (x ∷ xs) → Paired x.orders
 
 -- `quit` is written only by the step that closes the session, alone; after it nothing is written
-abbrev pub QuitIsLast : Type 0
-QuitIsLast =
-    (x : Exchange) (xs : List Exchange) → Lawful (x ∷ xs)
-    → (x.closed ≡ false → has_quit x.orders ≡ false)
-    × (has_quit x.orders ≡ true → x.orders ≡ Quit ∷ []) × (is_closed xs ≡ true → x.orders ≡ [])
+abbrev pub QuitOrderIsLast : Type 0
+QuitOrderIsLast =
+    (x : Exchange) (xs : List Exchange) → LawfulHistory (x ∷ xs)
+    → (x.closed ≡ false → has_quit_order x.orders ≡ false)
+    × (has_quit_order x.orders ≡ true → x.orders ≡ Quit ∷ []) × (is_closed xs ≡ true → x.orders ≡ [])

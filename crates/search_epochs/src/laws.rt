@@ -1,9 +1,9 @@
 // Laws of the dialogue: functions that do nothing, whose contracts hold of every turn and of every list of exchanges.
 ghost use Rattle.search_epochs.specs.Laws.{ChosenIsLawful, CurrentIsUnspent, CurrentServes, DialogueIsUnique};
-ghost use Rattle.search_epochs.specs.Laws.{GoFollowsPosition, GoneGetsNothing, IdleGetsThem, LawfulIsChosen};
+ghost use Rattle.search_epochs.specs.Laws.{GoFollowsPosition, GoneGetsNothing, IdleEngineGetsOrders, LawfulIsChosen};
 ghost use Rattle.search_epochs.specs.Laws.{LiveIsCurrent, MidIsKept, MoveIsOwed, NothingIsLeft, PonderGetsHit};
-ghost use Rattle.search_epochs.specs.Laws.{QuitIsLast, SearchGetsStop, SettledIsOnly, SettledIsUnique, StoppedIsForMove};
-ghost use Rattle.search_epochs.specs.Laws.{StopsOnce, TicketsAreWithin, TurnIsKept, TurnIsSettled, DialogueIsKept};
+ghost use Rattle.search_epochs.specs.Laws.{QuitOrderIsLast, SearchGetsStop, SettledIsOnly, SettledIsUnique, StoppedIsForMove};
+ghost use Rattle.search_epochs.specs.Laws.{StopOrderComesOnce, TicketsAreWithin, TurnIsKept, TurnIsSettled, DialogueIsKept};
 
 /// One turn: what is kept after the event, and what is chosen then.
 pub fn whole_turn()
@@ -28,22 +28,22 @@ pub fn open_search()
     ensures live { LiveIsCurrent }
     ensures stopped { StoppedIsForMove }
     ensures unspent { CurrentIsUnspent }
-    ensures once { StopsOnce }
+    ensures once { StopOrderComesOnce }
 {}
 
-/// What is called for and what is owed.
+/// The call and what is owed.
 pub fn served_call()
     ensures left { NothingIsLeft }
     ensures serves { CurrentServes }
     ensures owed { MoveIsOwed }
 {}
 
-/// Which engine each order reaches.
+/// The engine that each order reaches.
 pub fn order_places()
-    ensures idle { IdleGetsThem }
+    ensures idle { IdleEngineGetsOrders }
     ensures stop { SearchGetsStop }
     ensures hit { PonderGetsHit }
     ensures gone { GoneGetsNothing }
     ensures paired { GoFollowsPosition }
-    ensures quit { QuitIsLast }
+    ensures quit { QuitOrderIsLast }
 {}

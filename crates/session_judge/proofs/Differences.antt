@@ -2,10 +2,10 @@
 use Rattle.std.proofs.Common.{◌≡◌, ℕ, ◌+◌, suc, List, [], ◌∷◌, Bool, true, false, cond, ◌&&◌, ◌||◌, Option, Some, None, refl, sym, ap, subst, ◌∙◌, arith}
 use Rattle.std.specs.Prelude.{◌↔◌, nat_lt}
 use Rattle.std.proofs.lemmas.Bool.{both_ways}
-use Rattle.session_judge.specs.declared.deed.OrderKind.{OrderKind}
-use Rattle.session_judge.specs.declared.deed.OrderKind.TheVariants as orders
-use Rattle.session_judge.specs.declared.deed.Deed.{Deed}
-use Rattle.session_judge.specs.declared.deed.Deed.TheVariants as deeds
+use Rattle.session_judge.specs.declared.dialogue_event.OrderKind.{OrderKind}
+use Rattle.session_judge.specs.declared.dialogue_event.OrderKind.TheVariants as orders
+use Rattle.session_judge.specs.declared.dialogue_event.DialogueEvent.{DialogueEvent}
+use Rattle.session_judge.specs.declared.dialogue_event.DialogueEvent.TheVariants as dialogue_events
 use Rattle.session_judge.specs.declared.engine.EnginePhase.{EnginePhase}
 use Rattle.session_judge.specs.declared.engine.EnginePhase.TheVariants as engines
 use Rattle.session_judge.specs.declared.listener.Listener.{Listener}
@@ -14,11 +14,11 @@ use Rattle.session_judge.specs.declared.rule.Rule.{Rule}
 use Rattle.session_judge.specs.declared.rule.Rule.TheVariants as rules
 use Rattle.session_judge.specs.declared.talk.JudgedTalk.{JudgedTalk}
 use Rattle.session_judge.specs.Clean.{Entry, IsClean, CrossingsAreTheDifference, broken_rule, crossings, talk}
-use Rattle.session_judge.specs.Crossings.{crossings_after, is_crossing, is_to_search, next, taken, taken_as}
-use Rattle.session_judge.specs.Deeds.{deed_of}
-use Rattle.session_judge.specs.Engines.{heard_of, is_idle}
+use Rattle.session_judge.specs.Crossings.{crossings_after, is_crossing, is_to_search, next_search_number, taken, taken_as}
+use Rattle.session_judge.specs.DialogueEvents.{dialogue_event_of}
+use Rattle.session_judge.specs.Engines.{event_unless_gone, is_idle}
 use Rattle.session_judge.specs.Rules.{broken, broken_by, breaks_busy, breaks_first, breaks_gone, breaks_hit, breaks_order, breaks_position, breaks_quit, breaks_stop}
-use Rattle.session_judge.specs.Talks.{after, opening}
+use Rattle.session_judge.specs.Talks.{judgement_after, opening_judgement}
 
 -- THE SAME TALK
 
@@ -28,7 +28,7 @@ heard_by listener t = record t { listener = listener }
 
 same_talk : (listener : Listener) (log : List Entry) → talk listener log ≡ heard_by listener (talk listeners.Bridge log)
 same_talk listener [] = refl
-same_talk listener (entry ∷ log) = ap (λ (t : JudgedTalk). after t entry.line (deed_of entry.mark)) (same_talk listener log)
+same_talk listener (entry ∷ log) = ap (λ (t : JudgedTalk). judgement_after t entry.line (dialogue_event_of entry.mark)) (same_talk listener log)
 
 -- THE RULES
 
@@ -104,16 +104,16 @@ alike t o n =
 
 -- THE COUNT
 
-abbrev is_written : Deed → Bool
-is_written (deeds.Writes o) = true
+abbrev is_written : DialogueEvent → Bool
+is_written (dialogue_events.Writes o) = true
 is_written d = false
 
-not_counted : (n : ℕ) (gone : Bool) (e : EnginePhase) (d : Deed) (g : Bool) → is_written d ≡ false → crossings_after n gone e (heard_of d g) ≡ n
-not_counted n gone e (deeds.Writes o) g w = cc
+not_counted : (n : ℕ) (gone : Bool) (e : EnginePhase) (d : DialogueEvent) (g : Bool) → is_written d ≡ false → crossings_after n gone e (event_unless_gone d g) ≡ n
+not_counted n gone e (dialogue_events.Writes o) g w = cc
 not_counted n gone e d true w = refl
 not_counted n gone e d false w = refl
 
-some : (n : ℕ) → next n ≡ 0 → ⊥
+some : (n : ℕ) → next_search_number n ≡ 0 → ⊥
 some n e = by (nat_lt n 18446744073709551615) e where
   by : (b : Bool) → cond b (n + 1) 18446744073709551615 ≡ 0 → ⊥
   by true z = omega (arith, z)
@@ -126,21 +126,21 @@ passes_so : (listener : Listener) (t : JudgedTalk) (o : OrderKind) → is_crossi
 passes_so listeners.Bridge t o c n = n
 passes_so listeners.Tap t o c n = sym (alike t o c) ∙ n
 
-pub own_passes : (listener : Listener) (t : JudgedTalk) (d : Deed) → broken (heard_by listeners.Bridge t) d ≡ None → broken (heard_by listener t) d ≡ None
-own_passes listener t (deeds.Writes o) n = passes_so listener t o (own_never_crosses t o n) n
+pub own_passes : (listener : Listener) (t : JudgedTalk) (d : DialogueEvent) → broken (heard_by listeners.Bridge t) d ≡ None → broken (heard_by listener t) d ≡ None
+own_passes listener t (dialogue_events.Writes o) n = passes_so listener t o (own_never_crosses t o n) n
 own_passes listener t d n = n
 
 -- and does not cross
-pub own_apart : (t : JudgedTalk) (line : ℕ) (d : Deed) → broken (heard_by listeners.Bridge t) d ≡ None → (after t line d).crossings ≡ t.crossings
-own_apart t line (deeds.Writes o) n = ap (λ b. cond b (next t.crossings) t.crossings) (own_never_crosses t o n)
+pub own_apart : (t : JudgedTalk) (line : ℕ) (d : DialogueEvent) → broken (heard_by listeners.Bridge t) d ≡ None → (judgement_after t line d).crossings ≡ t.crossings
+own_apart t line (dialogue_events.Writes o) n = ap (λ b. cond b (next_search_number t.crossings) t.crossings) (own_never_crosses t o n)
 own_apart t line d n = not_counted t.crossings t.gone t.engine d t.gone refl
 
-tap_deed : (t : JudgedTalk) (line : ℕ) (d : Deed) → broken (heard_by listeners.Tap t) d ≡ None → (after t line d).crossings ≡ 0 → (broken (heard_by listeners.Bridge t) d ≡ None) × (t.crossings ≡ 0)
-tap_deed t line (deeds.Writes o) n z = by (is_crossing t.gone t.engine o) refl where
+tap_dialogue_event : (t : JudgedTalk) (line : ℕ) (d : DialogueEvent) → broken (heard_by listeners.Tap t) d ≡ None → (judgement_after t line d).crossings ≡ 0 → (broken (heard_by listeners.Bridge t) d ≡ None) × (t.crossings ≡ 0)
+tap_dialogue_event t line (dialogue_events.Writes o) n z = by (is_crossing t.gone t.engine o) refl where
   by : (b : Bool) → is_crossing t.gone t.engine o ≡ b → (broken_by (heard_by listeners.Bridge t) o ≡ None) × (t.crossings ≡ 0)
-  by true c = absurd (some t.crossings (sym (ap (λ b. cond b (next t.crossings) t.crossings) c) ∙ z))
-  by false c = (alike t o c ∙ n, sym (ap (λ b. cond b (next t.crossings) t.crossings) c) ∙ z)
-tap_deed t line d n z = (n, sym (not_counted t.crossings t.gone t.engine d t.gone refl) ∙ z)
+  by true c = absurd (some t.crossings (sym (ap (λ b. cond b (next_search_number t.crossings) t.crossings) c) ∙ z))
+  by false c = (alike t o c ∙ n, sym (ap (λ b. cond b (next_search_number t.crossings) t.crossings) c) ∙ z)
+tap_dialogue_event t line d n z = (n, sym (not_counted t.crossings t.gone t.engine d t.gone refl) ∙ z)
 
 -- WHOLE LOGS
 
@@ -150,19 +150,19 @@ own log = talk listeners.Bridge log
 forth : (log : List Entry) → IsClean listeners.Bridge log → IsClean listeners.Tap log × (crossings log ≡ 0)
 forth [] c = (tt, refl)
 forth (entry ∷ log) c =
-    let d = deed_of entry.mark in
+    let d = dialogue_event_of entry.mark in
     let before = forth log c.0 in
     let n = ap (λ (t : JudgedTalk). broken t d) (sym (same_talk listeners.Bridge log)) ∙ c.1 in (
       (before.0, ap (λ (t : JudgedTalk). broken t d) (same_talk listeners.Tap log) ∙ own_passes listeners.Tap (own log) d n),
-      ap (λ (t : JudgedTalk). (after t entry.line d).crossings) (same_talk listeners.Tap log) ∙ own_apart (own log) entry.line d n ∙ ap (λ (t : JudgedTalk). t.crossings) (sym (same_talk listeners.Tap log)) ∙ before.1,
+      ap (λ (t : JudgedTalk). (judgement_after t entry.line d).crossings) (same_talk listeners.Tap log) ∙ own_apart (own log) entry.line d n ∙ ap (λ (t : JudgedTalk). t.crossings) (sym (same_talk listeners.Tap log)) ∙ before.1,
     )
 
 back : (log : List Entry) → IsClean listeners.Tap log → crossings log ≡ 0 → IsClean listeners.Bridge log
 back [] c z = tt
 back (entry ∷ log) c z =
-    let d = deed_of entry.mark in
-    let w = tap_deed (own log) entry.line d (ap (λ (t : JudgedTalk). broken t d) (sym (same_talk listeners.Tap log)) ∙ c.1)
-    (ap (λ (t : JudgedTalk). (after t entry.line d).crossings) (sym (same_talk listeners.Tap log)) ∙ z) in (
+    let d = dialogue_event_of entry.mark in
+    let w = tap_dialogue_event (own log) entry.line d (ap (λ (t : JudgedTalk). broken t d) (sym (same_talk listeners.Tap log)) ∙ c.1)
+    (ap (λ (t : JudgedTalk). (judgement_after t entry.line d).crossings) (sym (same_talk listeners.Tap log)) ∙ z) in (
       back log c.0 (ap (λ (t : JudgedTalk). t.crossings) (same_talk listeners.Tap log) ∙ w.1),
       ap (λ (t : JudgedTalk). broken t d) (same_talk listeners.Bridge log) ∙ w.0,
     )

@@ -5,14 +5,14 @@ use Rattle.std.specs.List.{slice_split, onto_first}
 use Rattle.std.specs.Option.{MatchOption}
 use Rattle.std.proofs.lemmas.List.Elements.{filter-append}
 use Rattle.chess_board.specs.Position.{Position}
-use Rattle.chess_board.specs.Spelling.{move_of}
+use Rattle.chess_board.specs.Spelling.{move_spelled_by}
 use Rattle.peer_words.specs.Tokens.{is_white, tokens}
 use Rattle.peer_words.proofs.TokenLists.{tokens_white}
 use Rattle.uci_lines.specs.Spells.{begins_white}
-use Rattle.uci_engine_side.specs.Lines.{Line, line_of, line_in, line_from, line_to, start_in, position_after_texts, played_if_legal, is_moves, before_moves, behind_moves}
-use Rattle.uci_engine_side.proofs.Played.{led_none}
-use Rattle.session_judge.specs.Deeds.{end_of}
-use Rattle.session_judge.specs.Played.{LeadsTo, Adds, GoesOn}
+use Rattle.uci_as_engine.specs.Lines.{Line, position_line_in, line_in, line_from, line_to, start_position_in, position_after_texts, played_if_legal, is_moves_token, before_moves, behind_moves}
+use Rattle.uci_as_engine.proofs.Played.{led_none}
+use Rattle.session_judge.specs.DialogueEvents.{end_of}
+use Rattle.session_judge.specs.Played.{LeadsTo, LineExtends, LineGoesOn}
 
 -- TOKENS
 
@@ -76,24 +76,24 @@ moves_from None moves said e = cc
 moves_from (Some p) moves said e = moves_to p moves (position_after_texts moves (Some p)) said e
 
 -- a line that was read, and has moves
-pub said_leads : (line : List ℕ) (said : Line) → line_of line ≡ Some said → said.moves ≢ [] → LeadsTo line said.end
-unfolding line_of
+pub said_leads : (line : List ℕ) (said : Line) → position_line_in line ≡ Some said → said.moves ≢ [] → LeadsTo line said.end
+unfolding position_line_in
 said_leads line said e n = record {
   leads = ap end_of e;
-  has_moves = λ none. n (moves_from (start_in (before_moves (drop 1 (tokens line)))) (behind_moves (drop 1 (tokens line))) said e ∙ none);
+  has_moves = λ none. n (moves_from (start_position_in (before_moves (drop 1 (tokens line)))) (behind_moves (drop 1 (tokens line))) said e ∙ none);
 }
 
 -- after a `moves` that has moves others are only added
 before_added : (ts us : List (List ℕ)) → behind_moves ts ≢ [] → before_moves (ts ++ us) ≡ before_moves ts
 before_added [] us n = absurd (n refl)
-before_added (t ∷ ts) us n = by (is_moves t) (before_added ts us) n where
+before_added (t ∷ ts) us n = by (is_moves_token t) (before_added ts us) n where
   by : (b : Bool) → (behind_moves ts ≢ [] → before_moves (ts ++ us) ≡ before_moves ts) → cond b ts (behind_moves ts) ≢ [] → cond b [] (t ∷ before_moves (ts ++ us)) ≡ cond b [] (t ∷ before_moves ts)
   by true i k = refl
   by false i k = ap (λ vs. t ∷ vs) (i k)
 
 behind_added : (ts us : List (List ℕ)) → behind_moves ts ≢ [] → behind_moves (ts ++ us) ≡ behind_moves ts ++ us
 behind_added [] us n = absurd (n refl)
-behind_added (t ∷ ts) us n = by (is_moves t) (behind_added ts us) n where
+behind_added (t ∷ ts) us n = by (is_moves_token t) (behind_added ts us) n where
   by : (b : Bool) → (behind_moves ts ≢ [] → behind_moves (ts ++ us) ≡ behind_moves ts ++ us) → cond b ts (behind_moves ts) ≢ [] → cond b (ts ++ us) (behind_moves (ts ++ us)) ≡ cond b ts (behind_moves ts) ++ us
   by true i k = refl
   by false i k = i k
@@ -101,7 +101,7 @@ behind_added (t ∷ ts) us n = by (is_moves t) (behind_added ts us) n where
 led_on : (ts us : List (List ℕ)) (p : Option Position) → position_after_texts (ts ++ us) p ≡ position_after_texts us (position_after_texts ts p)
 led_on [] us p = refl
 led_on (t ∷ ts) us None = sym (led_none us)
-led_on (t ∷ ts) us (Some p) = led_on ts us (played_if_legal p (move_of t))
+led_on (t ∷ ts) us (Some p) = led_on ts us (played_if_legal p (move_spelled_by t))
 
 ends_at : (p : Position) (moves : List (List ℕ)) (o : Option Position) → end_of (line_to p moves o) ≡ o
 ends_at p moves None = refl
@@ -114,23 +114,23 @@ from_there (Some p) ts us at e =
 
 line_on : (ts us : List (List ℕ)) (at : Position) → behind_moves ts ≢ [] → end_of (line_in ts) ≡ Some at → end_of (line_in (ts ++ us)) ≡ position_after_texts us (Some at)
 line_on ts us at n e =
-    ap (λ vs. end_of (line_from (start_in vs) (behind_moves (ts ++ us)))) (before_added ts us n)
-    ∙ ap (λ vs. end_of (line_from (start_in (before_moves ts)) vs)) (behind_added ts us n)
-    ∙ from_there (start_in (before_moves ts)) (behind_moves ts) us at e
+    ap (λ vs. end_of (line_from (start_position_in vs) (behind_moves (ts ++ us)))) (before_added ts us n)
+    ∙ ap (λ vs. end_of (line_from (start_position_in (before_moves ts)) vs)) (behind_added ts us n)
+    ∙ from_there (start_position_in (before_moves ts)) (behind_moves ts) us at e
 
 -- without its first token
 others_added : (ts us : List (List ℕ)) → behind_moves (drop 1 ts) ≢ [] → drop 1 (ts ++ us) ≡ drop 1 ts ++ us
 others_added [] us n = absurd (n refl)
 others_added (t ∷ ts) us n = refl
 
-tokens_on : (line : List ℕ) (at : Position) (more : List ℕ) → (g : GoesOn line at more) → drop 1 (tokens line) ≡ drop 1 (tokens g.known) ++ tokens more
+tokens_on : (line : List ℕ) (at : Position) (more : List ℕ) → (g : LineGoesOn line at more) → drop 1 (tokens line) ≡ drop 1 (tokens g.known) ++ tokens more
 tokens_on line at more g =
     ap (λ text. drop 1 (tokens text)) g.adds.whole ∙ ap (drop 1) (tokens_added g.known more g.adds.apart)
     ∙ others_added (tokens g.known) (tokens more) g.leads.has_moves
 
 -- only what is added is played
-pub plays_on : (line : List ℕ) (at : Position) (more : List ℕ) → GoesOn line at more → end_of (line_of line) ≡ position_after_texts (tokens more) (Some at)
-unfolding line_of
+pub plays_on : (line : List ℕ) (at : Position) (more : List ℕ) → LineGoesOn line at more → end_of (position_line_in line) ≡ position_after_texts (tokens more) (Some at)
+unfolding position_line_in
 plays_on line at more g =
     ap (λ ts. end_of (line_in ts)) (tokens_on line at more g)
     ∙ line_on (drop 1 (tokens g.known)) (tokens more) at g.leads.has_moves g.leads.leads
@@ -140,7 +140,7 @@ joined_some [] us n e = n refl
 joined_some (t ∷ ts) us n e = cc
 
 -- and then the longer line is known
-pub leads_on : (line : List ℕ) (at end : Position) (more : List ℕ) → GoesOn line at more → position_after_texts (tokens more) (Some at) ≡ Some end → LeadsTo line end
+pub leads_on : (line : List ℕ) (at end : Position) (more : List ℕ) → LineGoesOn line at more → position_after_texts (tokens more) (Some at) ≡ Some end → LeadsTo line end
 leads_on line at end more g e = record {
   leads = plays_on line at more g ∙ e;
   has_moves = λ none. joined_some (behind_moves (drop 1 (tokens g.known))) (tokens more) g.leads.has_moves

@@ -5,9 +5,9 @@ use Rattle.session_judge.specs.declared.listener.Listener.{Listener}
 use Rattle.session_judge.specs.declared.listener.Listener.TheVariants as listeners
 use Rattle.session_judge.specs.declared.rule.Rule.{Rule}
 use Rattle.session_judge.specs.declared.talk.JudgedTalk.{JudgedTalk}
-use Rattle.session_judge.specs.Deeds.{deed_of}
+use Rattle.session_judge.specs.DialogueEvents.{dialogue_event_of}
 use Rattle.session_judge.specs.Rules.{broken}
-use Rattle.session_judge.specs.Talks.{opening, after}
+use Rattle.session_judge.specs.Talks.{opening_judgement, judgement_after}
 
 -- a mark, and the number of its line
 pub record Entry : Type 0 where
@@ -16,12 +16,12 @@ pub record Entry : Type 0 where
 
 -- what the marks of a log show, if this one wrote it
 abbrev pub talk : Listener → List Entry → JudgedTalk
-talk listener [] = opening listener
-talk listener (entry ∷ log) = after (talk listener log) entry.line (deed_of entry.mark)
+talk listener [] = opening_judgement listener
+talk listener (entry ∷ log) = judgement_after (talk listener log) entry.line (dialogue_event_of entry.mark)
 
 -- the first rule that a mark breaks after a log
 abbrev pub broken_rule : Listener → List Entry → Mark → Option Rule
-broken_rule listener log mark = broken (talk listener log) (deed_of mark)
+broken_rule listener log mark = broken (talk listener log) (dialogue_event_of mark)
 
 -- no mark of the log breaks a rule
 abbrev pub IsClean : Listener → List Entry → Type 0
@@ -39,6 +39,6 @@ CrossingsAreTheDifference =
     → IsClean listeners.Bridge log ↔ (IsClean listeners.Tap log × (crossings log ≡ 0))
 
 -- what a judge answers
-abbrev pub verdict : Option Rule → Result (Unit {0}) Rule
-verdict None = Ok tt
-verdict (Some rule) = Err rule
+abbrev pub judge_verdict : Option Rule → Result (Unit {0}) Rule
+judge_verdict None = Ok tt
+judge_verdict (Some rule) = Err rule

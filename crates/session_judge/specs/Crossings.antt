@@ -1,10 +1,10 @@
 -- Crossings. A tap logs a line of the engine before the bridge has read it. So an order that the
 -- bridge wrote before it read the line can come after it.
 use Rattle.std.specs.Prelude.{Bool, true, false, ℕ, ◌+◌, ◌&&◌, ◌||◌, nat_lt, if◌then◌else◌}
-use Rattle.session_judge.specs.declared.deed.OrderKind.{OrderKind}
-use Rattle.session_judge.specs.declared.deed.OrderKind.TheVariants as orders
-use Rattle.session_judge.specs.declared.deed.Deed.{Deed}
-use Rattle.session_judge.specs.declared.deed.Deed.TheVariants as deeds
+use Rattle.session_judge.specs.declared.dialogue_event.OrderKind.{OrderKind}
+use Rattle.session_judge.specs.declared.dialogue_event.OrderKind.TheVariants as orders
+use Rattle.session_judge.specs.declared.dialogue_event.DialogueEvent.{DialogueEvent}
+use Rattle.session_judge.specs.declared.dialogue_event.DialogueEvent.TheVariants as dialogue_events
 use Rattle.session_judge.specs.declared.engine.EnginePhase.{EnginePhase}
 use Rattle.session_judge.specs.declared.engine.EnginePhase.TheVariants as engines
 use Rattle.session_judge.specs.declared.listener.Listener.{Listener}
@@ -26,12 +26,12 @@ is_crossing gone engine order = gone || (is_idle engine && is_to_search order)
 
 -- The engine as it would be if its last `bestmove` had not come: in the search that this ended,
 -- until an order other than `stop` and `ponderhit` is written.
-abbrev pub unanswered_after : EnginePhase → EnginePhase → Deed → EnginePhase
-unanswered_after engine unanswered (deeds.Writes order) =
-    if is_to_search order then engine_after unanswered (deeds.Writes order) else engines.Idle
-unanswered_after (engines.Search kind stopped) unanswered (deeds.Answers best) =
+abbrev pub unanswered_after : EnginePhase → EnginePhase → DialogueEvent → EnginePhase
+unanswered_after engine unanswered (dialogue_events.Writes order) =
+    if is_to_search order then engine_after unanswered (dialogue_events.Writes order) else engines.Idle
+unanswered_after (engines.Search kind stopped) unanswered (dialogue_events.Answers best) =
     engines.Search kind stopped
-unanswered_after engine unanswered deed = unanswered
+unanswered_after engine unanswered dialogue_event = unanswered
 
 -- The engine as the bridge may take it to be: it may not know yet of a
 -- `bestmove` that a tap has logged.
@@ -43,11 +43,11 @@ abbrev pub taken : JudgedTalk → EnginePhase
 taken t = taken_as t.engine t.listener t.unanswered
 
 -- the next number, which stays at the last
-abbrev pub next : ℕ → ℕ
-next n = if nat_lt n LAST_NUMBER then n + 1 else LAST_NUMBER
+abbrev pub next_search_number : ℕ → ℕ
+next_search_number n = if nat_lt n LAST_NUMBER then n + 1 else LAST_NUMBER
 
 -- how many orders crossed
-abbrev pub crossings_after : ℕ → Bool → EnginePhase → Deed → ℕ
-crossings_after n gone engine (deeds.Writes order) =
-    if is_crossing gone engine order then next n else n
-crossings_after n gone engine deed = n
+abbrev pub crossings_after : ℕ → Bool → EnginePhase → DialogueEvent → ℕ
+crossings_after n gone engine (dialogue_events.Writes order) =
+    if is_crossing gone engine order then next_search_number n else n
+crossings_after n gone engine dialogue_event = n

@@ -1,4 +1,4 @@
-pub mod Deeds
+pub mod DialogueEvents
 pub mod Played
 pub mod Engines
 pub mod Crossings

@@ -6,10 +6,10 @@ use Rattle.chess_board.specs.Place.{legal}
 use Rattle.peer_words.specs.declared.kinds.GoKind.{GoKind}
 use Rattle.peer_words.specs.declared.kinds.GoKind.TheVariants as kinds
 use Rattle.search_epochs.specs.Tickets.{same_move}
-use Rattle.session_judge.specs.declared.deed.OrderKind.{OrderKind}
-use Rattle.session_judge.specs.declared.deed.OrderKind.TheVariants as orders
-use Rattle.session_judge.specs.declared.deed.Deed.{Deed}
-use Rattle.session_judge.specs.declared.deed.Deed.TheVariants as deeds
+use Rattle.session_judge.specs.declared.dialogue_event.OrderKind.{OrderKind}
+use Rattle.session_judge.specs.declared.dialogue_event.OrderKind.TheVariants as orders
+use Rattle.session_judge.specs.declared.dialogue_event.DialogueEvent.{DialogueEvent}
+use Rattle.session_judge.specs.declared.dialogue_event.DialogueEvent.TheVariants as dialogue_events
 use Rattle.session_judge.specs.declared.engine.EnginePhase.{EnginePhase}
 use Rattle.session_judge.specs.declared.listener.Listener.{Listener}
 use Rattle.session_judge.specs.declared.listener.Listener.TheVariants as listeners
@@ -19,7 +19,7 @@ use Rattle.session_judge.specs.declared.talk.HeardAnswer.{HeardAnswer}
 use Rattle.session_judge.specs.declared.talk.OrderStage.{OrderStage}
 use Rattle.session_judge.specs.declared.talk.OrderStage.TheVariants as stages
 use Rattle.session_judge.specs.declared.talk.JudgedTalk.{JudgedTalk}
-use Rattle.session_judge.specs.Engines.{is_idle, is_pondering, is_running}
+use Rattle.session_judge.specs.Engines.{is_idle, is_phase_pondering, is_running}
 use Rattle.session_judge.specs.Crossings.{taken}
 
 -- First: the first order is not `uci`, or a later one is.
@@ -47,32 +47,32 @@ breaks_order stages.Placed order = true
 breaks_order stage (orders.Go kind) = true
 breaks_order stage order = false
 
-abbrev pub needs_idle : OrderKind → Bool
-needs_idle orders.Setup = true
-needs_idle orders.IsReady = true
-needs_idle (orders.Position p) = true
-needs_idle (orders.Go kind) = true
-needs_idle order = false
+abbrev pub kind_needs_idle : OrderKind → Bool
+kind_needs_idle orders.Setup = true
+kind_needs_idle orders.IsReady = true
+kind_needs_idle (orders.Position p) = true
+kind_needs_idle (orders.Go kind) = true
+kind_needs_idle order = false
 
 -- Busy: settings, `isready`, `position` or `go` for an engine that is not idle.
 abbrev pub breaks_busy : EnginePhase → OrderKind → Bool
-breaks_busy engine order = not (is_idle engine) && needs_idle order
+breaks_busy engine order = not (is_idle engine) && kind_needs_idle order
 
-abbrev pub is_stop : OrderKind → Bool
-is_stop orders.Stop = true
-is_stop order = false
+abbrev pub is_stop_order : OrderKind → Bool
+is_stop_order orders.Stop = true
+is_stop_order order = false
 
 -- Stop: `stop` outside a search that is not stopped.
 abbrev pub breaks_stop : EnginePhase → OrderKind → Bool
-breaks_stop engine order = is_stop order && not (is_running engine)
+breaks_stop engine order = is_stop_order order && not (is_running engine)
 
-abbrev pub is_hit : OrderKind → Bool
-is_hit orders.PonderHit = true
-is_hit order = false
+abbrev pub is_ponderhit_order : OrderKind → Bool
+is_ponderhit_order orders.PonderHit = true
+is_ponderhit_order order = false
 
 -- Hit: `ponderhit` outside a Ponder search that is not stopped.
 abbrev pub breaks_hit : EnginePhase → OrderKind → Bool
-breaks_hit engine order = is_hit order && not (is_pondering engine)
+breaks_hit engine order = is_ponderhit_order order && not (is_phase_pondering engine)
 
 -- Position: a `position` line that cannot be read.
 abbrev pub breaks_position : OrderKind → Bool
@@ -95,21 +95,21 @@ abbrev pub is_best : Option Move → Move → Bool
 is_best None m = false
 is_best (Some best) m = same_move best m
 
-abbrev pub is_for_move : GoKind → Bool
-is_for_move kinds.Move = true
-is_for_move kind = false
+abbrev pub is_move_search : GoKind → Bool
+is_move_search kinds.Move = true
+is_move_search kind = false
 
 -- the move is the answer of a search for a move, was not shown since, and is legal in its position
 abbrev pub is_shown_by : HeardAnswer → Move → Bool
-is_shown_by a m = (is_for_move a.kind && not a.told) && (is_best a.best m && legal a.at m)
+is_shown_by a m = (is_move_search a.kind && not a.was_shown) && (is_best a.best m && legal a.at m)
 
-abbrev pub is_answer : Option HeardAnswer → Move → Bool
-is_answer None m = false
-is_answer (Some a) m = is_shown_by a m
+abbrev pub is_heard_answer : Option HeardAnswer → Move → Bool
+is_heard_answer None m = false
+is_heard_answer (Some a) m = is_shown_by a m
 
 -- The first rule that a mark breaks. Move: a move is shown that is not the
 -- last answer, in its time.
-abbrev pub broken : JudgedTalk → Deed → Option Rule
-broken t (deeds.Writes order) = broken_by t order
-broken t (deeds.Shows m) = if is_answer t.answer m then None else Some rules.Move
-broken t deed = None
+abbrev pub broken : JudgedTalk → DialogueEvent → Option Rule
+broken t (dialogue_events.Writes order) = broken_by t order
+broken t (dialogue_events.Shows m) = if is_heard_answer t.answer m then None else Some rules.Move
+broken t dialogue_event = None

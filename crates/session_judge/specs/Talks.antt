@@ -5,10 +5,10 @@ use Rattle.chess_board.specs.Position.{Position}
 use Rattle.chess_board.specs.Play.{start_position}
 use Rattle.peer_words.specs.declared.kinds.GoKind.{GoKind}
 use Rattle.peer_words.specs.declared.kinds.GoKind.TheVariants as kinds
-use Rattle.session_judge.specs.declared.deed.OrderKind.{OrderKind}
-use Rattle.session_judge.specs.declared.deed.OrderKind.TheVariants as orders
-use Rattle.session_judge.specs.declared.deed.Deed.{Deed}
-use Rattle.session_judge.specs.declared.deed.Deed.TheVariants as deeds
+use Rattle.session_judge.specs.declared.dialogue_event.OrderKind.{OrderKind}
+use Rattle.session_judge.specs.declared.dialogue_event.OrderKind.TheVariants as orders
+use Rattle.session_judge.specs.declared.dialogue_event.DialogueEvent.{DialogueEvent}
+use Rattle.session_judge.specs.declared.dialogue_event.DialogueEvent.TheVariants as dialogue_events
 use Rattle.session_judge.specs.declared.engine.EnginePhase.{EnginePhase}
 use Rattle.session_judge.specs.declared.engine.EnginePhase.TheVariants as engines
 use Rattle.session_judge.specs.declared.listener.Listener.{Listener}
@@ -17,11 +17,11 @@ use Rattle.session_judge.specs.declared.talk.HeardAnswer.{HeardAnswer}
 use Rattle.session_judge.specs.declared.talk.OrderStage.{OrderStage}
 use Rattle.session_judge.specs.declared.talk.OrderStage.TheVariants as stages
 use Rattle.session_judge.specs.declared.talk.JudgedTalk.{JudgedTalk}
-use Rattle.session_judge.specs.Engines.{engine_after, gone_after, heard_of, is_searching}
-use Rattle.session_judge.specs.Crossings.{crossings_after, next, unanswered_after}
+use Rattle.session_judge.specs.Engines.{engine_after, gone_after, event_unless_gone, is_searching}
+use Rattle.session_judge.specs.Crossings.{crossings_after, next_search_number, unanswered_after}
 
-abbrev pub opening : Listener → JudgedTalk
-opening listener = record {
+abbrev pub opening_judgement : Listener → JudgedTalk
+opening_judgement listener = record {
   listener = listener;
   engine = engines.Boot;
   gone = false;
@@ -34,40 +34,40 @@ opening listener = record {
 }
 
 -- which orders came
-abbrev pub stage_after : OrderStage → Deed → OrderStage
-stage_after stages.Over deed = stages.Over
-stage_after stage (deeds.Writes orders.Quit) = stages.Over
-stage_after stage (deeds.Writes (orders.Position p)) = stages.Placed
-stage_after stage (deeds.Writes order) = stages.Open
-stage_after stage deed = stage
+abbrev pub stage_after : OrderStage → DialogueEvent → OrderStage
+stage_after stages.Over dialogue_event = stages.Over
+stage_after stage (dialogue_events.Writes orders.Quit) = stages.Over
+stage_after stage (dialogue_events.Writes (orders.Position p)) = stages.Placed
+stage_after stage (dialogue_events.Writes order) = stages.Open
+stage_after stage dialogue_event = stage
 
 -- the position to which the last `position` line leads
-abbrev pub placed_after : Position → Deed → Position
-placed_after p (deeds.Writes (orders.Position (Some q))) = q
-placed_after p deed = p
+abbrev pub placed_after : Position → DialogueEvent → Position
+placed_after p (dialogue_events.Writes (orders.Position (Some q))) = q
+placed_after p dialogue_event = p
 
 -- the answer that was heard last in a search
 
 abbrev pub answer_in : EnginePhase → Position → Option Move → Option HeardAnswer
     → Option HeardAnswer
 answer_in (engines.Search kind stopped) p best last =
-    Some (record { kind = kind; best = best; at = p; told = false })
+    Some (record { kind = kind; best = best; at = p; was_shown = false })
 answer_in engine p best last = last
 
-abbrev pub told : Option HeardAnswer → Option HeardAnswer
-told None = None
-told (Some a) = Some (record a { told = true })
+abbrev pub answer_shown : Option HeardAnswer → Option HeardAnswer
+answer_shown None = None
+answer_shown (Some a) = Some (record a { was_shown = true })
 
-abbrev pub answer_after : EnginePhase → Position → Option HeardAnswer → Deed → Option HeardAnswer
-answer_after engine p last (deeds.Answers best) = answer_in engine p best last
-answer_after engine p last (deeds.Shows m) = told last
-answer_after engine p last deed = last
+abbrev pub answer_after : EnginePhase → Position → Option HeardAnswer → DialogueEvent → Option HeardAnswer
+answer_after engine p last (dialogue_events.Answers best) = answer_in engine p best last
+answer_after engine p last (dialogue_events.Shows m) = answer_shown last
+answer_after engine p last dialogue_event = last
 
 -- the search that was begun last
 
 abbrev pub number_after : Option Search → ℕ
 number_after None = 1
-number_after (Some s) = next s.number
+number_after (Some s) = next_search_number s.number
 
 abbrev pub search_from_go : ℕ → GoKind → ℕ → Search
 search_from_go number kind line = record {
@@ -80,41 +80,41 @@ search_from_go number kind line = record {
 }
 
 -- what is written and heard while the engine is in it
-abbrev pub search_told : ℕ → Search → Deed → Search
-search_told line s (deeds.Writes orders.Stop) = record s { stopped = true }
-search_told line s (deeds.Writes orders.PonderHit) = record s { kind = kinds.Move }
-search_told line s (deeds.Answers best) = record s { ended = Some line }
-search_told line s deed = s
+abbrev pub search_after_event : ℕ → Search → DialogueEvent → Search
+search_after_event line s (dialogue_events.Writes orders.Stop) = record s { stopped = true }
+search_after_event line s (dialogue_events.Writes orders.PonderHit) = record s { kind = kinds.Move }
+search_after_event line s (dialogue_events.Answers best) = record s { ended = Some line }
+search_after_event line s dialogue_event = s
 
 -- A move is shown in the search that ended last, if no other was begun since.
-abbrev pub shown_by : Option ℕ → Move → Search → Search
-shown_by None m s = s
-shown_by (Some line) m s = record s { shown = Some m }
+abbrev pub search_with_move : Option ℕ → Move → Search → Search
+search_with_move None m s = s
+search_with_move (Some line) m s = record s { shown = Some m }
 
 abbrev pub shown_in : Move → Search → Search
-shown_in m s = shown_by s.ended m s
+shown_in m s = search_with_move s.ended m s
 
-abbrev pub search_after : EnginePhase → ℕ → Option Search → Deed → Option Search
-search_after engine line search (deeds.Writes (orders.Go kind)) =
+abbrev pub search_after : EnginePhase → ℕ → Option Search → DialogueEvent → Option Search
+search_after engine line search (dialogue_events.Writes (orders.Go kind)) =
     Some (search_from_go (number_after search) kind line)
-search_after engine line (Some s) (deeds.Shows m) = Some (shown_in m s)
-search_after engine line (Some s) deed =
-    Some (if is_searching engine then search_told line s deed else s)
-search_after engine line None deed = None
+search_after engine line (Some s) (dialogue_events.Shows m) = Some (shown_in m s)
+search_after engine line (Some s) dialogue_event =
+    Some (if is_searching engine then search_after_event line s dialogue_event else s)
+search_after engine line None dialogue_event = None
 
-abbrev pub after_heard : JudgedTalk → ℕ → Deed → JudgedTalk
-after_heard t line deed = record {
+abbrev pub after_heard : JudgedTalk → ℕ → DialogueEvent → JudgedTalk
+after_heard t line dialogue_event = record {
   listener = t.listener;
-  engine = engine_after t.engine deed;
-  gone = gone_after t.gone deed;
-  unanswered = unanswered_after t.engine t.unanswered deed;
-  crossings = crossings_after t.crossings t.gone t.engine deed;
-  stage = stage_after t.stage deed;
-  placed = placed_after t.placed deed;
-  answer = answer_after t.engine t.placed t.answer deed;
-  search = search_after t.engine line t.search deed;
+  engine = engine_after t.engine dialogue_event;
+  gone = gone_after t.gone dialogue_event;
+  unanswered = unanswered_after t.engine t.unanswered dialogue_event;
+  crossings = crossings_after t.crossings t.gone t.engine dialogue_event;
+  stage = stage_after t.stage dialogue_event;
+  placed = placed_after t.placed dialogue_event;
+  answer = answer_after t.engine t.placed t.answer dialogue_event;
+  search = search_after t.engine line t.search dialogue_event;
 }
 
 -- after a mark in the line with this number
-abbrev pub after : JudgedTalk → ℕ → Deed → JudgedTalk
-after t line deed = after_heard t line (heard_of deed t.gone)
+abbrev pub judgement_after : JudgedTalk → ℕ → DialogueEvent → JudgedTalk
+judgement_after t line dialogue_event = after_heard t line (event_unless_gone dialogue_event t.gone)

@@ -1,8 +1,8 @@
 // The engine, by what was written to it and heard from it (UCI, April 2006).
 ghost use Rattle.std.specs.Prelude.{◌≡◌};
-ghost use Rattle.session_judge.specs.Engines.{engine_after, is_idle, is_pondering, is_running, is_searching};
+ghost use Rattle.session_judge.specs.Engines.{engine_after, is_idle, is_phase_pondering, is_running, is_searching};
 
-use crate::deed::{Deed, OrderKind};
+use crate::dialogue_event::{DialogueEvent, OrderKind};
 use peer_words::GoKind;
 
 /// The state of the engine, as it is while the engine lives.
@@ -50,7 +50,7 @@ impl EnginePhase {
     }
 
     pub(crate) fn is_pondering(self) -> bool
-        ensures { result ≡ is_pondering self }
+        ensures { result ≡ is_phase_pondering self }
     {
         matches!(
             self,
@@ -61,17 +61,17 @@ impl EnginePhase {
         )
     }
 
-    pub(crate) fn after(self, deed: &Deed) -> EnginePhase
-        ensures { result ≡ engine_after self deed.now }
+    pub(crate) fn after(self, dialogue_event: &DialogueEvent) -> EnginePhase
+        ensures { result ≡ engine_after self dialogue_event.now }
     {
-        match (self, deed) {
-            (_, Deed::Writes(OrderKind::Uci)) => EnginePhase::Boot,
-            (_, Deed::Writes(OrderKind::IsReady)) => EnginePhase::Getting,
-            (_, Deed::Writes(OrderKind::Go(kind))) => EnginePhase::Search {
+        match (self, dialogue_event) {
+            (_, DialogueEvent::Writes(OrderKind::Uci)) => EnginePhase::Boot,
+            (_, DialogueEvent::Writes(OrderKind::IsReady)) => EnginePhase::Getting,
+            (_, DialogueEvent::Writes(OrderKind::Go(kind))) => EnginePhase::Search {
                 kind: *kind,
                 stopped: false,
             },
-            (EnginePhase::Search { kind, stopped: _ }, Deed::Writes(OrderKind::Stop)) =>
+            (EnginePhase::Search { kind, stopped: _ }, DialogueEvent::Writes(OrderKind::Stop)) =>
                 EnginePhase::Search {
                     kind,
                     stopped: true,
@@ -81,19 +81,19 @@ impl EnginePhase {
                     kind: GoKind::Ponder,
                     stopped: _,
                 },
-                Deed::Writes(OrderKind::PonderHit),
+                DialogueEvent::Writes(OrderKind::PonderHit),
             ) => EnginePhase::Search {
                 kind: GoKind::Move,
                 stopped: false,
             },
-            (EnginePhase::Boot, Deed::Boots) => EnginePhase::Idle,
-            (EnginePhase::Getting, Deed::GetsReady) => EnginePhase::Idle,
+            (EnginePhase::Boot, DialogueEvent::Boots) => EnginePhase::Idle,
+            (EnginePhase::Getting, DialogueEvent::GetsReady) => EnginePhase::Idle,
             (
                 EnginePhase::Search {
                     kind: _,
                     stopped: _,
                 },
-                Deed::Answers(_),
+                DialogueEvent::Answers(_),
             ) => EnginePhase::Idle,
             _ => self,
         }

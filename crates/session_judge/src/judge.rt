@@ -1,13 +1,13 @@
 // The judge.
 ghost use Rattle.std.specs.Prelude.{◌≡◌, ◌∷◌, [], List, OnOk, OnErr};
-ghost use Rattle.script_lines.specs.Marks.{plain};
-ghost use Rattle.session_judge.specs.Clean.{CrossingsAreTheDifference, Entry, broken_rule, talk, verdict};
-ghost use Rattle.session_judge.specs.Deeds.{deed_of};
+ghost use Rattle.script_lines.specs.Marks.{plain_mark};
+ghost use Rattle.session_judge.specs.Clean.{CrossingsAreTheDifference, Entry, broken_rule, talk, judge_verdict};
+ghost use Rattle.session_judge.specs.DialogueEvents.{dialogue_event_of};
 ghost use Rattle.session_judge.specs.Rules.{broken};
-ghost use Rattle.session_judge.specs.Talks.{after};
+ghost use Rattle.session_judge.specs.Talks.{judgement_after};
 ghost use Rattle.session_judge.specs.declared.listener.Listener.{Listener as AnyListener};
 
-use crate::deed::{Deed, deed_of};
+use crate::dialogue_event::{DialogueEvent, dialogue_event_of};
 use crate::listener::Listener;
 use crate::played::PlayedLine;
 use crate::rule::Rule;
@@ -43,12 +43,12 @@ impl Judge {
         }
     }
 
-    /// What a mark is to the judge.
-    pub fn deed_of(&mut self, mark: &Mark) -> Deed
-        ensures deed { result ≡ deed_of (plain mark.now) }
+    /// The judge's reading of a mark.
+    pub fn dialogue_event_of(&mut self, mark: &Mark) -> DialogueEvent
+        ensures dialogue_event { result ≡ dialogue_event_of (plain_mark mark.now) }
         ensures same { self.new ≡ self.old }
     {
-        deed_of(mark, &mut self.played)
+        dialogue_event_of(mark, &mut self.played)
     }
 
     /// Hears a mark, in the line with this number.
@@ -56,36 +56,42 @@ impl Judge {
     /// # Errors
     /// The first rule that the mark breaks after the marks before it; then nothing changes.
     pub fn hear(&mut self, line: u64, mark: &Mark) -> Result<(), Rule>
-        ensures step { result ≡ verdict (broken self.old (deed_of (plain mark.now))) }
-        ensures after { OnOk result (self.new ≡ after self.old line (deed_of (plain mark.now))) }
+        ensures step { result ≡ judge_verdict (broken self.old (dialogue_event_of (plain_mark
+            mark.now))) }
+        ensures after { OnOk result (self.new ≡ judgement_after self.old line (dialogue_event_of
+            (plain_mark mark.now))) }
         ensures err { OnErr result (self.new ≡ self.old) }
         // A mark is refused exactly by the first rule that it breaks.
         ensures exact { (listener : AnyListener) (log : List Entry) → self.old ≡ talk listener log
-            → result ≡ verdict (broken_rule listener log (plain mark.now)) }
+            → result ≡ judge_verdict (broken_rule listener log (plain_mark mark.now)) }
         ensures goes_on { (listener : AnyListener) (log : List Entry) → self.old ≡ talk listener log
             → OnOk result
-            (self.new ≡ talk listener (record { line = line; mark = plain mark.now } ∷ log)) }
+            (self.new ≡ talk listener (record { line = line; mark = plain_mark mark.now } ∷ log)) }
     {
-        let deed = self.deed_of(mark);
-        self.hear_deed(line, &deed)
+        let dialogue_event = self.dialogue_event_of(mark);
+        self.hear_dialogue_event(line, &dialogue_event)
     }
 
     /// The same of what a mark is.
     ///
     /// # Errors
     /// The first rule that it breaks; then nothing changes.
-    pub fn hear_deed(&mut self, line: u64, deed: &Deed) -> Result<(), Rule>
-        ensures step { result ≡ verdict (broken self.old deed.now) }
-        ensures after { OnOk result (self.new ≡ after self.old line deed.now) }
+    pub fn hear_dialogue_event(
+        &mut self,
+        line: u64,
+        dialogue_event: &DialogueEvent,
+    ) -> Result<(), Rule>
+        ensures step { result ≡ judge_verdict (broken self.old dialogue_event.now) }
+        ensures after { OnOk result (self.new ≡ judgement_after self.old line dialogue_event.now) }
         ensures err { OnErr result (self.new ≡ self.old) }
     {
-        if matches!(deed, Deed::Nothing) {
+        if matches!(dialogue_event, DialogueEvent::Nothing) {
             return Ok(());
         }
-        match self.talk.broken(deed) {
+        match self.talk.broken(dialogue_event) {
             Some(rule) => Err(rule),
             None => {
-                self.talk = self.talk.after(line, deed);
+                self.talk = self.talk.after(line, dialogue_event);
                 Ok(())
             }
         }
@@ -98,7 +104,7 @@ impl Judge {
         self.talk.search
     }
 
-    /// How many orders crossed a line of the engine: they are lawful in the log of a tap alone.
+    /// The count of orders crossing a line of the engine: they are lawful in the log of a tap alone.
     pub fn crossings(&self) -> u64
         ensures { result ≡ self.now.crossings }
     {

@@ -3,7 +3,7 @@
 //! any spelling. Memory is taken only for a line of the game, and no answer depends on whether there is any.
 #![tactic(auto)]
 
-mod deed;
+mod dialogue_event;
 mod engine;
 mod judge;
 mod listener;
@@ -12,7 +12,7 @@ mod rule;
 mod search;
 mod talk;
 
-pub use deed::{Deed, OrderKind};
+pub use dialogue_event::{DialogueEvent, OrderKind};
 pub use judge::{Judge, crossings_are_the_difference};
 pub use listener::Listener;
 pub use rule::Rule;

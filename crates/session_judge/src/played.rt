@@ -1,15 +1,15 @@
 // The line of the game that is searched in.
 ghost use Rattle.std.specs.Prelude.{◌≡◌, IfSome};
 ghost use Rattle.uci_lines.specs.Spells.{begins_white};
-ghost use Rattle.uci_engine_side.specs.Lines.{line_of};
-ghost use Rattle.session_judge.specs.Deeds.{end_of};
-ghost use Rattle.session_judge.specs.Played.{Adds, GoesOn, LeadsTo};
+ghost use Rattle.uci_as_engine.specs.Lines.{position_line_in};
+ghost use Rattle.session_judge.specs.DialogueEvents.{end_of};
+ghost use Rattle.session_judge.specs.Played.{LineExtends, LineGoesOn, LeadsTo};
 
 use chess_board::Position;
 use peer_words::{is_white, next_token};
 use std::alloc::Global;
 use std::marker::Model;
-use uci_engine_side::{play_all, spoken};
+use uci_as_engine::{play_all, spoken};
 
 /// The last `position` line that has moves, and the position to which it leads, so that of a line which only adds moves
 /// to it no more than these are played. It changes no answer: without memory for a line all its moves are played.
@@ -39,9 +39,9 @@ fn begins_white(text: &[u8]) -> bool
     }
 }
 
-// What a line adds to a known one, if it begins with it.
+// The part that a line adds to a known one, if it begins with it.
 fn added<'a>(known: &[u8], line: &'a [u8]) -> Option<&'a [u8]>
-    ensures { IfSome result (λ more. Adds known.now line.now more.now) }
+    ensures { IfSome result (λ more. LineExtends known.now line.now more.now) }
 {
     let more = line.strip_prefix(known)?;
     if begins_white(more) { Some(more) } else { None }
@@ -50,7 +50,7 @@ fn added<'a>(known: &[u8], line: &'a [u8]) -> Option<&'a [u8]>
 // The position to which a known line leads, and what another line adds to it.
 fn goes_on<'a>(known: &[u8], end: Option<Position>, line: &'a [u8]) -> Option<(Position, &'a [u8])>
     requires { IfSome end (λ at. LeadsTo known.now at) }
-    ensures { IfSome result (λ p. GoesOn line.now p.0 p.1.now) }
+    ensures { IfSome result (λ p. LineGoesOn line.now p.0 p.1.now) }
 {
     match (end, added(known, line)) {
         (Some(at), Some(more)) => Some((at, more)),
@@ -72,8 +72,8 @@ fn keep(kept: &mut Vec<u8>, line: &[u8], end: Position) -> Option<Position>
 
 // The position to which a line leads that adds this to one which leads to another.
 fn play_more(line: &[u8], at: Position, more: &[u8], kept: &mut PlayedLine) -> Option<Position>
-    requires { GoesOn line.now at more.now }
-    ensures { result ≡ end_of (line_of line.now) }
+    requires { LineGoesOn line.now at more.now }
+    ensures { result ≡ end_of (position_line_in line.now) }
 {
     let end = play_all(at, more)?;
     kept.keep(line, end);
@@ -82,7 +82,7 @@ fn play_more(line: &[u8], at: Position, more: &[u8], kept: &mut PlayedLine) -> O
 
 // The position to which the moves of a line lead from its start; it is kept if there are some.
 fn play_whole(line: &[u8], kept: &mut PlayedLine) -> Option<Position>
-    ensures { result ≡ end_of (line_of line.now) }
+    ensures { result ≡ end_of (position_line_in line.now) }
 {
     match spoken(line) {
         Some(said) => {
@@ -110,14 +110,14 @@ impl PlayedLine {
     }
 
     fn known<'a>(&self, line: &'a [u8]) -> Option<(Position, &'a [u8])>
-        ensures { IfSome result (λ p. GoesOn line.now p.0 p.1.now) }
+        ensures { IfSome result (λ p. LineGoesOn line.now p.0 p.1.now) }
     {
         goes_on(self.line.as_slice(), self.end, line)
     }
 
     /// The position to which a `position` line leads.
     pub(crate) fn end_of(&mut self, line: &[u8]) -> Option<Position>
-        ensures { result ≡ end_of (line_of line.now) }
+        ensures { result ≡ end_of (position_line_in line.now) }
     {
         match self.known(line) {
             Some((at, more)) => play_more(line, at, more, self),

@@ -1,7 +1,7 @@
 // The rules of the dialogue with an engine.
 
-/// Which rule a mark breaks (UCI, April 2006; and when a bridge shows a move). A mark that breaks several is refused by the
-/// first.
+/// The rule that a mark breaks (UCI, April 2006; and when a bridge shows a move). A mark that breaks several is refused
+/// by the first.
 #[derive(Clone, Copy, PartialEq, Eq)]
 pub enum Rule {
     /// The first order is not `uci`, or a later one is.

@@ -1,13 +1,13 @@
 // The dialogue with the engine, as a log shows it.
 ghost use Rattle.std.specs.Prelude.{◌≡◌, ◌&&◌, ◌||◌, not};
 ghost use Rattle.search_epochs.specs.Tickets.{same_move};
-ghost use Rattle.session_judge.specs.Rules.{broken, broken_by, is_answer, is_best, needs_idle, breaks_first, breaks_gone, breaks_order, breaks_busy, breaks_stop, breaks_hit};
-ghost use Rattle.session_judge.specs.Engines.{heard_of, gone_after, is_idle};
-ghost use Rattle.session_judge.specs.Crossings.{crossings_after, is_crossing, is_to_search, next, taken, unanswered_after};
-ghost use Rattle.session_judge.specs.Talks.{after, after_heard, answer_after, answer_in, number_after, opening, placed_after, search_after, search_told, shown_in, stage_after};
+ghost use Rattle.session_judge.specs.Rules.{broken, broken_by, is_heard_answer, is_best, kind_needs_idle, breaks_first, breaks_gone, breaks_order, breaks_busy, breaks_stop, breaks_hit};
+ghost use Rattle.session_judge.specs.Engines.{event_unless_gone, gone_after, is_idle};
+ghost use Rattle.session_judge.specs.Crossings.{crossings_after, is_crossing, is_to_search, next_search_number, taken, unanswered_after};
+ghost use Rattle.session_judge.specs.Talks.{judgement_after, after_heard, answer_after, answer_in, number_after, opening_judgement, placed_after, search_after, search_after_event, shown_in, stage_after};
 ghost use Rattle.session_judge.specs.declared.talk.TheConstants.{LAST_NUMBER};
 
-use crate::deed::{Deed, OrderKind};
+use crate::dialogue_event::{DialogueEvent, OrderKind};
 use crate::engine::EnginePhase;
 use crate::listener::Listener;
 use crate::rule::Rule;
@@ -18,7 +18,7 @@ use peer_words::GoKind;
 /// The last number of a search, and of a crossing.
 const LAST_NUMBER: u64 = u64::MAX;
 
-/// Which orders came so far.
+/// The orders that came so far.
 #[derive(Clone, Copy)]
 pub enum OrderStage {
     /// None.
@@ -37,10 +37,10 @@ pub struct HeardAnswer {
     pub kind: GoKind,
     pub best: Option<Move>,
     pub at: Position,
-    pub told: bool,
+    pub was_shown: bool,
 }
 
-/// What was written and heard so far, and who heard it. The position is that of the last `position` line, and the standard
+/// The talk so far, and who heard it. The position is that of the last `position` line, and the standard
 /// start before the first; the answer and the search are the last ones. `gone` says that the engine's end or loss was heard;
 /// `unanswered` is the engine as it would be if its last `bestmove` had not come; `crossings` counts the orders that crossed
 /// a line of the engine.
@@ -65,25 +65,25 @@ fn is_same(a: Move, b: Move) -> bool
 }
 
 impl OrderStage {
-    fn after(self, deed: &Deed) -> OrderStage
-        ensures { result ≡ stage_after self deed.now }
+    fn after(self, dialogue_event: &DialogueEvent) -> OrderStage
+        ensures { result ≡ stage_after self dialogue_event.now }
     {
-        match (self, deed) {
+        match (self, dialogue_event) {
             (OrderStage::Over, _) => OrderStage::Over,
-            (_, Deed::Writes(OrderKind::Quit)) => OrderStage::Over,
-            (_, Deed::Writes(OrderKind::Position(_))) => OrderStage::Placed,
-            (_, Deed::Writes(_)) => OrderStage::Open,
+            (_, DialogueEvent::Writes(OrderKind::Quit)) => OrderStage::Over,
+            (_, DialogueEvent::Writes(OrderKind::Position(_))) => OrderStage::Placed,
+            (_, DialogueEvent::Writes(_)) => OrderStage::Open,
             _ => self,
         }
     }
 }
 
 impl HeardAnswer {
-    /// Whether a move that is shown is this answer, in its time.
+    /// True if a move that is shown is this answer, in its time.
     fn is_shown_by(&self, m: Move) -> bool
         ensures { result ≡ is_shown_by self.now m }
     {
-        match (self.kind, self.best, self.told) {
+        match (self.kind, self.best, self.was_shown) {
             (GoKind::Move, Some(best), false) => is_same(best, m) && self.at.legal(m),
             _ => false,
         }
@@ -94,19 +94,19 @@ ghost use Rattle.session_judge.specs.Rules.{is_shown_by};
 
 impl Search {
     /// The search after what was written and heard, in this line, while the engine was in it.
-    fn told(self, line: u64, deed: &Deed) -> Search
-        ensures { result ≡ search_told line self deed.now }
+    fn after_event(self, line: u64, dialogue_event: &DialogueEvent) -> Search
+        ensures { result ≡ search_after_event line self dialogue_event.now }
     {
-        match deed {
-            Deed::Writes(OrderKind::Stop) => Search {
+        match dialogue_event {
+            DialogueEvent::Writes(OrderKind::Stop) => Search {
                 stopped: true,
                 ..self
             },
-            Deed::Writes(OrderKind::PonderHit) => Search {
+            DialogueEvent::Writes(OrderKind::PonderHit) => Search {
                 kind: GoKind::Move,
                 ..self
             },
-            Deed::Answers(_) => Search {
+            DialogueEvent::Answers(_) => Search {
                 ended: Some(line),
                 ..self
             },
@@ -131,7 +131,7 @@ ghost use Rattle.std.specs.Prelude.{Some};
 
 // The next number, which stays at the last.
 fn next(number: u64) -> u64
-    ensures { result ≡ next number }
+    ensures { result ≡ next_search_number number }
 {
     number.saturating_add(1)
 }
@@ -147,7 +147,7 @@ fn number_after(search: Option<Search>) -> u64
 
 impl JudgedTalk {
     pub(crate) fn new(listener: Listener) -> JudgedTalk
-        ensures { result ≡ opening listener }
+        ensures { result ≡ opening_judgement listener }
     {
         JudgedTalk {
             listener,
@@ -198,7 +198,7 @@ impl JudgedTalk {
     }
 
     fn is_answered_by(&self, m: Move) -> bool
-        ensures { result ≡ is_answer self.now.answer m }
+        ensures { result ≡ is_heard_answer self.now.answer m }
     {
         match &self.answer {
             Some(answer) => answer.is_shown_by(m),
@@ -206,39 +206,42 @@ impl JudgedTalk {
         }
     }
 
-    /// The rule that a deed breaks first.
-    pub(crate) fn broken(&self, deed: &Deed) -> Option<Rule>
-        ensures { result ≡ broken self.now deed.now }
+    /// The rule that an event breaks first.
+    pub(crate) fn broken(&self, dialogue_event: &DialogueEvent) -> Option<Rule>
+        ensures { result ≡ broken self.now dialogue_event.now }
     {
-        match deed {
-            Deed::Writes(order) => self.broken_by(order),
-            Deed::Shows(m) if !self.is_answered_by(*m) => Some(Rule::Move),
+        match dialogue_event {
+            DialogueEvent::Writes(order) => self.broken_by(order),
+            DialogueEvent::Shows(m) if !self.is_answered_by(*m) => Some(Rule::Move),
             _ => None,
         }
     }
 
-    fn placed_after(&self, deed: &Deed) -> Position
-        ensures { result ≡ placed_after self.now.placed deed.now }
+    fn placed_after(&self, dialogue_event: &DialogueEvent) -> Position
+        ensures { result ≡ placed_after self.now.placed dialogue_event.now }
     {
-        match deed {
-            Deed::Writes(OrderKind::Position(Some(position))) => *position,
+        match dialogue_event {
+            DialogueEvent::Writes(OrderKind::Position(Some(position))) => *position,
             _ => self.placed,
         }
     }
 
-    fn answer_after(&self, deed: &Deed) -> Option<HeardAnswer>
-        ensures { result ≡ answer_after self.now.engine self.now.placed self.now.answer deed.now }
+    fn answer_after(&self, dialogue_event: &DialogueEvent) -> Option<HeardAnswer>
+        ensures { result ≡ answer_after self.now.engine self.now.placed self.now.answer
+            dialogue_event.now }
     {
-        match (deed, self.engine) {
-            (Deed::Answers(best), EnginePhase::Search { kind, stopped: _ }) => Some(HeardAnswer {
-                kind,
-                best: *best,
-                at: self.placed,
-                told: false,
-            }),
-            (Deed::Shows(_), _) => match self.answer {
+        match (dialogue_event, self.engine) {
+            (DialogueEvent::Answers(best), EnginePhase::Search { kind, stopped: _ }) => Some(
+                HeardAnswer {
+                    kind,
+                    best: *best,
+                    at: self.placed,
+                    was_shown: false,
+                },
+            ),
+            (DialogueEvent::Shows(_), _) => match self.answer {
                 Some(answer) => Some(HeardAnswer {
-                    told: true,
+                    was_shown: true,
                     ..answer
                 }),
                 None => None,
@@ -247,11 +250,11 @@ impl JudgedTalk {
         }
     }
 
-    fn search_after(&self, line: u64, deed: &Deed) -> Option<Search>
-        ensures { result ≡ search_after self.now.engine line self.now.search deed.now }
+    fn search_after(&self, line: u64, dialogue_event: &DialogueEvent) -> Option<Search>
+        ensures { result ≡ search_after self.now.engine line self.now.search dialogue_event.now }
     {
-        match (deed, self.search) {
-            (Deed::Writes(OrderKind::Go(kind)), search) => Some(Search {
+        match (dialogue_event, self.search) {
+            (DialogueEvent::Writes(OrderKind::Go(kind)), search) => Some(Search {
                 number: number_after(search),
                 kind: *kind,
                 begun: line,
@@ -259,20 +262,25 @@ impl JudgedTalk {
                 stopped: false,
                 shown: None,
             }),
-            (Deed::Shows(m), Some(search)) => Some(search.with_shown(*m)),
-            (_, Some(search)) if self.engine.is_searching() => Some(search.told(line, deed)),
+            (DialogueEvent::Shows(m), Some(search)) => Some(search.with_shown(*m)),
+            (_, Some(search)) if self.engine.is_searching() => Some(search.after_event(
+                line,
+                dialogue_event,
+            )),
             (_, search) => search,
         }
     }
 
-    fn unanswered_after(&self, deed: &Deed) -> EnginePhase
-        ensures { result ≡ unanswered_after self.now.engine self.now.unanswered deed.now }
+    fn unanswered_after(&self, dialogue_event: &DialogueEvent) -> EnginePhase
+        ensures { result ≡ unanswered_after self.now.engine self.now.unanswered dialogue_event.now }
     {
-        match (deed, self.engine) {
-            (Deed::Writes(order), _) if is_to_search(order) => self.unanswered.after(deed),
-            (Deed::Writes(_), _) => EnginePhase::Idle,
+        match (dialogue_event, self.engine) {
+            (DialogueEvent::Writes(order), _) if is_to_search(order) => self
+                .unanswered
+                .after(dialogue_event),
+            (DialogueEvent::Writes(_), _) => EnginePhase::Idle,
             (
-                Deed::Answers(_),
+                DialogueEvent::Answers(_),
                 EnginePhase::Search {
                     kind: _,
                     stopped: _,
@@ -288,48 +296,46 @@ impl JudgedTalk {
         self.gone || (self.engine.is_idle() && is_to_search(order))
     }
 
-    fn crossings_after(&self, deed: &Deed) -> u64
+    fn crossings_after(&self, dialogue_event: &DialogueEvent) -> u64
         ensures { result
-            ≡ crossings_after self.now.crossings self.now.gone self.now.engine deed.now }
+            ≡ crossings_after self.now.crossings self.now.gone self.now.engine dialogue_event.now }
     {
-        match deed {
-            Deed::Writes(order) if self.is_crossing(order) => next(self.crossings),
+        match dialogue_event {
+            DialogueEvent::Writes(order) if self.is_crossing(order) => next(self.crossings),
             _ => self.crossings,
         }
     }
 
-    fn gone_after(&self, deed: &Deed) -> bool
-        ensures { result ≡ gone_after self.now.gone deed.now }
+    fn gone_after(&self, dialogue_event: &DialogueEvent) -> bool
+        ensures { result ≡ gone_after self.now.gone dialogue_event.now }
     {
-        self.gone || matches!(deed, Deed::Ends)
+        self.gone || matches!(dialogue_event, DialogueEvent::Ends)
     }
 
-    fn after_heard(&self, line: u64, deed: &Deed) -> JudgedTalk
-        ensures { result ≡ after_heard self.now line deed.now }
+    fn after_heard(&self, line: u64, dialogue_event: &DialogueEvent) -> JudgedTalk
+        ensures { result ≡ after_heard self.now line dialogue_event.now }
     {
         JudgedTalk {
             listener: self.listener,
-            engine: self.engine.after(deed),
-            gone: self.gone_after(deed),
-            unanswered: self.unanswered_after(deed),
-            crossings: self.crossings_after(deed),
-            stage: self.stage.after(deed),
-            placed: self.placed_after(deed),
-            answer: self.answer_after(deed),
-            search: self.search_after(line, deed),
+            engine: self.engine.after(dialogue_event),
+            gone: self.gone_after(dialogue_event),
+            unanswered: self.unanswered_after(dialogue_event),
+            crossings: self.crossings_after(dialogue_event),
+            stage: self.stage.after(dialogue_event),
+            placed: self.placed_after(dialogue_event),
+            answer: self.answer_after(dialogue_event),
+            search: self.search_after(line, dialogue_event),
         }
     }
 
-    /// What was written and heard after this deed, in the line with this number.
-    pub(crate) fn after(&self, line: u64, deed: &Deed) -> JudgedTalk
-        ensures { result ≡ after self.now line deed.now }
+    /// The talk written and heard after this event, in the line with this number.
+    pub(crate) fn after(&self, line: u64, dialogue_event: &DialogueEvent) -> JudgedTalk
+        ensures { result ≡ judgement_after self.now line dialogue_event.now }
     {
-        match deed {
-            Deed::Boots | Deed::GetsReady | Deed::Answers(_) if self.gone => self.after_heard(
-                line,
-                &Deed::Nothing,
-            ),
-            _ => self.after_heard(line, deed),
+        match dialogue_event {
+            DialogueEvent::Boots | DialogueEvent::GetsReady | DialogueEvent::Answers(_)
+                if self.gone => self.after_heard(line, &DialogueEvent::Nothing),
+            _ => self.after_heard(line, dialogue_event),
         }
     }
 }

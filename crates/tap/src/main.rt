@@ -2,16 +2,18 @@
 #![tactic(auto)]
 
 use child_engine::{Closing, RealHost};
-use host_run::Interface;
 use line_io::{ReadAdapter, WriteAdapter};
 use os::FromRawFd;
-use program_edges::{About, ClosedStreams, NO_MEMORY, WORDS_ROOM, answer_about, words_of};
+use program_command_line::{
+    ARGUMENTS_ROOM, About, ClosedStreams, NO_MEMORY, answer_about, arguments_of,
+};
+use program_lifecycle::Interface;
 use std::os::fd::OwnedFd;
 use std::process::{ChildStdin, ExitCode};
 use tap_runner::{refuse_for_memory, tap_main};
 
-// Standard output as this program's own: it is closed when it is let go. If it was closed at the
-// start, it is let go already.
+// Standard output as this program's own: it is closed when this sink is. If it was closed at the
+// start, it is closed already.
 fn own_output(closed: &ClosedStreams) -> Closing<ChildStdin> {
     if closed.has_output() {
         let output = unsafe { OwnedFd::from_raw_fd(1) };
@@ -41,10 +43,10 @@ fn main(rt: HostRuntime) -> ExitCode {
     };
     let mut diag = closed.diag(WriteAdapter::new(rt.stderr()));
     let mut host = RealHost::<_, Closing<ChildStdin>>::new(&rt, closed.has_diag());
-    let status = match words_of(&rt, rt.alloc(), WORDS_ROOM) {
-        Ok(words) => match answer_about(
+    let status = match arguments_of(&rt, rt.alloc(), ARGUMENTS_ROOM) {
+        Ok(arguments) => match answer_about(
             rt.alloc(),
-            words.as_slice(),
+            arguments.as_slice(),
             &ABOUT,
             &mut interface.output,
         ) {
@@ -52,7 +54,7 @@ fn main(rt: HostRuntime) -> ExitCode {
             None => tap_main(
                 &rt,
                 rt.alloc(),
-                words.as_slice(),
+                arguments.as_slice(),
                 &mut interface,
                 &mut host,
                 &mut diag,

@@ -9,12 +9,12 @@ use Rattle.line_io.specs.Source.{Received}
 use Rattle.event_pipe.specs.Message.{is_good}
 use Rattle.event_pipe.specs.Rule.{of, has_last_event}
 use Rattle.event_pipe.proofs.Roles.{more_ended}
-use Rattle.host_run.specs.Streams.{Offered}
-use Rattle.host_run.specs.Took.{LogTook}
+use Rattle.program_lifecycle.specs.Streams.{Offered}
+use Rattle.program_lifecycle.specs.Took.{LogTook}
 use Rattle.tap_runner.specs.declared.logging.EndedSides.{EndedSides}
 use Rattle.tap_runner.specs.Marks.{log_of_event, log_text}
-use Rattle.tap_runner.specs.Logging.{mark_length, ends_after, Logged, Logging}
-use Rattle.host_run.proofs.Took.{took_nothing, took_next}
+use Rattle.tap_runner.specs.Logging.{mark_length, tap_ends_after, Logged, Logging}
+use Rattle.program_lifecycle.proofs.Took.{took_nothing, took_next}
 
 within : (n : ℕ) → nat_le n 65536 ≡ true → n ≤ 65536
 within n h = grind (arith, nat_tests)
@@ -37,7 +37,7 @@ still role r x h = more_ended role r (x ∷ []) ∙ or_left (has_last_event (of 
 now : (role : ℕ) (r : List Event) (x : Event) → has_last_event (of role (x ∷ [])) ≡ true → has_last_event (of role (r ++ x ∷ [])) ≡ true
 now role r x h = more_ended role r (x ∷ []) ∙ or_right (has_last_event (of role r)) (has_last_event (of role (x ∷ []))) h
 
-bridge_next : (ends : EndedSides) (r : List Event) (x : Event) → (ends.bridge ≡ true → has_last_event (of 1 r) ≡ true) → (ends_after ends x).bridge ≡ true → has_last_event (of 1 (r ++ x ∷ [])) ≡ true
+bridge_next : (ends : EndedSides) (r : List Event) (x : Event) → (ends.bridge ≡ true → has_last_event (of 1 r) ≡ true) → (tap_ends_after ends x).bridge ≡ true → has_last_event (of 1 (r ++ x ∷ [])) ≡ true
 bridge_next ends r Open h b = still 1 r Open (h b)
 bridge_next ends r (Iface line) h b = still 1 r (Iface line) (h b)
 bridge_next ends r IfaceLong h b = still 1 r IfaceLong (h b)
@@ -48,7 +48,7 @@ bridge_next ends r EngineLong h b = still 1 r EngineLong (h b)
 bridge_next ends r EngineEnd h b = still 1 r EngineEnd (h b)
 bridge_next ends r EngineLost h b = still 1 r EngineLost (h b)
 
-engine_next : (ends : EndedSides) (r : List Event) (x : Event) → (ends.engine ≡ true → has_last_event (of 2 r) ≡ true) → (ends_after ends x).engine ≡ true → has_last_event (of 2 (r ++ x ∷ [])) ≡ true
+engine_next : (ends : EndedSides) (r : List Event) (x : Event) → (ends.engine ≡ true → has_last_event (of 2 r) ≡ true) → (tap_ends_after ends x).engine ≡ true → has_last_event (of 2 (r ++ x ∷ [])) ≡ true
 engine_next ends r Open h b = still 2 r Open (h b)
 engine_next ends r (Iface line) h b = still 2 r (Iface line) (h b)
 engine_next ends r IfaceLong h b = still 2 r IfaceLong (h b)
@@ -70,10 +70,10 @@ text_more : (received : List Event) (x : Event) → log_text (received ++ x ∷ 
 text_more received x = flat_map-append log_of_event received (x ∷ []) ∙ ap (λ l. log_text received ++ l) (append-nil (log_of_event x))
 
 pub logging_next : (received received' : List Event) (x y : Event) (l0 l l' : Received) (failed failed' : Bool) (ends ends' : EndedSides)
-    → Logging received l0 l failed ends → received' ≡ received ++ x ∷ [] → y ≡ x → ends' ≡ ends_after ends y → Offered failed failed' l l' (log_of_event y) → Logging received' l0 l' failed' ends'
+    → Logging received l0 l failed ends → received' ≡ received ++ x ∷ [] → y ≡ x → ends' ≡ tap_ends_after ends y → Offered failed failed' l l' (log_of_event y) → Logging received' l0 l' failed' ends'
 logging_next received received' x y l0 l l' failed failed' ends ends' h got same e offered =
     subst (λ (es : List Event). Logging es l0 l' failed' ends') (sym got)
-    (subst (λ (k : EndedSides). Logging (received ++ x ∷ []) l0 l' failed' k) (sym (e ∙ ap (ends_after ends) same))
+    (subst (λ (k : EndedSides). Logging (received ++ x ∷ []) l0 l' failed' k) (sym (e ∙ ap (tap_ends_after ends) same))
     (record {
       text = subst (λ t. LogTook t failed' l0 l') (sym (text_more received x)) (took_next failed failed' (log_text received) (log_of_event x) l0 l l' h.text (subst (λ (z : Event). Offered failed failed' l l' (log_of_event z)) same offered));
       bridge = bridge_next ends received x h.bridge;

@@ -4,10 +4,10 @@ use Rattle.line_io.specs.Event.{Event, Open, Iface, IfaceLong, IfaceEnd, IfaceLo
 use Rattle.line_io.specs.Lines.{line_feed, items}
 use Rattle.event_pipe.specs.declared.message.Peer.TheVariants as peers
 use Rattle.event_pipe.specs.Rule.{sent_by}
-use Rattle.host_run.proofs.Logs.{one_log, no_bytes, none_longer}
-use Rattle.tap_runner.specs.Laws.{HasNoEmptyLog, HasNoLongerLog}
-use Rattle.tap_runner.specs.Lines.{line_limit}
-use Rattle.tap_runner.specs.Marks.{log_text, piece_events, end_event}
+use Rattle.program_lifecycle.proofs.Logs.{one_log, no_bytes, none_longer}
+use Rattle.tap_runner.specs.Laws.{TapLogIsNotEmpty, TapLogIsNotLonger}
+use Rattle.tap_runner.specs.Lines.{tap_line_limit}
+use Rattle.tap_runner.specs.Marks.{log_text, tap_piece_events, end_event}
 
 -- a line of a mark has its line feed
 line_there : {P : Type 0} (mark rest : List ℕ) → (mark ++ line_feed ∷ []) ++ rest ≡ [] → P
@@ -29,10 +29,10 @@ some_marks : (xs : List Event) (x : Event) → xs ++ x ∷ [] ≡ [] → ⊥
 some_marks [] x e = cc
 some_marks (y ∷ xs) x e = cc
 
-pub no_empty_log : HasNoEmptyLog
+pub no_empty_log : TapLogIsNotEmpty
 no_empty_log bytes before after run e =
-    let nothing = one_log (log_text run.events) [] after.books.logs run.log e in
-    some_marks (piece_events peers.Iface (items line_limit run.wrote)) (end_event peers.Iface) (sym run.from_bridge ∙ none_sent run.events nothing)
+    let nothing = one_log (log_text run.events) [] after.ledger.logs run.log e in
+    some_marks (tap_piece_events peers.Iface (items tap_line_limit run.wrote)) (end_event peers.Iface) (sym run.from_bridge ∙ none_sent run.events nothing)
 
-pub no_longer_log : HasNoLongerLog
-no_longer_log bytes before after run byte more e = none_longer (log_text run.events) more byte (one_log (log_text run.events) _ after.books.logs run.log e)
+pub no_longer_log : TapLogIsNotLonger
+no_longer_log bytes before after run byte more e = none_longer (log_text run.events) more byte (one_log (log_text run.events) _ after.ledger.logs run.log e)

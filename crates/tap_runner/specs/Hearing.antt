@@ -1,4 +1,4 @@
--- What was heard of a peer, and what was sent for it.
+-- The bytes heard of a peer, and the events sent for it.
 use Rattle.std.specs.Prelude.{◌≡◌, ℕ, ◌+◌, List, [], ◌∷◌, ◌++◌, length, drop, Bool, true}
 use Rattle.std.specs.Prelude.{false, if◌then◌else◌, Option, Some, None}
 use Rattle.line_io.specs.Event.{Event, has_feed}
@@ -7,7 +7,7 @@ use Rattle.line_io.specs.Out.{Text}
 use Rattle.event_pipe.specs.declared.message.Peer.{Peer}
 use Rattle.event_pipe.specs.Rule.{has_last_event}
 use Rattle.tap_runner.specs.Lines.{last_pieces}
-use Rattle.tap_runner.specs.Marks.{mark_of, piece_events, end_event}
+use Rattle.tap_runner.specs.Marks.{tap_line_mark, tap_piece_events, end_event}
 use Rattle.tap_runner.specs.declared.part.TheConstants.{MARK_ROOM}
 
 -- the open line of a peer, if it is not too long, and whether there was no memory for a mark
@@ -16,8 +16,8 @@ pub record Open : Type 0 where
   pub line : Option (List ℕ)
   pub has_lacked : Bool
 
-abbrev pub fresh : Peer → Open
-fresh peer = record { peer = peer; line = Some []; has_lacked = false }
+abbrev pub no_open_line : Peer → Open
+no_open_line peer = record { peer = peer; line = Some []; has_lacked = false }
 
 -- after the letter and the blank of its mark stands the line
 abbrev pub open_of : Peer → Text → Bool → Bool → Open
@@ -28,19 +28,19 @@ open_of peer mark is_long has_lacked =
       has_lacked = has_lacked;
     }
 
-pub record IsMark (peer : Peer) (mark : Text) (is_long : Bool) : Type 0 where
+pub record IsTapMark (peer : Peer) (mark : Text) (is_long : Bool) : Type 0 where
   pub room : mark.room ≡ MARK_ROOM
-  pub text : mark.text ≡ mark_of peer (drop 2 mark.text)
+  pub text : mark.text ≡ tap_line_mark peer (drop 2 mark.text)
   pub no_feed : has_feed (drop 2 mark.text) ≡ false
 
 -- These lines ended, and what goes through the channel for them was sent; another line is open.
-pub record Hears (old new : Open) (before now : List Event) (pieces : List Piece)
+pub record TapHears (old new : Open) (before now : List Event) (pieces : List Piece)
     (line : Option (List ℕ)) : Type 0 where
   pub peer : new.peer ≡ old.peer
   pub line_is : new.line ≡ line
   -- once a mark had no memory, this is known
   pub lacked : old.has_lacked ≡ true → new.has_lacked ≡ true
-  pub sends : new.has_lacked ≡ false → now ≡ before ++ piece_events old.peer pieces
+  pub sends : new.has_lacked ≡ false → now ≡ before ++ tap_piece_events old.peer pieces
   -- one for each line, also where there was no memory
   pub count : length now ≡ length before + length pieces
   pub going : has_last_event now ≡ false
@@ -49,6 +49,6 @@ pub record Hears (old new : Open) (before now : List Event) (pieces : List Piece
 pub record EndsHearing (old new : Open) (before now : List Event) : Type 0 where
   pub lacked : old.has_lacked ≡ true → new.has_lacked ≡ true
   pub sends : new.has_lacked ≡ false
-      → now ≡ before ++ piece_events old.peer (last_pieces old.line) ++ end_event old.peer ∷ []
+      → now ≡ before ++ tap_piece_events old.peer (last_pieces old.line) ++ end_event old.peer ∷ []
   pub count : length now ≡ length before + length (last_pieces old.line) + 1
   pub over : has_last_event now ≡ true

@@ -1,16 +1,16 @@
--- What no whole run leaves, over a host that tells its bytes.
+-- Results that no whole run leaves, over a host that reports its bytes.
 use Rattle.std.specs.Prelude.{◌≡◌, ℕ, List, [], ◌∷◌, ◌++◌, Some}
-use Rattle.host_run.specs.Outside.{Outside}
+use Rattle.program_lifecycle.specs.Outside.{Outside}
 use Rattle.tap_runner.specs.Marks.{log_text}
-use Rattle.tap_runner.specs.Recorded.{IsWhole}
+use Rattle.tap_runner.specs.Recorded.{TapRunIsWhole}
 
 -- an empty log
-abbrev pub HasNoEmptyLog : Type 0
-HasNoEmptyLog = (bytes : List ℕ) (before after : Outside) → IsWhole bytes before after
-    → after.books.logs ≡ Some [] ∷ [] → ⊥
+abbrev pub TapLogIsNotEmpty : Type 0
+TapLogIsNotEmpty = (bytes : List ℕ) (before after : Outside) → TapRunIsWhole bytes before after
+    → after.ledger.logs ≡ Some [] ∷ [] → ⊥
 
 -- a log with a byte after its marks
-abbrev pub HasNoLongerLog : Type 0
-HasNoLongerLog = (bytes : List ℕ) (before after : Outside) (run : IsWhole bytes before after)
+abbrev pub TapLogIsNotLonger : Type 0
+TapLogIsNotLonger = (bytes : List ℕ) (before after : Outside) (run : TapRunIsWhole bytes before after)
     (byte : ℕ) (more : List ℕ)
-    → after.books.logs ≡ Some (log_text run.events ++ byte ∷ more) ∷ [] → ⊥
+    → after.ledger.logs ≡ Some (log_text run.events ++ byte ∷ more) ∷ [] → ⊥

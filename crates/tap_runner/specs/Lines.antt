@@ -5,13 +5,13 @@ use Rattle.line_io.specs.Lines.{Piece, Whole, TooLong, is_feed}
 use Rattle.line_io.specs.declared.limits.TheConstants.{PEER_LINE}
 
 -- the longest line that is no long one
-abbrev pub line_limit : ℕ
-line_limit = PEER_LINE - 2
+abbrev pub tap_line_limit : ℕ
+tap_line_limit = PEER_LINE - 2
 
 -- an open line and one byte more; a line that is too long is not kept
 abbrev pub with_byte : Option (List ℕ) → ℕ → Option (List ℕ)
 with_byte None b = None
-with_byte (Some line) b = if nat_lt (length line) line_limit then Some (line ++ b ∷ []) else None
+with_byte (Some line) b = if nat_lt (length line) tap_line_limit then Some (line ++ b ∷ []) else None
 
 -- what an open line is, once it ends
 abbrev pub piece_in : Option (List ℕ) → Piece
@@ -19,10 +19,10 @@ piece_in None = TooLong
 piece_in (Some line) = Whole line
 
 -- the lines that the bytes end, after an open line
-abbrev pub pieces_of : Option (List ℕ) → List ℕ → List Piece
-pieces_of line [] = []
-pieces_of line (b ∷ bs) =
-    if is_feed b then piece_in line ∷ pieces_of (Some []) bs else pieces_of (with_byte line b) bs
+abbrev pub lines_ended_by : Option (List ℕ) → List ℕ → List Piece
+lines_ended_by line [] = []
+lines_ended_by line (b ∷ bs) =
+    if is_feed b then piece_in line ∷ lines_ended_by (Some []) bs else lines_ended_by (with_byte line b) bs
 
 -- the line that they leave open
 abbrev pub line_after : Option (List ℕ) → List ℕ → Option (List ℕ)

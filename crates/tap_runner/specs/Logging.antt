@@ -4,7 +4,7 @@ use Rattle.line_io.specs.Event.{Event, Iface, IfaceEnd, Engine, EngineEnd}
 use Rattle.line_io.specs.Source.{Received}
 use Rattle.event_pipe.specs.declared.message.Peer.TheVariants as peers
 use Rattle.event_pipe.specs.Rule.{sent_by, has_last_event}
-use Rattle.host_run.specs.Took.{LogTook}
+use Rattle.program_lifecycle.specs.Took.{LogTook}
 use Rattle.tap_runner.specs.declared.logging.EndedSides.{EndedSides}
 use Rattle.tap_runner.specs.Marks.{log_text}
 
@@ -14,12 +14,12 @@ mark_length (Engine mark) = length mark
 mark_length event = 0
 
 -- which sides have ended, after this event
-abbrev pub ends_after : EndedSides → Event → EndedSides
-ends_after ends IfaceEnd = record { bridge = true; engine = ends.engine }
-ends_after ends EngineEnd = record { bridge = ends.bridge; engine = true }
-ends_after ends event = ends
+abbrev pub tap_ends_after : EndedSides → Event → EndedSides
+tap_ends_after ends IfaceEnd = record { bridge = true; engine = ends.engine }
+tap_ends_after ends EngineEnd = record { bridge = ends.bridge; engine = true }
+tap_ends_after ends event = ends
 
--- The log took what was received, in order, each mark on a line, or a front
+-- The log took what was received, in order, each mark on a line, or a prefix
 -- of that text if it failed.
 pub record Logged (received : List Event) (log log' : Received) (failed : Bool) : Type 0 where
   pub text : LogTook (log_text received) failed log log'

@@ -7,32 +7,32 @@ use Rattle.event_pipe.specs.declared.message.Peer.{Peer}
 use Rattle.event_pipe.specs.declared.message.Peer.TheVariants as peers
 use Rattle.event_pipe.specs.declared.message.MessageBody.TheVariants as says
 use Rattle.event_pipe.specs.Message.{sent_event}
-use Rattle.tap_runner.specs.Lines.{line_limit}
+use Rattle.tap_runner.specs.Lines.{tap_line_limit}
 use Rattle.peer_words.specs.Bytes.{blank}
 
 -- the bridge has the place of the interface in the channel
-abbrev pub letter_of : Peer → ℕ
-letter_of peers.Iface = 85
-letter_of peers.Engine = 117
+abbrev pub mark_letter : Peer → ℕ
+mark_letter peers.Iface = 85
+mark_letter peers.Engine = 117
 
 -- the mark of a line, without its line feed
-abbrev pub mark_of : Peer → List ℕ → List ℕ
-mark_of peer line = letter_of peer ∷ blank ∷ line
+abbrev pub tap_line_mark : Peer → List ℕ → List ℕ
+tap_line_mark peer line = mark_letter peer ∷ blank ∷ line
 
--- What goes through the channel for a line: its mark.
-abbrev pub piece_event : Peer → Piece → Event
-piece_event peer (Whole line) = sent_event peer (says.Line (mark_of peer line))
-piece_event peer TooLong = sent_event peer says.Long
+-- The event that goes through the channel for a line: its mark.
+abbrev pub tap_piece_event : Peer → Piece → Event
+tap_piece_event peer (Whole line) = sent_event peer (says.Line (tap_line_mark peer line))
+tap_piece_event peer TooLong = sent_event peer says.Long
 
-abbrev pub piece_events : Peer → List Piece → List Event
-piece_events peer pieces = map (piece_event peer) pieces
+abbrev pub tap_piece_events : Peer → List Piece → List Event
+tap_piece_events peer pieces = map (tap_piece_event peer) pieces
 
 abbrev pub end_event : Peer → Event
 end_event peer = sent_event peer says.End
 
 -- what goes through it for all bytes of a peer: the marks of their lines, and then the peer's end
-abbrev pub marks_of : Peer → List ℕ → List Event
-marks_of peer bytes = piece_events peer (items line_limit bytes) ++ end_event peer ∷ []
+abbrev pub channel_marks : Peer → List ℕ → List Event
+channel_marks peer bytes = tap_piece_events peer (items tap_line_limit bytes) ++ end_event peer ∷ []
 
 -- how it stands in the log
 abbrev pub log_of_event : Event → List ℕ

@@ -3,39 +3,39 @@ use Rattle.std.specs.Prelude.{◌≡◌, ℕ, List, [], length, Bool, true, fals
 use Rattle.std.specs.Io.KnownBytes.{IsAtEnd}
 use Rattle.line_io.specs.Event.{Event}
 use Rattle.line_io.specs.Source.{Supplied, Received}
-use Rattle.line_io.specs.Lines.{Reads}
+use Rattle.line_io.specs.Lines.{SourceGave}
 use Rattle.event_pipe.specs.declared.message.Peer.{Peer}
-use Rattle.event_pipe.specs.Counts.{Tells}
+use Rattle.event_pipe.specs.Counts.{CountsFault}
 use Rattle.event_pipe.specs.Rule.{has_last_event}
-use Rattle.host_run.specs.Took.{LogTook}
+use Rattle.program_lifecycle.specs.Took.{LogTook}
 use Rattle.tap_runner.specs.declared.passing.PassingTurn.{PassingTurn}
 use Rattle.tap_runner.specs.declared.passing.PassingTurn.TheVariants as turns
 use Rattle.tap_runner.specs.declared.passing.PassEnd.{PassEnd}
-use Rattle.tap_runner.specs.Lines.{pieces_of, line_after}
-use Rattle.tap_runner.specs.Marks.{piece_events, marks_of}
-use Rattle.tap_runner.specs.Hearing.{Open, Hears}
+use Rattle.tap_runner.specs.Lines.{lines_ended_by, line_after}
+use Rattle.tap_runner.specs.Marks.{tap_piece_events, channel_marks}
+use Rattle.tap_runner.specs.Hearing.{Open, TapHears}
 
--- What one direction of a run did.
+-- The work of one direction of a run.
 pub record Passed (peer : Peer) (source source' : Supplied) (sink sink' : Received)
     (sent : List Event) (end : PassEnd) : Type 0 where
   -- these bytes were read
   pub got : List ℕ
-  pub reads : Reads source source' got
-  -- they were handed on, unchanged and in order: all of them, or a front of them if a write failed
+  pub reads : SourceGave source source' got
+  -- they were handed on, unchanged and in order: all of them, or a prefix of them if a write failed
   pub handed : LogTook got end.write_failed sink sink'
   -- nothing is left, if nothing failed
   pub all : end.read_failed ≡ false → end.write_failed ≡ false
       → IfSome source.left (λ _. IsAtEnd source'.left)
-  pub read_count : Tells source.faults source'.faults end.read_failed
+  pub read_count : CountsFault source.faults source'.faults end.read_failed
   -- the marks of their lines were sent to the log, and the end
-  pub told : end.has_lacked_memory ≡ false → sent ≡ marks_of peer got
+  pub reported : end.has_lacked_memory ≡ false → sent ≡ channel_marks peer got
   -- one mark for each, also where there was no memory
-  pub count : length sent ≡ length (marks_of peer got)
+  pub count : length sent ≡ length (channel_marks peer got)
   pub over : has_last_event sent ≡ true
 
-abbrev pub is_last : PassingTurn → Bool
-is_last turns.More = false
-is_last turn = true
+abbrev pub is_last_turn : PassingTurn → Bool
+is_last_turn turns.More = false
+is_last_turn turn = true
 
 abbrev pub has_failed_to_read : PassingTurn → Bool
 has_failed_to_read turns.ReadFailed = true
@@ -49,21 +49,21 @@ has_failed_to_write turn = false
 pub record Turned (old new : Open) (source source' : Supplied) (sink sink' : Received)
     (before now : List Event) (turn : PassingTurn) : Type 0 where
   pub got : List ℕ
-  pub reads : Reads source source' got
-  pub read_count : Tells source.faults source'.faults (has_failed_to_read turn)
+  pub reads : SourceGave source source' got
+  pub read_count : CountsFault source.faults source'.faults (has_failed_to_read turn)
   pub handed : LogTook got (has_failed_to_write turn) sink sink'
-  pub hears : Hears old new before now (pieces_of old.line got) (line_after old.line got)
+  pub hears : TapHears old new before now (lines_ended_by old.line got) (line_after old.line got)
   pub at_end : turn ≡ turns.Ended → IsAtEnd source'.left
 
 -- so far
 pub record Passing (peer : Peer) (part : Open) (source source' : Supplied) (sink sink' : Received)
     (sent : List Event) : Type 0 where
   pub got : List ℕ
-  pub reads : Reads source source' got
+  pub reads : SourceGave source source' got
   pub handed : LogTook got false sink sink'
   pub same : source'.faults ≡ source.faults
   pub peer_is : part.peer ≡ peer
   pub line_is : part.line ≡ line_after (Some []) got
-  pub told : part.has_lacked ≡ false → sent ≡ piece_events peer (pieces_of (Some []) got)
-  pub count : length sent ≡ length (pieces_of (Some []) got)
+  pub reported : part.has_lacked ≡ false → sent ≡ tap_piece_events peer (lines_ended_by (Some []) got)
+  pub count : length sent ≡ length (lines_ended_by (Some []) got)
   pub going : has_last_event sent ≡ false

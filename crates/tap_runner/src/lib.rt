@@ -1,5 +1,5 @@
 //! Between a bridge and its engine: what each writes is handed on to the other as it comes, and the lines of both go
-//! through one channel into a log; and the program `tap`: words, the run that they ask for, and how it is reported.
+//! through one channel into a log; and the program `tap`: arguments, the run that they ask for, and how it is reported.
 #![tactic(auto)]
 
 mod laws;

@@ -1,23 +1,23 @@
 // The log: what goes through the channel, in the order in which it comes.
 ghost use Rattle.std.specs.Prelude.{◌≡◌, ◌≤◌, ◌&&◌, ◌++◌, ◌∷◌, ◌+◌, [], length, is_some};
 ghost use Rattle.line_io.specs.Event.{event_of};
-ghost use Rattle.event_pipe.specs.Ends.{IsFreshTaker, KeepsTaker, events_taken};
-ghost use Rattle.host_run.specs.Streams.{log_state, Offered};
+ghost use Rattle.event_pipe.specs.Ends.{IsFreshReceiver, KeepsReceiver, events_taken};
+ghost use Rattle.program_lifecycle.specs.Streams.{log_state, Offered};
 ghost use Rattle.tap_runner.specs.Marks.{log_of_event};
-ghost use Rattle.tap_runner.specs.Logging.{Logged, ends_after, mark_length};
+ghost use Rattle.tap_runner.specs.Logging.{Logged, tap_ends_after, mark_length};
 ghost use Rattle.line_io.specs.Lines.{line_feed};
 ghost use Rattle.tap_runner.specs.declared.part.TheConstants.{MARK_ROOM};
 ghost use Rattle.tap_runner.specs.declared.logging.TheConstants.{LOG_ROOM};
 
 use event_pipe::PipeTake;
-use host_run::offer_log;
 use line_io::{Event, Out, PEER_LINE, Sink};
+use program_lifecycle::offer_log;
 use std::sync::Wait;
 
 /// The room for a mark in the log.
 pub const LOG_ROOM: usize = PEER_LINE + 1;
 
-// Which sides have ended.
+/// The sides that have ended.
 #[derive(Clone, Copy)]
 pub struct EndedSides {
     pub bridge: bool,
@@ -27,7 +27,7 @@ pub struct EndedSides {
 impl EndedSides {
     // The same after an event.
     fn after(self, event: &Event) -> EndedSides
-        ensures { result ≡ ends_after self (event_of event.now) }
+        ensures { result ≡ tap_ends_after self (event_of event.now) }
     {
         match event {
             Event::IfaceEnd => EndedSides {
@@ -60,7 +60,7 @@ fn put_mark(text: &mut Out, mark: &[u8])
     text.put(b"\n");
 }
 
-// What stands in the log for an event.
+// The log's text for an event.
 fn put_logged(text: &mut Out, event: &Event)
     requires short { mark_length (event_of event.now) ≤ MARK_ROOM }
     requires room { LOG_ROOM ≤ text.old.room }
@@ -100,9 +100,9 @@ pub fn keep_log<L: Sink, R: Wait>(
     log: &mut Option<L>,
     text: &mut Out,
 ) -> bool
-    requires taker { IsFreshTaker from.old }
+    requires receiving_end { IsFreshReceiver from.old }
     requires room { LOG_ROOM ≤ text.old.room }
-    ensures taker { KeepsTaker from.old from.new }
+    ensures receiving_end { KeepsReceiver from.old from.new }
     ensures kept { is_some log.new ≡ is_some log.old }
     ensures logged { Logged (events_taken from.new)
         (log_state L.state log.old) (log_state L.state log.new) result }

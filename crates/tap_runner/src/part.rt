@@ -3,8 +3,8 @@ ghost use Rattle.std.specs.Prelude.{◌≡◌, ◌≢◌, ◌++◌, ◌∷◌, [
 ghost use Rattle.event_pipe.specs.Ends.{IsSender, KeepsSender, events_sent};
 ghost use Rattle.event_pipe.specs.Rule.{has_last_event};
 ghost use Rattle.tap_runner.specs.Lines.{with_byte, piece_in, last_pieces};
-ghost use Rattle.tap_runner.specs.Marks.{piece_event, piece_events};
-ghost use Rattle.tap_runner.specs.Hearing.{Open, fresh, Hears};
+ghost use Rattle.tap_runner.specs.Marks.{tap_piece_event, tap_piece_events};
+ghost use Rattle.tap_runner.specs.Hearing.{Open, no_open_line, TapHears};
 
 use event_pipe::{Bytes, MessageBody, Peer, PipeSend};
 use line_io::{NoMemory, Out, PEER_LINE};
@@ -27,18 +27,18 @@ pub struct OpenLine {
 }
 
 impl Model for OpenLine {
-    ghost use Rattle.tap_runner.specs.Hearing.{Open, open_of, IsMark};
+    ghost use Rattle.tap_runner.specs.Hearing.{Open, open_of, IsTapMark};
 
     ghost Value = { Open };
 
     ghost view = { λ p. open_of p.peer p.mark p.is_long p.has_lacked };
 
-    ghost invariant = { λ p. IsMark p.peer p.mark p.is_long };
+    ghost invariant = { λ p. IsTapMark p.peer p.mark p.is_long };
 }
 
 // The letter of a peer's marks.
 fn letter(peer: Peer) -> u8
-    ensures { result ≡ letter_of peer }
+    ensures { result ≡ mark_letter peer }
 {
     match peer {
         Peer::Iface => b'U',
@@ -46,12 +46,12 @@ fn letter(peer: Peer) -> u8
     }
 }
 
-ghost use Rattle.tap_runner.specs.Marks.{letter_of};
+ghost use Rattle.tap_runner.specs.Marks.{mark_letter};
 
 impl OpenLine {
     /// No byte was heard of this peer.
     pub fn make(alloc: Global, peer: Peer) -> Result<OpenLine, NoMemory>
-        ensures { IfOk result (λ part. part ≡ fresh peer) }
+        ensures { IfOk result (λ part. part ≡ no_open_line peer) }
     {
         let mut mark = Out::make(alloc, MARK_ROOM)?;
         mark.put(&[letter(peer), b' ']);
@@ -63,7 +63,7 @@ impl OpenLine {
         })
     }
 
-    /// Whether there was no memory for a mark.
+    /// True if there was no memory for a mark.
     pub fn has_lacked_memory(&self) -> bool
         ensures { result ≡ self.now.has_lacked }
     {
@@ -97,7 +97,7 @@ impl OpenLine {
         requires peer { to.old.peer ≡ self.old.peer }
         requires going { has_last_event (events_sent to.old) ≡ false }
         ensures keeps { KeepsSender to.old to.new }
-        ensures hears { Hears self.old self.new (events_sent to.old) (events_sent to.new)
+        ensures hears { TapHears self.old self.new (events_sent to.old) (events_sent to.new)
             (piece_in self.old.line ∷ []) (Some []) }
     {
         if self.is_long {
@@ -120,8 +120,8 @@ impl OpenLine {
         requires peer { to.old.peer ≡ self.old.peer }
         requires going { has_last_event (events_sent to.old) ≡ false }
         ensures keeps { KeepsSender to.old to.new }
-        ensures hears { Hears self.old self.new (events_sent to.old) (events_sent to.new)
-            (pieces_of self.old.line (byte ∷ [])) (line_after self.old.line (byte ∷ [])) }
+        ensures hears { TapHears self.old self.new (events_sent to.old) (events_sent to.new)
+            (lines_ended_by self.old.line (byte ∷ [])) (line_after self.old.line (byte ∷ [])) }
     {
         if byte == b'\n' {
             self.send(rt, alloc, to);
@@ -136,8 +136,8 @@ impl OpenLine {
         requires peer { to.old.peer ≡ self.old.peer }
         requires going { has_last_event (events_sent to.old) ≡ false }
         ensures keeps { KeepsSender to.old to.new }
-        ensures hears { Hears self.old self.new (events_sent to.old) (events_sent to.new)
-            (pieces_of self.old.line bytes.now) (line_after self.old.line bytes.now) }
+        ensures hears { TapHears self.old self.new (events_sent to.old) (events_sent to.new)
+            (lines_ended_by self.old.line bytes.now) (line_after self.old.line bytes.now) }
     {
         for byte in bytes {
             self.take(rt, alloc, *byte, to);
@@ -159,5 +159,5 @@ impl OpenLine {
     }
 }
 
-ghost use Rattle.tap_runner.specs.Lines.{pieces_of, line_after};
+ghost use Rattle.tap_runner.specs.Lines.{lines_ended_by, line_after};
 ghost use Rattle.tap_runner.specs.Hearing.{EndsHearing};

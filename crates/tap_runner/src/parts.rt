@@ -1,16 +1,16 @@
-// What a run needs beside its host.
+// The parts that a run needs beside its host.
 ghost use Rattle.std.specs.Prelude.{◌≡◌, ◌≤◌, IfOk};
 ghost use Rattle.event_pipe.specs.declared.message.Peer.TheVariants as peers;
 ghost use Rattle.event_pipe.specs.Ends.{IsFreshSender};
 ghost use Rattle.tap_runner.specs.Ran.{IsReadyWay};
-ghost use Rattle.tap_runner.specs.Parts.{AreReady};
+ghost use Rattle.tap_runner.specs.Parts.{TapPartsAreReady};
 
 use crate::{Direction, LOG_ROOM, OpenLine};
 use event_pipe::{Peer, Pipe, PipeSend, PipeTake};
 use line_io::{NoMemory, Out};
 use std::alloc::Global;
 
-// How much is read at a time.
+// The number of bytes read at a time.
 const READ_ROOM: usize = 65_536;
 
 /// Both directions, the end of the channel that the log takes from, and the room for a mark.
@@ -18,11 +18,11 @@ const READ_ROOM: usize = 65_536;
 pub struct TapParts {
     pub down: Direction,
     pub up: Direction,
-    pub taker: PipeTake,
+    pub receiving_end: PipeTake,
     pub text: Out,
 }
 
-// What a direction needs whose marks go here.
+// The parts that a direction needs whose marks go here.
 fn make_way(alloc: Global, peer: Peer, to: PipeSend) -> Result<Direction, NoMemory>
     requires { IsFreshSender to peer }
     ensures way { IfOk result (λ way. IsReadyWay way peer) }
@@ -35,16 +35,16 @@ fn make_way(alloc: Global, peer: Peer, to: PipeSend) -> Result<Direction, NoMemo
 
 /// Takes the memory of a run.
 pub(crate) fn make_parts(alloc: Global) -> Result<TapParts, NoMemory>
-    ensures { IfOk result AreReady }
+    ensures { IfOk result TapPartsAreReady }
 {
     let text = Out::make(alloc, LOG_ROOM)?;
-    let (bridge, engine, taker) = Pipe::make(alloc)?;
+    let (bridge, engine, receiving_end) = Pipe::make(alloc)?;
     let down = make_way(alloc, Peer::Iface, bridge)?;
     let up = make_way(alloc, Peer::Engine, engine)?;
     Ok(TapParts {
         down,
         up,
-        taker,
+        receiving_end,
         text,
     })
 }

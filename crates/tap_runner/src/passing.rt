@@ -2,18 +2,18 @@
 ghost use Rattle.std.specs.Prelude.{◌≡◌, ◌<◌, [], false, vec_len};
 ghost use Rattle.event_pipe.specs.Ends.{IsSender, KeepsSender, events_sent};
 ghost use Rattle.event_pipe.specs.Rule.{has_last_event};
-ghost use Rattle.tap_runner.specs.Hearing.{EndsHearing, fresh};
-ghost use Rattle.tap_runner.specs.Passing.{Turned, Passed, is_last, has_failed_to_read, has_failed_to_write};
+ghost use Rattle.tap_runner.specs.Hearing.{EndsHearing, no_open_line};
+ghost use Rattle.tap_runner.specs.Passing.{Turned, Passed, is_last_turn, has_failed_to_read, has_failed_to_write};
 
 use crate::OpenLine;
-use child_engine::LetGo;
+use child_engine::ClosableSink;
 use event_pipe::PipeSend;
-use host_run::offer;
 use line_io::{Sink, Source};
+use program_lifecycle::offer;
 use std::alloc::Global;
 use std::sync::Wait;
 
-/// What one direction needs: where the marks of its lines go, its open line, and the room for what
+/// The parts that one direction needs: where the marks of its lines go, its open line, and the room for what
 /// is read at a time.
 #[derive(Drop)]
 pub struct Direction {
@@ -22,7 +22,7 @@ pub struct Direction {
     pub buf: Vec<u8>,
 }
 
-/// How one direction ended.
+/// The end of one direction.
 #[derive(Clone, Copy)]
 pub struct PassEnd {
     pub read_failed: bool,
@@ -31,7 +31,7 @@ pub struct PassEnd {
     pub has_lacked_memory: bool,
 }
 
-// What a turn came to.
+/// The outcome of a turn.
 #[derive(Clone, Copy)]
 pub enum PassingTurn {
     More,
@@ -42,7 +42,7 @@ pub enum PassingTurn {
 
 impl PassingTurn {
     fn is_last(self) -> bool
-        ensures { result ≡ is_last self }
+        ensures { result ≡ is_last_turn self }
     {
         !matches!(self, PassingTurn::More)
     }
@@ -94,9 +94,9 @@ fn pass_turn<S: Source, K: Sink, R: Wait>(
     }
 }
 
-// Ends a direction: a last line and the end go to the log, and then the sink is let go, so that
+// Ends a direction: a last line and the end go to the log, and then the sink is closed, so that
 // whoever reads there meets the end too.
-fn end_pass<K: LetGo, R: Wait>(rt: &R, alloc: Global, sink: &mut K, way: &mut Direction)
+fn end_pass<K: ClosableSink, R: Wait>(rt: &R, alloc: Global, sink: &mut K, way: &mut Direction)
     requires sender { IsSender way.old.to }
     requires peer { way.old.to.peer ≡ way.old.part.peer }
     requires going { has_last_event (events_sent way.old.to) ≡ false }
@@ -104,16 +104,16 @@ fn end_pass<K: LetGo, R: Wait>(rt: &R, alloc: Global, sink: &mut K, way: &mut Di
     ensures ends { EndsHearing way.old.part way.new.part (events_sent way.old.to)
         (events_sent way.new.to) }
     ensures shown { K.state sink.new ≡ K.state sink.old }
-    ensures gone { K.is_let_go sink.new }
+    ensures gone { K.is_sink_closed sink.new }
 {
     let Direction { to, part, buf: _ } = way;
     part.end(rt, alloc, to);
-    sink.let_go();
+    sink.close_sink();
 }
 
 /// Hands on what the source gives, as it comes, to its end or to a failure. Each line is sent to the
-/// log before the bytes that end it are handed on. At last the sink is let go.
-pub fn hand_on<S: Source, K: LetGo, R: Wait>(
+/// log before the bytes that end it are handed on. At last the sink is closed.
+pub fn hand_on<S: Source, K: ClosableSink, R: Wait>(
     rt: &R,
     alloc: Global,
     source: &mut S,
@@ -122,12 +122,12 @@ pub fn hand_on<S: Source, K: LetGo, R: Wait>(
 ) -> PassEnd
     requires room { 0 < vec_len way.old.buf }
     requires sender { IsSender way.old.to }
-    requires part { way.old.part ≡ fresh way.old.to.peer }
+    requires part { way.old.part ≡ no_open_line way.old.to.peer }
     requires unsent { events_sent way.old.to ≡ [] }
     ensures keeps { KeepsSender way.old.to way.new.to }
     ensures passed { Passed way.old.to.peer (S.state source.old) (S.state source.new)
         (K.state sink.old) (K.state sink.new) (events_sent way.new.to) result }
-    ensures gone { K.is_let_go sink.new }
+    ensures gone { K.is_sink_closed sink.new }
 {
     for _ in rt.forever() {
         let turn = pass_turn(rt, alloc, source, sink, way);

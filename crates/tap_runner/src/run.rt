@@ -1,24 +1,24 @@
 // Both directions beside the log.
 ghost use Rattle.std.specs.Prelude.{◌≡◌, ◌≤◌, is_some};
-ghost use Rattle.event_pipe.specs.Ends.{IsFreshTaker, events_taken, events_sent};
+ghost use Rattle.event_pipe.specs.Ends.{IsFreshReceiver, events_taken, events_sent};
 ghost use Rattle.event_pipe.specs.declared.message.Peer.TheVariants as peers;
-ghost use Rattle.host_run.specs.Streams.{log_state, streams_of};
+ghost use Rattle.program_lifecycle.specs.Streams.{log_state, streams_of};
 ghost use Rattle.tap_runner.specs.Logging.{Logged};
-ghost use Rattle.tap_runner.specs.Parts.{AreReady, KeepsEnds};
+ghost use Rattle.tap_runner.specs.Parts.{TapPartsAreReady, TapKeepsEnds};
 ghost use Rattle.tap_runner.specs.Passing.{Passed};
-ghost use Rattle.tap_runner.specs.Ran.{Ran, IsReadyWay};
+ghost use Rattle.tap_runner.specs.Ran.{TapRan, IsReadyWay};
 ghost use Rattle.tap_runner.specs.declared.logging.TheConstants.{LOG_ROOM};
 
 use crate::{PassEnd, TapParts, hand_on, keep_log};
-use child_engine::LetGo;
+use child_engine::ClosableSink;
 use event_pipe::{Pipe, join_three};
-use host_run::{HandedStreams, Interface};
 use line_io::{Sink, Source};
+use program_lifecycle::{HandedStreams, Interface};
 use std::alloc::Global;
 use std::sync::Wait;
 use std::thread::Threads;
 
-/// How a run of both directions ended.
+/// The end of a run of both directions.
 #[derive(Clone, Copy)]
 pub struct TapEnd {
     pub bridge: PassEnd,
@@ -30,8 +30,8 @@ pub struct TapEnd {
 fn run_beside<
     I: Source + Send,
     S: Source + Send,
-    O: LetGo + Send,
-    E: LetGo + Send,
+    O: ClosableSink + Send,
+    E: ClosableSink + Send,
     L: Sink + Send,
     R: Threads + Wait + Sync,
 >(
@@ -41,8 +41,8 @@ fn run_beside<
     interface: &mut Interface<I, O>,
     handed: &mut HandedStreams<S, E, L>,
 ) -> TapEnd
-    requires ready { AreReady parts.old }
-    ensures keeps { KeepsEnds parts.old parts.new }
+    requires ready { TapPartsAreReady parts.old }
+    ensures keeps { TapKeepsEnds parts.old parts.new }
     ensures from_bridge { Passed peers.Iface
         (I.state interface.old.input) (I.state interface.new.input)
         (E.state handed.old.engine) (E.state handed.new.engine)
@@ -51,16 +51,16 @@ fn run_beside<
         (S.state handed.old.source) (S.state handed.new.source)
         (O.state interface.old.output) (O.state interface.new.output)
         (events_sent parts.new.up.to) result.engine }
-    ensures output_gone { O.is_let_go interface.new.output }
-    ensures engine_gone { E.is_let_go handed.new.engine }
+    ensures output_gone { O.is_sink_closed interface.new.output }
+    ensures engine_gone { E.is_sink_closed handed.new.engine }
     ensures kept { is_some handed.new.log ≡ is_some handed.old.log }
-    ensures logged { Logged (events_taken parts.new.taker)
+    ensures logged { Logged (events_taken parts.new.receiving_end)
         (log_state L.state handed.old.log) (log_state L.state handed.new.log) result.log_failed }
 {
     let TapParts {
         down,
         up,
-        taker,
+        receiving_end,
         text,
     } = parts;
     let Interface { input, output } = interface;
@@ -78,8 +78,8 @@ fn run_beside<
             requires { IsReadyWay up.now peers.Engine }
         { hand_on(rt, alloc, source, output, up) },
         &mut ||
-            requires { IsFreshTaker taker.now × (LOG_ROOM ≤ text.now.room) }
-        { keep_log(rt, taker, log, text) },
+            requires { IsFreshReceiver receiving_end.now × (LOG_ROOM ≤ text.now.room) }
+        { keep_log(rt, receiving_end, log, text) },
     );
     TapEnd {
         bridge,
@@ -89,12 +89,12 @@ fn run_beside<
 }
 
 /// Hands on what the bridge and the engine write, each in a thread of its own, and keeps the log,
-/// until both have ended. Then both sinks were let go.
+/// until both have ended. Then both sinks were closed.
 pub fn run_tap<
     I: Source + Send,
     S: Source + Send,
-    O: LetGo + Send,
-    E: LetGo + Send,
+    O: ClosableSink + Send,
+    E: ClosableSink + Send,
     L: Sink + Send,
     R: Threads + Wait + Sync,
 >(
@@ -104,11 +104,11 @@ pub fn run_tap<
     interface: &mut Interface<I, O>,
     handed: &mut HandedStreams<S, E, L>,
 ) -> TapEnd
-    requires ready { AreReady parts }
-    ensures output_gone { O.is_let_go interface.new.output }
-    ensures engine_gone { E.is_let_go handed.new.engine }
+    requires ready { TapPartsAreReady parts }
+    ensures output_gone { O.is_sink_closed interface.new.output }
+    ensures engine_gone { E.is_sink_closed handed.new.engine }
     ensures kept { is_some handed.new.log ≡ is_some handed.old.log }
-    ensures ran { Ran
+    ensures ran { TapRan
         (streams_of I.state O.state S.state E.state L.state interface.old handed.old)
         (streams_of I.state O.state S.state E.state L.state interface.new handed.new)
         result }
@@ -118,9 +118,9 @@ pub fn run_tap<
     let TapParts {
         down,
         up,
-        taker,
+        receiving_end,
         text: _text,
     } = parts;
-    Pipe::finish(down.to, up.to, taker);
+    Pipe::finish(down.to, up.to, receiving_end);
     end
 }

@@ -1,34 +1,34 @@
 // One run of the tap over a host.
 ghost use Rattle.std.specs.Prelude.{◌≡◌, ◌<◌, length, map, string_bytes, IfOk, IfErr, OnOk, OnErr};
 ghost use Rattle.child_engine.specs.Asked.{and_engines};
-ghost use Rattle.child_engine.specs.Hosts.{IsUnused, IsStarted, fresh_source, fresh_sink, WasLetGo, with_run};
-ghost use Rattle.host_run.specs.Asked.{AsksFor, OpensLogs, engines_asked_by};
-ghost use Rattle.host_run.specs.Early.{AreEarly};
-ghost use Rattle.host_run.specs.Outside.{outside_of};
-ghost use Rattle.tap_runner.specs.Parts.{AreReady};
-ghost use Rattle.tap_runner.specs.Tapped.{Leaves};
+ghost use Rattle.child_engine.specs.Hosts.{HostIsUnused, IsStarted, fresh_source, fresh_sink, WasSinkClosed, with_run};
+ghost use Rattle.program_lifecycle.specs.Asked.{AsksFor, OpensLogs, engines_asked_by};
+ghost use Rattle.program_lifecycle.specs.Early.{FailuresAreEarly};
+ghost use Rattle.program_lifecycle.specs.Outside.{outside_of};
+ghost use Rattle.tap_runner.specs.Parts.{TapPartsAreReady};
+ghost use Rattle.tap_runner.specs.Tapped.{TapLeaves};
 
 use crate::parts::make_parts;
 use crate::{TapParts, run_tap};
-use child_engine::{Host, LetGo, Started};
-use host_run::{
+use child_engine::{ClosableSink, Host, Started};
+use line_io::Source;
+use program_command_line::EngineRequest;
+use program_lifecycle::{
     Failures, HandedStreams, Interface, Opened, close_log, either, is_open_failure, is_open_memory,
     only_memory, open_log, start_engine,
 };
-use line_io::Source;
-use program_edges::EngineRequest;
 use std::alloc::Global;
 use std::sync::Wait;
 use std::thread::Threads;
 
-// What a run needs, and the engine that was started.
+// The parts that a run needs, and the engine that was started.
 struct ReadyTap<S, K, P> {
     parts: TapParts,
     run: Started<S, K, P>,
 }
 
 // The run of an engine that was started.
-fn run_started<I: Source + Send, O: LetGo + Send, H: Host, R: Threads + Wait + Sync>(
+fn run_started<I: Source + Send, O: ClosableSink + Send, H: Host, R: Threads + Wait + Sync>(
     rt: &R,
     alloc: Global,
     ready: ReadyTap<H::EngineSource, H::EngineSink, H::EngineProcess>,
@@ -37,18 +37,20 @@ fn run_started<I: Source + Send, O: LetGo + Send, H: Host, R: Threads + Wait + S
     host: &mut H,
 ) -> Failures
 where
-    H::EngineSink: LetGo,
-    requires parts { AreReady ready.parts }
-    requires source { H.EngineSource.state ready.run.source ≡ fresh_source (H.books host.old).says }
-    requires sink { H.EngineSink.state ready.run.sink ≡ fresh_sink (H.books host.old).tells }
-    requires books { IsStarted (H.books host.old) }
-    ensures leaves { Leaves (O.is_let_go interface.new.output)
-        (WasLetGo H.EngineSink.state H.EngineSink.is_let_go)
-        (outside_of I.state O.state H.faults H.books interface.old host.old)
-        (outside_of I.state O.state H.faults H.books interface.new host.new)
+    H::EngineSink: ClosableSink,
+    requires parts { TapPartsAreReady ready.parts }
+    requires source { H.EngineSource.state ready.run.source ≡ fresh_source (H.ledger
+        host.old).says }
+    requires sink { H.EngineSink.state ready.run.sink ≡ fresh_sink (H.ledger
+        host.old).sinks_report }
+    requires ledger { IsStarted (H.ledger host.old) }
+    ensures leaves { TapLeaves (O.is_sink_closed interface.new.output)
+        (WasSinkClosed H.EngineSink.state H.EngineSink.is_sink_closed)
+        (outside_of I.state O.state H.faults H.ledger interface.old host.old)
+        (outside_of I.state O.state H.faults H.ledger interface.new host.new)
         result }
     ensures asked { OpensLogs log_name.now (H.asked host.old) (H.asked host.new)
-        (H.books host.old) (H.books host.new) result }
+        (H.ledger host.old) (H.ledger host.new) result }
 {
     let ReadyTap { parts, run } = ready;
     let Started {
@@ -93,27 +95,28 @@ where
 fn start<H: Host, R: Threads>(
     rt: &R,
     alloc: Global,
-    words: &[String],
+    arguments: &[String],
     host: &mut H,
 ) -> Result<ReadyTap<H::EngineSource, H::EngineSink, H::EngineProcess>, Failures>
-    requires words { 0 < length words.now }
-    requires unused { IsUnused (H.books host.old) }
-    ensures parts { IfOk result (λ ready. AreReady ready.parts) }
+    requires arguments { 0 < length arguments.now }
+    requires unused { HostIsUnused (H.ledger host.old) }
+    ensures parts { IfOk result (λ ready. TapPartsAreReady ready.parts) }
     ensures source { IfOk result (λ ready.
-        H.EngineSource.state ready.run.source ≡ fresh_source (H.books host.old).says) }
+        H.EngineSource.state ready.run.source ≡ fresh_source (H.ledger host.old).says) }
     ensures sink { IfOk result (λ ready.
-        H.EngineSink.state ready.run.sink ≡ fresh_sink (H.books host.old).tells) }
-    ensures books { OnOk result (H.books host.new ≡ with_run (H.books host.old)) }
+        H.EngineSink.state ready.run.sink ≡ fresh_sink (H.ledger host.old).sinks_report) }
+    ensures ledger { OnOk result (H.ledger host.new ≡ with_run (H.ledger host.old)) }
     ensures faults { OnOk result (H.faults host.new ≡ H.faults host.old) }
-    ensures unstarted { OnErr result (H.books host.new ≡ H.books host.old) }
+    ensures unstarted { OnErr result (H.ledger host.new ≡ H.ledger host.old) }
     ensures asked { H.asked host.new
-        ≡ and_engines (engines_asked_by result) (map string_bytes words.now) (H.asked host.old) }
-    ensures early { IfErr result (AreEarly (H.faults host.old) (H.faults host.new)) }
+        ≡ and_engines (engines_asked_by result) (map string_bytes arguments.now) (H.asked
+        host.old) }
+    ensures early { IfErr result (FailuresAreEarly (H.faults host.old) (H.faults host.new)) }
 {
     let Ok(parts) = make_parts(alloc) else {
         return Err(only_memory());
     };
-    match start_engine(rt, alloc, words, host) {
+    match start_engine(rt, alloc, arguments, host) {
         Ok(run) => Ok(ReadyTap { parts, run }),
         Err(failures) => Err(failures),
     }
@@ -121,7 +124,7 @@ fn start<H: Host, R: Threads>(
 
 /// Starts the engine, opens the log, hands on what the bridge and the engine write, and closes the
 /// run and the log. A log that cannot be opened is left out.
-pub fn tap_run<I: Source + Send, O: LetGo + Send, H: Host, R: Threads + Wait + Sync>(
+pub fn tap_run<I: Source + Send, O: ClosableSink + Send, H: Host, R: Threads + Wait + Sync>(
     rt: &R,
     alloc: Global,
     request: &EngineRequest,
@@ -129,17 +132,17 @@ pub fn tap_run<I: Source + Send, O: LetGo + Send, H: Host, R: Threads + Wait + S
     host: &mut H,
 ) -> Failures
 where
-    H::EngineSink: LetGo,
-    requires words { 0 < length request.now.engine.items }
-    requires unused { IsUnused (H.books host.old) }
-    ensures leaves { Leaves (O.is_let_go interface.new.output)
-        (WasLetGo H.EngineSink.state H.EngineSink.is_let_go)
-        (outside_of I.state O.state H.faults H.books interface.old host.old)
-        (outside_of I.state O.state H.faults H.books interface.new host.new)
+    H::EngineSink: ClosableSink,
+    requires arguments { 0 < length request.now.engine.items }
+    requires unused { HostIsUnused (H.ledger host.old) }
+    ensures leaves { TapLeaves (O.is_sink_closed interface.new.output)
+        (WasSinkClosed H.EngineSink.state H.EngineSink.is_sink_closed)
+        (outside_of I.state O.state H.faults H.ledger interface.old host.old)
+        (outside_of I.state O.state H.faults H.ledger interface.new host.new)
         result }
     ensures asked { AsksFor (map string_bytes request.now.engine.items)
         (string_bytes request.now.log_name)
-        (H.asked host.old) (H.asked host.new) (H.books host.new) result }
+        (H.asked host.old) (H.asked host.new) (H.ledger host.new) result }
 {
     match start(rt, alloc, request.engine.as_slice(), host) {
         Ok(ready) => { run_started(rt, alloc, ready, request.log_name.as_str(), interface, host) }

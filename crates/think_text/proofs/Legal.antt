@@ -21,4 +21,4 @@ newer_writable p None old h = h
 newer_writable p (Some m) old h = newer_step p m (legal p m) old refl h
 
 pub stays_writable : StaysWritable
-stays_writable seen facts p h = newer_writable p facts.current seen.current h
+stays_writable search_info facts p h = newer_writable p facts.current search_info.current h

@@ -1,4 +1,4 @@
--- How long the lines about a search are, how large the numbers that are kept, and
+-- The lengths of the lines about a search, the sizes of the numbers that are kept, and
 -- that the lines are replies.
 use Rattle.std.specs.Prelude.{◌≡◌, ℕ, ◌+◌, ◌*◌, ◌/◌, ◌^◌, ◌<◌, ◌≤◌}
 use Rattle.std.specs.Prelude.{List, length, Option, Some, IfSome}
@@ -11,11 +11,11 @@ use Rattle.uci_lines.specs.Info.{Info as AnyInfo}
 use Rattle.uci_lines.specs.Messages.{Info}
 use Rattle.uci_lines.specs.Engine.{engine_message}
 use Rattle.think_text.specs.declared.line.Pondered.{Pondered}
-use Rattle.think_text.specs.declared.seen.SeenThinking.{SeenThinking}
-use Rattle.think_text.specs.Line.{IsHeard, IsPlayable, thinking_line}
+use Rattle.think_text.specs.declared.search_info.SearchInfo.{SearchInfo}
+use Rattle.think_text.specs.Line.{InfoIsHeard, IsPlayableAsHint, thinking_line}
 use Rattle.think_text.specs.Kept.{nothing_seen, after_info, stat01_of}
 
--- How long a thinking line is at most, by the engine's line that it tells: a move by its squares
+-- The greatest length of a thinking line, by the engine's line that it tells: a move by its squares
 -- has at most as many bytes as the engine wrote, and one in standard algebraic notation at most
 -- three more, where the engine wrote four or more.
 abbrev pub most_bytes : Spelling → ℕ → ℕ
@@ -27,7 +27,7 @@ abbrev pub LinesAreShort : Type 0
 LinesAreShort =
     (s : Spelling) (line : List ℕ) (facts : AnyInfo) (p : Position) (hint : Option Pondered)
     (t : Reply)
-    → IsPlayable hint → engine_message line ≡ Info facts → thinking_line s facts p hint ≡ Some t
+    → IsPlayableAsHint hint → engine_message line ≡ Info facts → thinking_line s facts p hint ≡ Some t
     → length (reply_text t) ≤ most_bytes s (length line)
 
 -- the position before the hint is one
@@ -38,26 +38,26 @@ IsBefore hint = IsPosition hint.before
 abbrev pub LinesAreReplies : Type 0
 LinesAreReplies =
     (s : Spelling) (facts : AnyInfo) (p : Position) (hint : Option Pondered) (t : Reply)
-    → IsPosition p → IfSome hint IsBefore → IsPlayable hint → IsHeard facts
+    → IsPosition p → IfSome hint IsBefore → IsPlayableAsHint hint → InfoIsHeard facts
     → thinking_line s facts p hint ≡ Some t
     → SpellsReply (reply_text t) t
 
 -- the numbers that are kept have at most 64 bits
-pub record IsBounded (seen : SeenThinking) : Type 0 where
-  pub depth : seen.depth < 2 ^ 64
-  pub time : seen.time < 2 ^ 64
-  pub nodes : seen.nodes < 2 ^ 64
-  pub number : seen.number < 2 ^ 64
+pub record IsBounded (search_info : SearchInfo) : Type 0 where
+  pub depth : search_info.depth < 2 ^ 64
+  pub time : search_info.time < 2 ^ 64
+  pub nodes : search_info.nodes < 2 ^ 64
+  pub number : search_info.number < 2 ^ 64
 
 -- They have from the start, and once more was reported by a line of the engine.
 abbrev pub StaysBounded : Type 0
 StaysBounded =
     IsBounded nothing_seen
-    × ((seen : SeenThinking) (facts : AnyInfo) (p : Position) → IsBounded seen → IsHeard facts
-    → IsBounded (after_info seen facts p))
+    × ((search_info : SearchInfo) (facts : AnyInfo) (p : Position) → IsBounded search_info → InfoIsHeard facts
+    → IsBounded (after_info search_info facts p))
 
 -- The answer to `.` has at most 128 bytes.
 abbrev pub StatIsShort : Type 0
 StatIsShort =
-    (seen : SeenThinking) (p : Position) → IsBounded seen
-    → length (reply_text (stat01_of seen p)) ≤ 128
+    (search_info : SearchInfo) (p : Position) → IsBounded search_info
+    → length (reply_text (stat01_of search_info p)) ≤ 128

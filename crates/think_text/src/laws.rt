@@ -1,4 +1,4 @@
-// What holds of all that is kept and shown.
+// The laws of all that is kept and shown.
 ghost use Rattle.think_text.specs.Kept.{StaysWritable};
 ghost use Rattle.think_text.specs.Short.{LinesAreReplies, LinesAreShort, StaysBounded, StatIsShort};
 

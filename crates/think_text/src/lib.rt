@@ -1,12 +1,12 @@
-//! What an engine reports of its search, and what the interface is shown of it.
+//! The engine's reports on its search, and what the interface is shown of them.
 #![tactic(auto)]
 
 mod laws;
 mod line;
-mod seen;
+mod search_info;
 mod texts;
 mod value;
 
 pub use laws::{current_stays_writable, thinking_lines_are_short};
 pub use line::{Pondered, thinking};
-pub use seen::{SeenThinking, stat01};
+pub use search_info::{SearchInfo, stat01};

@@ -5,10 +5,10 @@ ghost use Rattle.line_io.specs.Out.{with};
 ghost use Rattle.peer_words.specs.Tokens.{tokens};
 ghost use Rattle.chess_board.specs.Place.{legal};
 ghost use Rattle.cecp_lines.specs.Replies.{Thinking, reply_of};
-ghost use Rattle.uci_lines.specs.Moves.{run};
+ghost use Rattle.uci_lines.specs.Moves.{longest_move_run};
 ghost use Rattle.uci_lines.specs.Info.{info_of};
 ghost use Rattle.uci_lines.specs.Scores.{IsCentis};
-ghost use Rattle.think_text.specs.Line.{IsHeard, IsPlayable, HasRoom, legal_run, moved_position, value_of, spaced_moves, thinking_line, with_line, written};
+ghost use Rattle.think_text.specs.Line.{InfoIsHeard, IsPlayableAsHint, ThinkingLineHasRoom, legal_run, position_after_pv_move, value_of, spaced_moves, thinking_line, text_with_line, written};
 ghost use Rattle.peer_words.specs.Bytes.{blank};
 
 use crate::texts::{bytes_of, hint_text, put_move, written};
@@ -38,11 +38,12 @@ struct NextMove<'a> {
 /// The first move of a text of moves, if it is legal.
 fn next_legal<'a>(moves: &'a [u8], at: &Position) -> Option<NextMove<'a>>
     ensures { MatchOption result
-        (legal_run at.now (run (tokens moves.now)) ≡ [])
+        (legal_run at.now (longest_move_run (tokens moves.now)) ≡ [])
         (λ next. (legal at.now next.m ≡ true)
-        × (next.after ≡ moved_position at.now next.m)
-        × (legal_run at.now (run (tokens moves.now))
-        ≡ next.m ∷ legal_run (moved_position at.now next.m) (run (tokens next.others.now)))) }
+        × (next.after ≡ position_after_pv_move at.now next.m)
+        × (legal_run at.now (longest_move_run (tokens moves.now))
+        ≡ next.m ∷ legal_run (position_after_pv_move at.now next.m) (longest_move_run (tokens
+        next.others.now)))) }
 {
     let (m, others) = next_move(moves)?;
     let after = at.try_play(m)?;
@@ -63,10 +64,12 @@ fn write_spaced(spelling: Spelling, at: &Position, m: Move, out: &mut Out)
 /// Writes each move after a blank, as long as each is legal in its turn.
 fn write_moves(spelling: Spelling, moves: &[u8], at: &Position, out: &mut Out)
     requires { length out.old.text
-        + length (spaced_moves spelling at.now (legal_run at.now (run (tokens moves.now))))
+        + length (spaced_moves spelling at.now (legal_run at.now (longest_move_run (tokens
+        moves.now))))
         ≤ out.old.room }
     ensures { out.new
-        ≡ with out.old (spaced_moves spelling at.now (legal_run at.now (run (tokens moves.now)))) }
+        ≡ with out.old (spaced_moves spelling at.now (legal_run at.now (longest_move_run (tokens
+        moves.now)))) }
 {
     let mut position = *at;
     let mut others = moves;
@@ -78,7 +81,7 @@ fn write_moves(spelling: Spelling, moves: &[u8], at: &Position, out: &mut Out)
 }
 
 /// The line with these moves.
-fn front_of<'a>(
+fn prefix_of<'a>(
     info: &Info,
     depth: u64,
     score: Score,
@@ -114,13 +117,14 @@ pub fn thinking(
     hint: Option<Pondered>,
     out: &mut Out,
 ) -> bool
-    requires heard { IsHeard (info_of info.now) }
-    requires hint { IsPlayable hint }
-    requires room { HasRoom out.old (thinking_line spelling (info_of info.now) at.now hint) }
+    requires heard { InfoIsHeard (info_of info.now) }
+    requires hint { IsPlayableAsHint hint }
+    requires room { ThinkingLineHasRoom out.old (thinking_line spelling (info_of info.now) at.now
+        hint) }
     ensures there { result
         ≡ is_some (thinking_line spelling (info_of info.now) at.now hint) }
     ensures text { out.new
-        ≡ with_line out.old (thinking_line spelling (info_of info.now) at.now hint) }
+        ≡ text_with_line out.old (thinking_line spelling (info_of info.now) at.now hint) }
 {
     let (Some(depth), Some(score)) = (info.depth, info.score) else {
         return false;
@@ -130,7 +134,7 @@ pub fn thinking(
     };
     let hint = hint_text(spelling, hint);
     let text = written(spelling, at, first.m);
-    let front = front_of(
+    let prefix = prefix_of(
         info,
         depth,
         score,
@@ -138,7 +142,7 @@ pub fn thinking(
         bytes_of(&hint),
         text.as_slice(),
     );
-    write_reply(&front, out);
+    write_reply(&prefix, out);
     write_moves(spelling, first.others, &first.after, out);
     true
 }

@@ -3,9 +3,9 @@ ghost use Rattle.std.specs.Prelude.{◌≡◌, ◌+◌, ◌≤◌, true, length}
 ghost use Rattle.std.specs.Option.{option_map};
 ghost use Rattle.line_io.specs.Out.{with};
 ghost use Rattle.chess_board.specs.Place.{legal};
-ghost use Rattle.chess_board.specs.Text.{text_of};
+ghost use Rattle.chess_board.specs.Text.{text_of_move};
 ghost use Rattle.cecp_lines.specs.Replies.{IsWritable};
-ghost use Rattle.think_text.specs.Line.{IsPlayable, hint_text, written};
+ghost use Rattle.think_text.specs.Line.{IsPlayableAsHint, hint_text, written};
 
 use crate::Pondered;
 use arrayvec::ArrayVec;
@@ -17,7 +17,7 @@ use san_text::write_san;
 /// A move by its squares.
 fn squares_of(m: Move) -> ArrayVec<u8, 7>
     requires { IsWritable m }
-    ensures { result.items ≡ text_of m }
+    ensures { result.items ≡ text_of_move m }
 {
     let mut text = ArrayVec::new();
     let _ = text.try_extend_from_slice(write_move(m).as_slice());
@@ -49,7 +49,7 @@ pub(crate) fn put_move(spelling: Spelling, at: &Position, m: Move, out: &mut Out
 
 /// A hint, in the position before it.
 pub(crate) fn hint_text(spelling: Spelling, hint: Option<Pondered>) -> Option<ArrayVec<u8, 7>>
-    requires { IsPlayable hint }
+    requires { IsPlayableAsHint hint }
     ensures { option_map (λ text. text.items) result ≡ hint_text spelling hint }
 {
     match hint {

@@ -5,7 +5,7 @@ ghost use Rattle.think_text.specs.Line.{value_of};
 
 use uci_lines::Score;
 
-/// How much a mate counts, in hundredths of a pawn.
+/// The value of a mate, in hundredths of a pawn.
 const MATE: i64 = 100_000;
 
 /// A score in hundredths of a pawn.

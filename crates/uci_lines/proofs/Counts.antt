@@ -7,8 +7,8 @@ use Rattle.peer_words.specs.Numbers.{count}
 use Rattle.peer_words.proofs.Written.{count_decimal, decimal_token}
 use Rattle.peer_words.proofs.Runs.{black}
 use Rattle.uci_lines.specs.Orders.{optional_number}
-use Rattle.uci_lines.specs.Behind.{after, exact_by, exact_count, count_with_rest, number_in, number_behind, number_or, perhaps_number}
-use Rattle.uci_lines.proofs.Fronts.{BeginsWhite, front, behind, joined, front_is, behind_is}
+use Rattle.uci_lines.specs.Behind.{after, exact_by, exact_count, count_with_rest, count_at_start, number_behind, number_or, perhaps_number}
+use Rattle.uci_lines.proofs.Prefixes.{BeginsWhite, prefix, behind, joined, prefix_is, behind_is}
 use Rattle.uci_lines.proofs.Stripped.{after_word, word_after}
 
 pub same_text : (a b : List ℕ) → bytes_eq a b ≡ true → a ≡ b
@@ -30,11 +30,11 @@ counted_is (Some n) others found h = pair_of n others found h
     pair_of : (k : ℕ) (rest : List ℕ) (x : ℕ × List ℕ) → Some (k, rest) ≡ Some x → (Some k ≡ Some x.0) × (rest ≡ x.1)
     pair_of k rest x e = let same : (k, rest) ≡ x = cc in (ap (λ (y : ℕ × List ℕ). Some y.0) same, ap (λ (y : ℕ × List ℕ). y.1) same)
 
-in_is : (word text : List ℕ) (o : Option (List ℕ)) (found : ℕ × List ℕ) → after word text ≡ o → number_in o ≡ Some found → text ≡ word ++ (decimal found.0 ++ found.1)
+in_is : (word text : List ℕ) (o : Option (List ℕ)) (found : ℕ × List ℕ) → after word text ≡ o → count_at_start o ≡ Some found → text ≡ word ++ (decimal found.0 ++ found.1)
 in_is word text None found e h = absurd (cc)
 in_is word text (Some others) found e h =
-    let both = counted_is (exact_count (front others)) (behind others) found h in
-    let digits : decimal found.0 ≡ front others = exact_is (count (front others)) (front others) found.0 both.0 in
+    let both = counted_is (exact_count (prefix others)) (behind others) found h in
+    let digits : decimal found.0 ≡ prefix others = exact_is (count (prefix others)) (prefix others) found.0 both.0 in
     word_after word text others e ∙ ap (λ t. word ++ t) (sym (joined others) ∙ ap (λ t. t ++ behind others) (sym digits) ∙ ap (λ t. decimal found.0 ++ t) both.1)
 
 pub number_takes : (word text : List ℕ) (found : ℕ × List ℕ) → number_behind word text ≡ Some found → text ≡ word ++ (decimal found.0 ++ found.1)
@@ -45,9 +45,9 @@ pub number_again : (word more : List ℕ) (n : ℕ) → n < 10 ^ 18 → BeginsWh
 unfolding number_behind
 number_again word more n h w =
     let bytes = black (decimal n) (decimal_token n (omega arith)) in
-    let digits : exact_count (front (decimal n ++ more)) ≡ Some n =
-    ap exact_count (front_is (decimal n) more bytes w) ∙ ap (λ o. exact_by o (decimal n)) (count_decimal n h) ∙ rw (text_same (decimal n) (decimal n) refl) refl in
-    ap number_in (after_word word (decimal n ++ more))
+    let digits : exact_count (prefix (decimal n ++ more)) ≡ Some n =
+    ap exact_count (prefix_is (decimal n) more bytes w) ∙ ap (λ o. exact_by o (decimal n)) (count_decimal n h) ∙ rw (text_same (decimal n) (decimal n) refl) refl in
+    ap count_at_start (after_word word (decimal n ++ more))
     ∙ ap (λ o. count_with_rest o (behind (decimal n ++ more))) digits
     ∙ ap (λ t. Some (n, t)) (behind_is (decimal n) more bytes w)
 

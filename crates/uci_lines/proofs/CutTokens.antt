@@ -4,13 +4,13 @@ use Rattle.std.specs.Option.{option_map}
 use Rattle.peer_words.specs.Tokens.{is_white, trim_left, trimmed, tokens}
 use Rattle.peer_words.proofs.TokenLists.{tokens_some, tokens_white, tokens_trimmed}
 use Rattle.uci_lines.specs.Cuts.{Found, onto_part, found_token}
-use Rattle.uci_lines.proofs.Fronts.{front, behind, front-white, behind-white, front-byte, behind-byte}
-use Rattle.uci_lines.proofs.Cutting.{part_at, step, here, black_first, front_kept}
+use Rattle.uci_lines.proofs.Prefixes.{prefix, behind, prefix-white, behind-white, prefix-byte, behind-byte}
+use Rattle.uci_lines.proofs.Cutting.{part_at, step, here, black_first, prefix_kept}
 
-pub tokens_byte : (b : ℕ) (bs : List ℕ) → is_white b ≡ false → tokens (b ∷ bs) ≡ (b ∷ front bs) ∷ tokens (behind bs)
+pub tokens_byte : (b : ℕ) (bs : List ℕ) → is_white b ≡ false → tokens (b ∷ bs) ≡ (b ∷ prefix bs) ∷ tokens (behind bs)
 tokens_byte b bs e =
-    tokens_some (b ∷ bs) b (front bs) (black_first b bs e)
-    ∙ ap (λ t. (b ∷ front bs) ∷ t) (ap (λ line. tokens (trimmed (behind line))) (left b bs e) ∙ tokens_trimmed (behind (b ∷ bs)) ∙ ap tokens (behind-byte b bs e))
+    tokens_some (b ∷ bs) b (prefix bs) (black_first b bs e)
+    ∙ ap (λ t. (b ∷ prefix bs) ∷ t) (ap (λ line. tokens (trimmed (behind line))) (left b bs e) ∙ tokens_trimmed (behind (b ∷ bs)) ∙ ap tokens (behind-byte b bs e))
   where
     left : (c : ℕ) (cs : List ℕ) → is_white c ≡ false → trim_left (c ∷ cs) ≡ c ∷ cs
     left c cs h = rw h refl
@@ -20,12 +20,12 @@ record Both (p : List ℕ → Bool) (text : List ℕ) : Type 0 where
   pub fresh : (part : Found) → found_token p true text ≡ Some part → tokens text ≡ tokens part.before ++ (part.word ∷ tokens part.after)
   pub inside : (part : Found) → found_token p false text ≡ Some part → tokens (behind text) ≡ tokens (behind part.before) ++ (part.word ∷ tokens part.after)
 
-at_word : (p : List ℕ → Bool) (w : Bool) (b : ℕ) (bs : List ℕ) (part : Found) → p [] ≡ false → is_white b ≡ w → p (front (b ∷ bs)) ≡ true → part_at (b ∷ bs) ≡ part → tokens (b ∷ bs) ≡ tokens part.before ++ (part.word ∷ tokens part.after)
-at_word p true b bs part z e h k = absurd (cc (ap p (front-white b bs e)))
+at_word : (p : List ℕ → Bool) (w : Bool) (b : ℕ) (bs : List ℕ) (part : Found) → p [] ≡ false → is_white b ≡ w → p (prefix (b ∷ bs)) ≡ true → part_at (b ∷ bs) ≡ part → tokens (b ∷ bs) ≡ tokens part.before ++ (part.word ∷ tokens part.after)
+at_word p true b bs part z e h k = absurd (cc (ap p (prefix-white b bs e)))
 at_word p false b bs part z e h k =
     tokens_byte b bs e
-    ∙ ap (λ t. t ∷ tokens (behind bs)) (sym (front-byte b bs e))
-    ∙ ap (λ t. front (b ∷ bs) ∷ tokens t) (sym (behind-byte b bs e))
+    ∙ ap (λ t. t ∷ tokens (behind bs)) (sym (prefix-byte b bs e))
+    ∙ ap (λ t. prefix (b ∷ bs) ∷ tokens t) (sym (behind-byte b bs e))
     ∙ ap (λ (r : Found). tokens r.before ++ (r.word ∷ tokens r.after)) k
 
 fresh_further : (p : List ℕ → Bool) (w : Bool) (b : ℕ) (bs : List ℕ) (o : Option Found) (part : Found) → is_white b ≡ w → Both p bs → found_token p w bs ≡ o → option_map (onto_part b) o ≡ Some part → tokens (b ∷ bs) ≡ tokens part.before ++ (part.word ∷ tokens part.after)
@@ -37,12 +37,12 @@ fresh_further p true b bs (Some q) part e i c h =
 fresh_further p false b bs (Some q) part e i c h =
     let same : onto_part b q ≡ part = cc in
     tokens_byte b bs e
-    ∙ ap (λ t. (b ∷ t) ∷ tokens (behind bs)) (sym (front_kept p bs q c))
-    ∙ ap (λ t. (b ∷ front q.before) ∷ t) (i.inside q c)
+    ∙ ap (λ t. (b ∷ t) ∷ tokens (behind bs)) (sym (prefix_kept p bs q c))
+    ∙ ap (λ t. (b ∷ prefix q.before) ∷ t) (i.inside q c)
     ∙ ap (λ t. t ++ (q.word ∷ tokens q.after)) (sym (tokens_byte b q.before e))
     ∙ ap (λ (r : Found). tokens r.before ++ (r.word ∷ tokens r.after)) same
 
-fresh_step : (t : Bool) (p : List ℕ → Bool) (b : ℕ) (bs : List ℕ) (part : Found) → p [] ≡ false → p (front (b ∷ bs)) ≡ t → Both p bs → found_token p true (b ∷ bs) ≡ Some part → tokens (b ∷ bs) ≡ tokens part.before ++ (part.word ∷ tokens part.after)
+fresh_step : (t : Bool) (p : List ℕ → Bool) (b : ℕ) (bs : List ℕ) (part : Found) → p [] ≡ false → p (prefix (b ∷ bs)) ≡ t → Both p bs → found_token p true (b ∷ bs) ≡ Some part → tokens (b ∷ bs) ≡ tokens part.before ++ (part.word ∷ tokens part.after)
 fresh_step true p b bs part z e i h =
     let some : Some (part_at (b ∷ bs)) ≡ Some part = sym (here p b bs e) ∙ h in
     let same : part_at (b ∷ bs) ≡ part = cc in
@@ -67,7 +67,7 @@ both p [] z = record { fresh = λ part h. absurd (cc h); inside = λ part h. abs
 both p (b ∷ bs) z =
     let i = both p bs z in
     record {
-      fresh = λ part h. fresh_step (p (front (b ∷ bs))) p b bs part z refl i h;
+      fresh = λ part h. fresh_step (p (prefix (b ∷ bs))) p b bs part z refl i h;
       inside = λ part h. inside_further p (is_white b) b bs (found_token p (is_white b) bs) part refl i refl h;
     }
 

@@ -7,7 +7,7 @@ use Rattle.std.specs.Option.{option_map}
 use Rattle.std.proofs.lemmas.Bool.{and_parts}
 use Rattle.peer_words.specs.Tokens.{is_white, is_token, trim_left, token_end, first_token}
 use Rattle.peer_words.proofs.Runs.{black as bytes_of}
-use Rattle.uci_lines.proofs.Fronts.{BeginsWhite, joined, front_black, begins, front-white, front-byte, front_is, behind_is}
+use Rattle.uci_lines.proofs.Prefixes.{BeginsWhite, joined, prefix_black, begins, prefix-white, prefix-byte, prefix_is, behind_is}
 use Rattle.uci_lines.specs.Cuts.{Found, onto_part, found_token}
 
 -- a part of what follows some bytes, as a part of all
@@ -57,7 +57,7 @@ found p text i all l e h =
     found_at p (take i text) (drop i text) (drop (i + 1) text) (get_or text i 0) all (from text i l) e h
     ∙ ap (λ t. Some (record { before = t; word = before_first is_white (drop i text); after = drop (token_end (drop i text)) (drop i text) })) (append-nil (take i text))
 
--- What a cut is: the text in three, a token in the middle that passes.
+-- A cut: the text in three, a token in the middle that passes.
 pub record Cuts (p : List ℕ → Bool) (text : List ℕ) (part : Found) : Type 0 where
   pub whole : text ≡ part.before ++ (part.word ++ part.after)
   pub passes : p part.word ≡ true
@@ -75,7 +75,7 @@ cut_step : (t : Bool) (p : List ℕ → Bool) (fresh : Bool) (b : ℕ) (bs : Lis
 cut_step true p fresh b bs part e h k =
     let same : Some (part_at (b ∷ bs)) ≡ Some part = sym (rw e refl) ∙ k in
     let is : part_at (b ∷ bs) ≡ part = cc in
-    subst (λ (r : Found). Cuts p (b ∷ bs) r) is (record { whole = sym (joined (b ∷ bs)); passes = (and_parts fresh (p (before_first is_white (b ∷ bs))) e).1; black = front_black (b ∷ bs); begins_white = begins (b ∷ bs) })
+    subst (λ (r : Found). Cuts p (b ∷ bs) r) is (record { whole = sym (joined (b ∷ bs)); passes = (and_parts fresh (p (before_first is_white (b ∷ bs))) e).1; black = prefix_black (b ∷ bs); begins_white = begins (b ∷ bs) })
 cut_step false p fresh b bs part e h k =
     further_is p b bs (found_token p (is_white b) bs) part h (sym (step p fresh b bs e) ∙ k)
 
@@ -93,27 +93,27 @@ white_first : (b : ℕ) (bs : List ℕ) → is_white b ≡ true → first_token 
 white_first b bs e = rw e refl
 
 pub black_first : (b : ℕ) (bs : List ℕ) → is_white b ≡ false → first_token (b ∷ bs) ≡ b ∷ before_first is_white bs
-black_first b bs e = ap (before_first is_white) (left b bs e) ∙ front-byte b bs e
+black_first b bs e = ap (before_first is_white) (left b bs e) ∙ prefix-byte b bs e
   where
     left : (c : ℕ) (cs : List ℕ) → is_white c ≡ false → trim_left (c ∷ cs) ≡ c ∷ cs
     left c cs h = rw h refl
 
-front_kept_step : (w : Bool) (p : List ℕ → Bool) (b : ℕ) (bs : List ℕ) (o : Option Found) (part : Found) → is_white b ≡ w → option_map (onto_part b) o ≡ Some part → ((q : Found) → w ≡ false → o ≡ Some q → before_first is_white q.before ≡ before_first is_white bs) → before_first is_white part.before ≡ before_first is_white (b ∷ bs)
-front_kept_step w p b bs None part e h k = absurd (cc)
-front_kept_step true p b bs (Some q) part e h k =
+prefix_kept_step : (w : Bool) (p : List ℕ → Bool) (b : ℕ) (bs : List ℕ) (o : Option Found) (part : Found) → is_white b ≡ w → option_map (onto_part b) o ≡ Some part → ((q : Found) → w ≡ false → o ≡ Some q → before_first is_white q.before ≡ before_first is_white bs) → before_first is_white part.before ≡ before_first is_white (b ∷ bs)
+prefix_kept_step w p b bs None part e h k = absurd (cc)
+prefix_kept_step true p b bs (Some q) part e h k =
     let same : onto_part b q ≡ part = cc in
-    sym (ap (λ (r : Found). before_first is_white r.before) same) ∙ front-white b q.before e ∙ sym (front-white b bs e)
-front_kept_step false p b bs (Some q) part e h k =
+    sym (ap (λ (r : Found). before_first is_white r.before) same) ∙ prefix-white b q.before e ∙ sym (prefix-white b bs e)
+prefix_kept_step false p b bs (Some q) part e h k =
     let same : onto_part b q ≡ part = cc in
-    sym (ap (λ (r : Found). before_first is_white r.before) same) ∙ front-byte b q.before e ∙ ap (λ t. b ∷ t) (k q refl refl) ∙ sym (front-byte b bs e)
+    sym (ap (λ (r : Found). before_first is_white r.before) same) ∙ prefix-byte b q.before e ∙ ap (λ t. b ∷ t) (k q refl refl) ∙ sym (prefix-byte b bs e)
 
 along : (p : List ℕ → Bool) (w : Bool) (bs : List ℕ) (q : Found) → w ≡ false → found_token p w bs ≡ Some q → found_token p false bs ≡ Some q
 along p true bs q e h = absurd (cc)
 along p false bs q e h = h
 
-pub front_kept : (p : List ℕ → Bool) (bs : List ℕ) (part : Found) → found_token p false bs ≡ Some part → before_first is_white part.before ≡ before_first is_white bs
-front_kept p [] part h = absurd (cc)
-front_kept p (b ∷ bs) part h = front_kept_step (is_white b) p b bs (found_token p (is_white b) bs) part refl h (λ q e k. front_kept p bs q (along p (is_white b) bs q e k))
+pub prefix_kept : (p : List ℕ → Bool) (bs : List ℕ) (part : Found) → found_token p false bs ≡ Some part → before_first is_white part.before ≡ before_first is_white bs
+prefix_kept p [] part h = absurd (cc)
+prefix_kept p (b ∷ bs) part h = prefix_kept_step (is_white b) p b bs (found_token p (is_white b) bs) part refl h (λ q e k. prefix_kept p bs q (along p (is_white b) bs q e k))
 
 first_further : (p : List ℕ → Bool) (w : Bool) (b : ℕ) (bs : List ℕ) (o : Option Found) (part : Found) → is_white b ≡ w → p (before_first is_white (b ∷ bs)) ≡ false → option_map (onto_part b) o ≡ Some part → found_token p w bs ≡ o → ((q : Found) → found_token p true bs ≡ Some q → p (first_token q.before) ≡ false) → p (first_token part.before) ≡ false
 first_further p w b bs None part e n h c k = absurd (cc)
@@ -122,7 +122,7 @@ first_further p true b bs (Some q) part e n h c k =
     sym (ap (λ (r : Found). p (first_token r.before)) same) ∙ ap p (white_first b q.before e) ∙ k q c
 first_further p false b bs (Some q) part e n h c k =
     let same : onto_part b q ≡ part = cc in
-    sym (ap (λ (r : Found). p (first_token r.before)) same) ∙ ap p (black_first b q.before e ∙ ap (λ t. b ∷ t) (front_kept p bs q c) ∙ sym (front-byte b bs e)) ∙ n
+    sym (ap (λ (r : Found). p (first_token r.before)) same) ∙ ap p (black_first b q.before e ∙ ap (λ t. b ∷ t) (prefix_kept p bs q c) ∙ sym (prefix-byte b bs e)) ∙ n
 
 first_step : (t : Bool) (p : List ℕ → Bool) (b : ℕ) (bs : List ℕ) (part : Found) → p [] ≡ false → p (before_first is_white (b ∷ bs)) ≡ t → found_token p true (b ∷ bs) ≡ Some part → ((q : Found) → found_token p true bs ≡ Some q → p (first_token q.before) ≡ false) → p (first_token part.before) ≡ false
 first_step true p b bs part z e h k =
@@ -145,7 +145,7 @@ first_none_step true w p b bs e f h k = let no : Some (part_at (b ∷ bs)) ≡ N
 first_none_step false true p b bs e f h k =
     let later : found_token p (is_white b) bs ≡ None = no_further b (found_token p (is_white b) bs) (sym (step p true b bs e) ∙ h) in
     ap p (white_first b bs f) ∙ k (ap (λ w. found_token p w bs) (sym f) ∙ later)
-first_none_step false false p b bs e f h k = ap p (black_first b bs f ∙ sym (front-byte b bs f)) ∙ e
+first_none_step false false p b bs e f h k = ap p (black_first b bs f ∙ sym (prefix-byte b bs f)) ∙ e
 
 pub first_none : (p : List ℕ → Bool) (text : List ℕ) → p [] ≡ false → found_token p true text ≡ None → p (first_token text) ≡ false
 first_none p [] z h = z
@@ -155,7 +155,7 @@ first_none p (b ∷ bs) z h = first_none_step (p (before_first is_white (b ∷ b
 pub cut_token : (p : List ℕ → Bool) (t ys : List ℕ) → is_token t ≡ true → p t ≡ true → BeginsWhite ys → found_token p true (t ++ ys) ≡ Some (record { before = []; word = t; after = ys })
 cut_token p [] ys h k w = absurd (cc)
 cut_token p (c ∷ cs) ys h k w =
-    let word : before_first is_white ((c ∷ cs) ++ ys) ≡ c ∷ cs = front_is (c ∷ cs) ys (bytes_of (c ∷ cs) h) w in
+    let word : before_first is_white ((c ∷ cs) ++ ys) ≡ c ∷ cs = prefix_is (c ∷ cs) ys (bytes_of (c ∷ cs) h) w in
     let after : drop (token_end ((c ∷ cs) ++ ys)) ((c ∷ cs) ++ ys) ≡ ys = behind_is (c ∷ cs) ys (bytes_of (c ∷ cs) h) w in
     here p c (cs ++ ys) (ap p word ∙ k)
     ∙ ap (λ u. Some (record { before = []; word = u; after = drop (token_end ((c ∷ cs) ++ ys)) ((c ∷ cs) ++ ys) })) word

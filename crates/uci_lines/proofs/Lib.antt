@@ -1,4 +1,4 @@
-pub mod Fronts
+pub mod Prefixes
 pub mod Cutting
 pub mod CutTokens
 pub mod Pieces

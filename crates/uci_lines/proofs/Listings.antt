@@ -5,8 +5,8 @@ use Rattle.chess_board.specs.declared.board.Move.{Move}
 use Rattle.peer_words.specs.Tokens.{is_token, trimmed}
 use Rattle.uci_lines.specs.Cuts.{Found, found_token, is_word, is_choice}
 use Rattle.uci_lines.specs.Choices.{values, before_choice, from_choice}
-use Rattle.chess_board.specs.Spelling.{move_of}
-use Rattle.uci_lines.specs.Spells.{IsFirst, Behind, PerhapsMove, UpToChoice, HasValues}
+use Rattle.chess_board.specs.Spelling.{move_spelled_by}
+use Rattle.uci_lines.specs.Spells.{FirstTokenPasses, Behind, PerhapsMove, UpToChoice, HasValues}
 use Rattle.uci_lines.proofs.Counts.{same_text, text_same}
 use Rattle.uci_lines.proofs.Cutting.{cut_token}
 use Rattle.uci_lines.proofs.FirstTokens.{first_cut, none_cut, cut_first, cut_none, white_as}
@@ -30,19 +30,19 @@ pub cut_behind : (word text : List ℕ) → is_word word [] ≡ false → Behind
 cut_behind word text z = behind_by word text (found_token (is_word word) true text) z refl
 
 -- moves
-pub perhaps_is : (text : List ℕ) (o : Option Move) → PerhapsMove text o → o ≡ move_of text
+pub perhaps_is : (text : List ℕ) (o : Option Move) → PerhapsMove text o → o ≡ move_spelled_by text
 perhaps_is text (Some m) h = sym (spells_move text m h)
 perhaps_is text None h = read_is text None tt h
 
-perhaps_by : (text : List ℕ) (o : Option Move) → move_of text ≡ o → PerhapsMove text o
+perhaps_by : (text : List ℕ) (o : Option Move) → move_spelled_by text ≡ o → PerhapsMove text o
 perhaps_by text (Some m) e = move_spells text m e
 perhaps_by text None e = λ m h. none_some m (sym e ∙ spells_move text m h)
   where
     none_some : (m : Move) → None ≡ Some m → ⊥
     none_some m k = absurd (cc)
 
-pub is_perhaps : (text : List ℕ) → PerhapsMove text (move_of text)
-is_perhaps text = perhaps_by text (move_of text) refl
+pub is_perhaps : (text : List ℕ) → PerhapsMove text (move_spelled_by text)
+is_perhaps text = perhaps_by text (move_spelled_by text) refl
 
 -- up to a choice
 pub up_to : (text value : List ℕ) → UpToChoice text value → value ≡ trimmed (before_choice (found_token is_choice true text) text)
@@ -92,7 +92,7 @@ values_are text _ (HasValues.Default {values = vs} part f w h) =
     ∙ ap (λ t. one_more (is_word (codes "var") t) (trimmed (before_choice (found_token is_choice true part.after) part.after)) (values part.after)) w
     ∙ values_are part.after vs h
 
-values_by_word : (b : Bool) (text : List ℕ) (part : Found) (vs : List (List ℕ)) → IsFirst is_choice text part → is_word (codes "var") part.word ≡ b → HasValues part.after vs → HasValues text (one_more b (trimmed (before_choice (found_token is_choice true part.after) part.after)) vs)
+values_by_word : (b : Bool) (text : List ℕ) (part : Found) (vs : List (List ℕ)) → FirstTokenPasses is_choice text part → is_word (codes "var") part.word ≡ b → HasValues part.after vs → HasValues text (one_more b (trimmed (before_choice (found_token is_choice true part.after) part.after)) vs)
 unfolding one_more
 values_by_word true text part vs f e h = HasValues.Var part f (same_text part.word (codes "var") e) (is_up part.after) h
 values_by_word false text part vs f e h = HasValues.Default part f (same_text part.word (codes "default") (either (is_word (codes "default") part.word) (is_word (codes "var") part.word) f.passes e)) h
@@ -103,7 +103,7 @@ values_by_word false text part vs f e h = HasValues.Default part f (same_text pa
     either false false j k = absurd (cc)
 
 -- the text after a cut is shorter
-shorter : (text : List ℕ) (part : Found) → IsFirst is_choice text part → length part.after < length text
+shorter : (text : List ℕ) (part : Found) → FirstTokenPasses is_choice text part → length part.after < length text
 shorter text part f =
     let token : 0 < length part.word = some_bytes part.word f.token in
     let e = ap length f.whole in

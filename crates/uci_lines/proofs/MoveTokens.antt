@@ -1,10 +1,10 @@
 -- The text of a move is a token.
 use Rattle.std.proofs.Common.{◌≡◌, ◌<◌, true, length, arith}
 use Rattle.chess_board.specs.declared.board.Move.{Move}
-use Rattle.chess_board.specs.Text.{text_of}
+use Rattle.chess_board.specs.Text.{text_of_move}
 use Rattle.chess_board.proofs.TextBytes.{text_high}
 use Rattle.peer_words.specs.Tokens.{is_token}
 use Rattle.peer_words.proofs.Runs.{high_token}
 
-pub move_token : (m : Move) → is_token (text_of m) ≡ true
-move_token m = let some : 0 < length (text_of m) = omega arith in high_token (text_of m) some (text_high m)
+pub move_token : (m : Move) → is_token (text_of_move m) ≡ true
+move_token m = let some : 0 < length (text_of_move m) = omega arith in high_token (text_of_move m) some (text_high m)

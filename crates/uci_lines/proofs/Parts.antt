@@ -8,7 +8,7 @@ use Rattle.std.proofs.lemmas.Bool.Decides.{nat_tests}
 use Rattle.std.specs.List.{list_all, slice_split, before_first, position_or_len}
 use Rattle.std.specs.Option.{option_map}
 use Rattle.uci_lines.specs.Behind.{after}
-use Rattle.uci_lines.specs.Written.{onto_first_of, value_here, value_cut, split_onto, fields_before, is_written_move, is_blank_byte, is_moves}
+use Rattle.uci_lines.specs.Written.{onto_first_of, value_here, option_value_cut, split_onto, fields_before, is_written_move, is_blank_byte, is_moves}
 
 abbrev pub moved : List ℕ → List ℕ × List ℕ → List ℕ × List ℕ
 moved bytes halves = (bytes ++ halves.0, halves.1)
@@ -23,23 +23,23 @@ onto_moved : (bytes : List ℕ) (b : ℕ) (o : Option (List ℕ × List ℕ)) �
 onto_moved bytes b None = refl
 onto_moved bytes b (Some halves) = rw append_assoc refl
 
-no_value_at : (bytes others more : List ℕ) (b : ℕ) (all : Option (List ℕ × List ℕ)) → others ≡ b ∷ more → after (codes " value ") others ≡ None → all ≡ all_moved bytes (value_cut others) → all ≡ all_moved (bytes ++ (b ∷ [])) (value_cut more)
+no_value_at : (bytes others more : List ℕ) (b : ℕ) (all : Option (List ℕ × List ℕ)) → others ≡ b ∷ more → after (codes " value ") others ≡ None → all ≡ all_moved bytes (option_value_cut others) → all ≡ all_moved (bytes ++ (b ∷ [])) (option_value_cut more)
 no_value_at bytes [] more b all e h k = absurd (cc)
 no_value_at bytes (c ∷ cs) more b all e h k =
     let same : c ≡ b = cc in
     let rest : cs ≡ more = cc in
-    k ∙ ap (λ o. all_moved bytes (value_here o (option_map (onto_first_of c) (value_cut cs)))) h ∙ onto_moved bytes c (value_cut cs) ∙ rw (same, rest) refl
+    k ∙ ap (λ o. all_moved bytes (value_here o (option_map (onto_first_of c) (option_value_cut cs)))) h ∙ onto_moved bytes c (option_value_cut cs) ∙ rw (same, rest) refl
 
-pub value_passed : (text : List ℕ) (i : ℕ) (all : Option (List ℕ × List ℕ)) → i < length text → after (codes " value ") (drop i text) ≡ None → all ≡ all_moved (take i text) (value_cut (drop i text)) → all ≡ all_moved (take (i + 1) text) (value_cut (drop (i + 1) text))
+pub value_passed : (text : List ℕ) (i : ℕ) (all : Option (List ℕ × List ℕ)) → i < length text → after (codes " value ") (drop i text) ≡ None → all ≡ all_moved (take i text) (option_value_cut (drop i text)) → all ≡ all_moved (take (i + 1) text) (option_value_cut (drop (i + 1) text))
 value_passed text i all l e h =
     no_value_at (take i text) (drop i text) (drop (i + 1) text) (get_or text i 0) all (from text i l) e h
-    ∙ ap (λ t. all_moved t (value_cut (drop (i + 1) text))) (sym (take_more text i 0 l))
+    ∙ ap (λ t. all_moved t (option_value_cut (drop (i + 1) text))) (sym (take_more text i 0 l))
 
-value_at : (bytes others more value : List ℕ) (b : ℕ) (all : Option (List ℕ × List ℕ)) → others ≡ b ∷ more → after (codes " value ") others ≡ Some value → all ≡ all_moved bytes (value_cut others) → all ≡ Some (bytes ++ [], value)
+value_at : (bytes others more value : List ℕ) (b : ℕ) (all : Option (List ℕ × List ℕ)) → others ≡ b ∷ more → after (codes " value ") others ≡ Some value → all ≡ all_moved bytes (option_value_cut others) → all ≡ Some (bytes ++ [], value)
 value_at bytes [] more value b all e h k = absurd (cc)
-value_at bytes (c ∷ cs) more value b all e h k = k ∙ ap (λ o. all_moved bytes (value_here o (option_map (onto_first_of c) (value_cut cs)))) h
+value_at bytes (c ∷ cs) more value b all e h k = k ∙ ap (λ o. all_moved bytes (value_here o (option_map (onto_first_of c) (option_value_cut cs)))) h
 
-pub value_found : (text value : List ℕ) (i : ℕ) (all : Option (List ℕ × List ℕ)) → i < length text → after (codes " value ") (drop i text) ≡ Some value → all ≡ all_moved (take i text) (value_cut (drop i text)) → all ≡ Some (take i text, value)
+pub value_found : (text value : List ℕ) (i : ℕ) (all : Option (List ℕ × List ℕ)) → i < length text → after (codes " value ") (drop i text) ≡ Some value → all ≡ all_moved (take i text) (option_value_cut (drop i text)) → all ≡ Some (take i text, value)
 value_found text value i all l e h =
     value_at (take i text) (drop i text) (drop (i + 1) text) value (get_or text i 0) all (from text i l) e h
     ∙ ap (λ t. Some (t, value)) (append-nil (take i text))

@@ -5,10 +5,10 @@ use Rattle.std.proofs.lemmas.Bool.Decides.{nat_tests}
 use Rattle.std.specs.List.{onto_first, list_all}
 use Rattle.std.specs.Option.{option_map}
 use Rattle.std.proofs.lemmas.Bool.{and_parts, or_parts}
-use Rattle.peer_words.specs.Tokens.{is_white, is_token, trimmed, first_token, rest}
+use Rattle.peer_words.specs.Tokens.{is_white, is_token, trimmed, first_token, rest_after_token}
 use Rattle.uci_lines.specs.Cuts.{Found, onto_part, found_token, is_word, is_choice}
 use Rattle.uci_lines.specs.Choices.{pieces, values_among, values, before_choice, from_choice}
-use Rattle.uci_lines.proofs.Fronts.{BeginsWhite, front, behind, front-white, behind-white, front-byte, behind-byte, first_is, rest_is}
+use Rattle.uci_lines.proofs.Prefixes.{BeginsWhite, prefix, behind, prefix-white, behind-white, prefix-byte, behind-byte, first_is, rest_is}
 use Rattle.uci_lines.proofs.Cutting.{Cuts, cut_is, part_at, step, first_before, first_none, cut_token}
 
 pub join_first : List ℕ → List (List ℕ) → List (List ℕ)
@@ -29,24 +29,24 @@ join_onto c w [] = refl
 join_onto c w (s ∷ ss) = refl
 
 -- if no choice begins, the first byte goes before the pieces of the others
-pass : (fresh : Bool) (b : ℕ) (bs : List ℕ) → (fresh && is_choice (front (b ∷ bs))) ≡ false → pieces fresh (b ∷ bs) ≡ onto_first b (pieces (is_white b) bs)
+pass : (fresh : Bool) (b : ℕ) (bs : List ℕ) → (fresh && is_choice (prefix (b ∷ bs))) ≡ false → pieces fresh (b ∷ bs) ≡ onto_first b (pieces (is_white b) bs)
 pass fresh b bs e = rw e refl
 
 joined_again : (v w x y : List ℕ) → v ≡ w → x ≡ y → join_first v (pieces true x) ≡ join_first w (pieces true y)
 joined_again v w x y e f = ap (λ t. join_first t (pieces true x)) e ∙ ap (λ t. join_first w (pieces true t)) f
 
-inside_step : (w : Bool) (b : ℕ) (bs : List ℕ) → is_white b ≡ w → pieces false bs ≡ join_first (front bs) (pieces true (behind bs)) → pieces false (b ∷ bs) ≡ join_first (front (b ∷ bs)) (pieces true (behind (b ∷ bs)))
+inside_step : (w : Bool) (b : ℕ) (bs : List ℕ) → is_white b ≡ w → pieces false bs ≡ join_first (prefix bs) (pieces true (behind bs)) → pieces false (b ∷ bs) ≡ join_first (prefix (b ∷ bs)) (pieces true (behind (b ∷ bs)))
 inside_step true b bs e h =
-    let none : (true && is_choice (front (b ∷ bs))) ≡ false = ap is_choice (front-white b bs e) in
+    let none : (true && is_choice (prefix (b ∷ bs))) ≡ false = ap is_choice (prefix-white b bs e) in
     sym (join_none b (pieces (is_white b) bs))
     ∙ ap (join_first []) (sym (pass true b bs none))
-    ∙ joined_again [] (front (b ∷ bs)) (b ∷ bs) (behind (b ∷ bs)) (sym (front-white b bs e)) (sym (behind-white b bs e))
+    ∙ joined_again [] (prefix (b ∷ bs)) (b ∷ bs) (behind (b ∷ bs)) (sym (prefix-white b bs e)) (sym (behind-white b bs e))
 inside_step false b bs e h =
-    ap (λ f. onto_first b (pieces f bs)) e ∙ ap (onto_first b) h ∙ join_onto b (front bs) (pieces true (behind bs))
-    ∙ joined_again (b ∷ front bs) (front (b ∷ bs)) (behind bs) (behind (b ∷ bs)) (sym (front-byte b bs e)) (sym (behind-byte b bs e))
+    ap (λ f. onto_first b (pieces f bs)) e ∙ ap (onto_first b) h ∙ join_onto b (prefix bs) (pieces true (behind bs))
+    ∙ joined_again (b ∷ prefix bs) (prefix (b ∷ bs)) (behind bs) (behind (b ∷ bs)) (sym (prefix-byte b bs e)) (sym (behind-byte b bs e))
 
 -- after a byte of a token
-pub inside : (bs : List ℕ) → pieces false bs ≡ join_first (front bs) (pieces true (behind bs))
+pub inside : (bs : List ℕ) → pieces false bs ≡ join_first (prefix bs) (pieces true (behind bs))
 unfolding join_first
 inside [] = refl
 inside (b ∷ bs) = inside_step (is_white b) b bs refl (inside bs)
@@ -55,7 +55,7 @@ no_more : (b : ℕ) (o : Option Found) → option_map (onto_part b) o ≡ None �
 no_more b None k = refl
 no_more b (Some part) k = absurd (cc)
 
-none_step : (t : Bool) (fresh : Bool) (b : ℕ) (bs : List ℕ) → (fresh && is_choice (front (b ∷ bs))) ≡ t → found_token is_choice fresh (b ∷ bs) ≡ None → (found_token is_choice (is_white b) bs ≡ None → pieces (is_white b) bs ≡ bs ∷ []) → pieces fresh (b ∷ bs) ≡ (b ∷ bs) ∷ []
+none_step : (t : Bool) (fresh : Bool) (b : ℕ) (bs : List ℕ) → (fresh && is_choice (prefix (b ∷ bs))) ≡ t → found_token is_choice fresh (b ∷ bs) ≡ None → (found_token is_choice (is_white b) bs ≡ None → pieces (is_white b) bs ≡ bs ∷ []) → pieces fresh (b ∷ bs) ≡ (b ∷ bs) ∷ []
 none_step true fresh b bs e h k = let no : Some (part_at (b ∷ bs)) ≡ None = sym (rw e refl) ∙ h in absurd (cc)
 none_step false fresh b bs e h k =
     let later : option_map (onto_part b) (found_token is_choice (is_white b) bs) ≡ None = sym (step is_choice fresh b bs e) ∙ h in
@@ -63,22 +63,22 @@ none_step false fresh b bs e h k =
 
 pub pieces_none : (fresh : Bool) (text : List ℕ) → found_token is_choice fresh text ≡ None → pieces fresh text ≡ text ∷ []
 pieces_none fresh [] h = refl
-pieces_none fresh (b ∷ bs) h = none_step (fresh && is_choice (front (b ∷ bs))) fresh b bs refl h (pieces_none (is_white b) bs)
+pieces_none fresh (b ∷ bs) h = none_step (fresh && is_choice (prefix (b ∷ bs))) fresh b bs refl h (pieces_none (is_white b) bs)
 
 -- a byte with which a choice begins
-starts_black : (w : Bool) (fresh : Bool) (b : ℕ) (bs : List ℕ) → is_white b ≡ w → (fresh && is_choice (front (b ∷ bs))) ≡ true → is_white b ≡ false
+starts_black : (w : Bool) (fresh : Bool) (b : ℕ) (bs : List ℕ) → is_white b ≡ w → (fresh && is_choice (prefix (b ∷ bs))) ≡ true → is_white b ≡ false
 starts_black true fresh b bs e h =
-    let no : is_choice (front (b ∷ bs)) ≡ false = ap is_choice (front-white b bs e) in
-    absurd (cc (and_parts fresh (is_choice (front (b ∷ bs))) h).1)
+    let no : is_choice (prefix (b ∷ bs)) ≡ false = ap is_choice (prefix-white b bs e) in
+    absurd (cc (and_parts fresh (is_choice (prefix (b ∷ bs))) h).1)
 starts_black false fresh b bs e h = e
 
-here_pieces : (fresh : Bool) (b : ℕ) (bs : List ℕ) → (fresh && is_choice (front (b ∷ bs))) ≡ true → pieces fresh (b ∷ bs) ≡ [] ∷ join_first (front (b ∷ bs)) (pieces true (behind (b ∷ bs)))
+here_pieces : (fresh : Bool) (b : ℕ) (bs : List ℕ) → (fresh && is_choice (prefix (b ∷ bs))) ≡ true → pieces fresh (b ∷ bs) ≡ [] ∷ join_first (prefix (b ∷ bs)) (pieces true (behind (b ∷ bs)))
 here_pieces fresh b bs e =
     let black : is_white b ≡ false = starts_black (is_white b) fresh b bs refl e in
     let begin : pieces fresh (b ∷ bs) ≡ [] ∷ onto_first b (pieces (is_white b) bs) = rw e refl in
     begin ∙ ap (λ ps. [] ∷ ps)
-    (ap (λ f. onto_first b (pieces f bs)) black ∙ ap (onto_first b) (inside bs) ∙ join_onto b (front bs) (pieces true (behind bs))
-    ∙ joined_again (b ∷ front bs) (front (b ∷ bs)) (behind bs) (behind (b ∷ bs)) (sym (front-byte b bs black)) (sym (behind-byte b bs black)))
+    (ap (λ f. onto_first b (pieces f bs)) black ∙ ap (onto_first b) (inside bs) ∙ join_onto b (prefix bs) (pieces true (behind bs))
+    ∙ joined_again (b ∷ prefix bs) (prefix (b ∷ bs)) (behind bs) (behind (b ∷ bs)) (sym (prefix-byte b bs black)) (sym (behind-byte b bs black)))
 
 -- the pieces that a cut gives
 abbrev given : Found → List (List ℕ)
@@ -90,7 +90,7 @@ further_pieces b bs fresh (Some q) part h k =
     let same : onto_part b q ≡ part = cc in
     ap (onto_first b) (k q refl) ∙ ap given same
 
-some_step : (t : Bool) (fresh : Bool) (b : ℕ) (bs : List ℕ) (part : Found) → (fresh && is_choice (front (b ∷ bs))) ≡ t → found_token is_choice fresh (b ∷ bs) ≡ Some part → ((q : Found) → found_token is_choice (is_white b) bs ≡ Some q → pieces (is_white b) bs ≡ given q) → pieces fresh (b ∷ bs) ≡ given part
+some_step : (t : Bool) (fresh : Bool) (b : ℕ) (bs : List ℕ) (part : Found) → (fresh && is_choice (prefix (b ∷ bs))) ≡ t → found_token is_choice fresh (b ∷ bs) ≡ Some part → ((q : Found) → found_token is_choice (is_white b) bs ≡ Some q → pieces (is_white b) bs ≡ given q) → pieces fresh (b ∷ bs) ≡ given part
 some_step true fresh b bs part e h k =
     let some : Some (part_at (b ∷ bs)) ≡ Some part = sym (rw e refl) ∙ h in
     let same : part_at (b ∷ bs) ≡ part = cc in
@@ -100,7 +100,7 @@ some_step false fresh b bs part e h k =
 
 pub pieces_some : (fresh : Bool) (text : List ℕ) (part : Found) → found_token is_choice fresh text ≡ Some part → pieces fresh text ≡ given part
 pieces_some fresh [] part h = absurd (cc)
-pieces_some fresh (b ∷ bs) part h = some_step (fresh && is_choice (front (b ∷ bs))) fresh b bs part refl h (λ q k. pieces_some (is_white b) bs q k)
+pieces_some fresh (b ∷ bs) part h = some_step (fresh && is_choice (prefix (b ∷ bs))) fresh b bs part refl h (λ q k. pieces_some (is_white b) bs q k)
 
 -- no `var` begins a piece that does not begin with a choice
 no_value : (piece : List ℕ) (others : List (List ℕ)) → is_choice (first_token piece) ≡ false → values_among (piece ∷ others) ≡ values_among others
@@ -123,7 +123,7 @@ word_is_token p text part z c = token_if p part.word z c.passes c.black
 
 piece_values : (word text : List ℕ) (others : List (List ℕ)) → is_token word ≡ true → BeginsWhite text → values_among ((word ++ text) ∷ others) ≡ with_value (is_word (codes "var") word) (trimmed text) (values_among others)
 piece_values word text others h w =
-    ap (λ t. with_value (is_word (codes "var") t) (rest (word ++ text)) (values_among others)) (first_is word text h w)
+    ap (λ t. with_value (is_word (codes "var") t) (rest_after_token (word ++ text)) (values_among others)) (first_is word text h w)
     ∙ ap (λ t. with_value (is_word (codes "var") word) t (values_among others)) (rest_is word text h w)
 
 white_part : (a b : List ℕ) (text : List ℕ) → text ≡ a ++ b → BeginsWhite text → BeginsWhite a

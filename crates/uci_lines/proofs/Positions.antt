@@ -3,9 +3,9 @@ use Rattle.std.proofs.Common.{◌≡◌, ℕ, zero, suc, ◌-◌, ◌<◌, ◌�
 use Rattle.std.proofs.lemmas.List.{append-nil}
 use Rattle.std.specs.List.{join_with_byte, AllByRecursion}
 use Rattle.std.proofs.lemmas.Bool.Decides.{nat_tests}
-use Rattle.uci_lines.specs.Orders.{Order, Position, start_text, moves_text}
+use Rattle.uci_lines.specs.Orders.{Order, Position, order_start_text, order_moves_text}
 use Rattle.uci_lines.specs.Behind.{after}
-use Rattle.chess_board.specs.Spelling.{move_of}
+use Rattle.chess_board.specs.Spelling.{move_spelled_by}
 use Rattle.std.specs.Str.{bytes_eq}
 use Rattle.std.proofs.lemmas.Bool.{and_parts}
 use Rattle.chess_board.specs.Position.{Position as AnyPosition}
@@ -18,7 +18,7 @@ use Rattle.fen_text.proofs.Boards.{word-board}
 use Rattle.fen_text.proofs.Others.{word-side, word-rights, word-passant, word-count}
 use Rattle.fen_text.proofs.Back.{reads_back}
 use Rattle.uci_lines.specs.Written.{is_moves, fen_by, is_fen, fields_before, split_onto}
-use Rattle.uci_lines.specs.OrderReading.{is_start, is_played, moves_by, moves_in, position_order_from, set_up, fen_in, start_in, position_in}
+use Rattle.uci_lines.specs.OrderReading.{is_writable_start, is_played, moves_by, moves_in, position_order_from, setup_order, fen_in, start_order_in, position_in}
 use Rattle.uci_lines.proofs.Stripped.{word_after}
 use Rattle.uci_lines.proofs.Counts.{same_text, text_same}
 
@@ -41,14 +41,14 @@ moves_if false moves found h = absurd (cc)
 
 pub record Moves (text moves : List ℕ) : Type 0 where
   pub fits : is_played moves ≡ true
-  pub whole : text ≡ moves_text moves
+  pub whole : text ≡ order_moves_text moves
 
 is_moves_text : (moves : List ℕ) → is_moves moves ≡ true → is_played moves ≡ true
 is_moves_text [] h = refl
 is_moves_text (b ∷ bs) h = h
 
-some_moves : (moves : List ℕ) → is_moves moves ≡ true → codes " moves " ++ moves ≡ moves_text moves
-unfolding move_of
+some_moves : (moves : List ℕ) → is_moves moves ≡ true → codes " moves " ++ moves ≡ order_moves_text moves
+unfolding move_spelled_by
 some_moves [] h = absurd (cc)
 some_moves (b ∷ bs) h = refl
 
@@ -68,14 +68,14 @@ moves_takes (b ∷ bs) moves h = by_takes (b ∷ bs) (after (codes " moves ") (b
 
 -- after `position `, as the text of an order
 abbrev pub PositionIs : List ℕ → Order → Type 0
-PositionIs text c = (fen : Option (List ℕ)) × (moves : List ℕ) × (c ≡ Position fen moves) × (is_start fen ≡ true) × (is_played moves ≡ true) × (text ≡ start_text fen ++ moves_text moves)
+PositionIs text c = (fen : Option (List ℕ)) × (moves : List ℕ) × (c ≡ Position fen moves) × (is_writable_start fen ≡ true) × (is_played moves ≡ true) × (text ≡ order_start_text fen ++ order_moves_text moves)
 
-placed_takes : (fen : Option (List ℕ)) (text others : List ℕ) (o : Option (List ℕ)) (c : Order) → is_start fen ≡ true → text ≡ start_text fen ++ others → moves_in others ≡ o → position_order_from fen o ≡ Some c → PositionIs text c
+placed_takes : (fen : Option (List ℕ)) (text others : List ℕ) (o : Option (List ℕ)) (c : Order) → is_writable_start fen ≡ true → text ≡ order_start_text fen ++ others → moves_in others ≡ o → position_order_from fen o ≡ Some c → PositionIs text c
 placed_takes fen text others None c s e f h = absurd (cc)
 placed_takes fen text others (Some moves) c s e f h =
     let m = moves_takes others moves f in
     let same : Position fen moves ≡ c = cc in
-    (fen, moves, sym same, s, m.fits, e ∙ ap (λ t. start_text fen ++ t) m.whole)
+    (fen, moves, sym same, s, m.fits, e ∙ ap (λ t. order_start_text fen ++ t) m.whole)
 
 set_up_takes : (text : List ℕ) (t : Bool) (halves : List ℕ × List ℕ) (c : Order) → is_fen halves.0 ≡ t → text ≡ codes "fen " ++ (halves.0 ++ halves.1) → cond t (position_order_from (Some halves.0) (moves_in halves.1)) None ≡ Some c → PositionIs text c
 set_up_takes text true halves c e f h = placed_takes (Some halves.0) text halves.1 (moves_in halves.1) c e (f ∙ sym (append_assoc (codes "fen ") halves.0 halves.1)) refl h
@@ -87,7 +87,7 @@ fen_takes text (Some others) c e h =
     let halves = fields_before 5 others in
     set_up_takes text (is_fen halves.0) halves c refl (word_after (codes "fen ") text others e ∙ ap (λ t. codes "fen " ++ t) (sym (halves_are 5 others))) h
 
-start_takes : (text : List ℕ) (o : Option (List ℕ)) (c : Order) → after (codes "startpos") text ≡ o → start_in o text ≡ Some c → PositionIs text c
+start_takes : (text : List ℕ) (o : Option (List ℕ)) (c : Order) → after (codes "startpos") text ≡ o → start_order_in o text ≡ Some c → PositionIs text c
 start_takes text None c e h = fen_takes text (after (codes "fen ") text) c refl h
 start_takes text (Some others) c e h = placed_takes None text others (moves_in others) c refl (word_after (codes "startpos") text others e) refl h
 
@@ -95,7 +95,7 @@ pub position_takes : (text : List ℕ) (c : Order) → position_in text ≡ Some
 position_takes text c h = start_takes text (after (codes "startpos") text) c refl h
 
 -- The other way round: what is written is read.
-moves_again : (moves : List ℕ) → is_played moves ≡ true → moves_in (moves_text moves) ≡ Some moves
+moves_again : (moves : List ℕ) → is_played moves ≡ true → moves_in (order_moves_text moves) ≡ Some moves
 moves_again [] h = refl
 moves_again (b ∷ bs) h = rw h refl
 
@@ -144,7 +144,7 @@ written_halves : (p : AnyPosition) (more : List ℕ) → p.half ≤ 99999 → p.
 unfolding position_fen
 written_halves p more h f w =
     words_before (fields_text p) 5 more refl
-    (word-board p.men, (word-side p.side, (word-rights p.rights, (word-passant p.passant, (word-count p.half (omega arith), (word-count p.full (omega arith), tt))))))
+    (word-board p.pieces, (word-side p.side, (word-rights p.rights, (word-passant p.passant, (word-count p.half (omega arith), (word-count p.full (omega arith), tt))))))
     w
 
 fen_halves_by : (text more : List ℕ) (r : Result AnyPosition FenFault) → fen_by r text ≡ true → BeginsBlank more → fields_before 5 (text ++ more) ≡ (text, more)
@@ -162,16 +162,16 @@ fen_halves_by text more (Ok p) h w =
 fen_halves : (text more : List ℕ) → is_fen text ≡ true → BeginsBlank more → fields_before 5 (text ++ more) ≡ (text, more)
 fen_halves text more h w = fen_halves_by text more (position_of text) h w
 
-moves_blank : (moves : List ℕ) → BeginsBlank (moves_text moves)
+moves_blank : (moves : List ℕ) → BeginsBlank (order_moves_text moves)
 moves_blank [] = tt
 moves_blank (b ∷ bs) = refl
 
-pub position_again : (fen : Option (List ℕ)) (moves : List ℕ) → is_start fen ≡ true → is_played moves ≡ true → position_in (start_text fen ++ moves_text moves) ≡ Some (Position fen moves)
+pub position_again : (fen : Option (List ℕ)) (moves : List ℕ) → is_writable_start fen ≡ true → is_played moves ≡ true → position_in (order_start_text fen ++ order_moves_text moves) ≡ Some (Position fen moves)
 position_again None moves s h = ap (position_order_from None) (moves_again moves h)
 position_again (Some fen) moves s h =
-    ap (λ t. fen_in (after (codes "fen ") t)) (append_assoc (codes "fen ") fen (moves_text moves))
-    ∙ ap set_up (fen_halves fen (moves_text moves) s (moves_blank moves))
-    ∙ ap (λ t. cond t (position_order_from (Some fen) (moves_in (moves_text moves))) None) s
+    ap (λ t. fen_in (after (codes "fen ") t)) (append_assoc (codes "fen ") fen (order_moves_text moves))
+    ∙ ap setup_order (fen_halves fen (order_moves_text moves) s (moves_blank moves))
+    ∙ ap (λ t. cond t (position_order_from (Some fen) (moves_in (order_moves_text moves))) None) s
     ∙ ap (position_order_from (Some fen)) (moves_again moves h)
 
 -- The text of every position may stand in an order.

@@ -2,24 +2,24 @@
 use Rattle.std.proofs.Common.{◌≡◌, ℕ, ℤ, int_lt, ◌↔◌, List, Bool, true, false, ◌||◌, Option, Some, None, codes, cond, refl, sym, ap, ◌∙◌, subst}
 use Rattle.std.specs.Int.{int_min, int_max}
 use Rattle.chess_board.specs.declared.board.Move.{Move}
-use Rattle.peer_words.specs.Tokens.{tokens, trimmed, first_token, rest}
+use Rattle.peer_words.specs.Tokens.{tokens, trimmed, first_token, rest_after_token}
 use Rattle.uci_lines.specs.Cuts.{Found, found_token, is_word, is_known, is_choice}
 use Rattle.uci_lines.specs.Choices.{values, before_choice, choice_text}
-use Rattle.chess_board.specs.Spelling.{move_of}
-use Rattle.uci_lines.specs.Options.{is_on, range_from, no_range, spin, spin_in, shown_text, text_after, shape_named, option_line, option_with, option_said}
+use Rattle.chess_board.specs.Spelling.{move_spelled_by}
+use Rattle.uci_lines.specs.Options.{is_on, range_from, no_range, spin, spin_in, option_text_shown, text_after, shape_named, uci_option_line, option_with, option_said}
 use Rattle.uci_lines.specs.Infos.{no_facts, facts_in}
-use Rattle.uci_lines.specs.Engine.{name_said, hint_in, best_said, said_after, said_by, engine_message}
+use Rattle.uci_lines.specs.Engine.{name_said, hint_in_bestmove, best_said, said_after, found_message, engine_message}
 use Rattle.uci_lines.specs.Messages.{OptionKind, Check, Spin, Combo, Button, Text, EngineMsg, Name, UciOk, ReadyOk, Best, OptionLine, Info, Nothing}
-use Rattle.uci_lines.specs.Spells.{IsFirst, PerhapsMove, UpToChoice, HasShape, Declares, Begins, HasForm, SpellsMessage, SpellsOneMessage}
+use Rattle.uci_lines.specs.Spells.{FirstTokenPasses, PerhapsMove, UpToChoice, HasShape, Declares, FirstKnownWordIs, HasForm, SpellsMessage, SpellsOneEngineMessage}
 use Rattle.uci_lines.proofs.Counts.{same_text}
 use Rattle.uci_lines.proofs.FirstTokens.{first_cut, cut_first}
 use Rattle.uci_lines.proofs.Listings.{after_cut, behind_cut, cut_behind, perhaps_is, is_perhaps, up_to, is_up, values_are, has_values}
 use Rattle.uci_lines.proofs.Ranges.{default_is, min_is, max_is, last_is, is_last}
-use Rattle.uci_lines.proofs.Tellings.{tells_is, tells}
+use Rattle.uci_lines.proofs.Tellings.{reports_is, reports}
 
 -- what is read after a word, by what follows it
-hint_by : (o : Option Found) → hint_in o ≡ move_of (first_token (after_cut o))
-unfolding move_of
+hint_by : (o : Option Found) → hint_in_bestmove o ≡ move_spelled_by (first_token (after_cut o))
+unfolding move_spelled_by
 hint_by None = refl
 hint_by (Some part) = refl
 
@@ -27,7 +27,7 @@ on_by : (o : Option Found) → is_on o ≡ is_word (codes "true") (first_token (
 on_by None = refl
 on_by (Some part) = refl
 
-text_by : (o : Option Found) → text_after o ≡ shown_text (trimmed (after_cut o))
+text_by : (o : Option Found) → text_after o ≡ option_text_shown (trimmed (after_cut o))
 text_by None = refl
 text_by (Some part) = refl
 
@@ -72,27 +72,27 @@ shape_is word text (Combo default vs) h =
 shape_is word text Button h = ap (λ w. shape_named w text) h
 shape_is word text (Text default) h =
     ap (λ w. shape_named w text) h.0
-    ∙ ap (λ t. Some (Text t)) (text_by (default_cut text) ∙ ap (λ t. shown_text (trimmed t)) (sym (behind_cut (codes "default") text h.1 refl h.2)) ∙ sym h.3)
+    ∙ ap (λ t. Some (Text t)) (text_by (default_cut text) ∙ ap (λ t. option_text_shown (trimmed t)) (sym (behind_cut (codes "default") text h.1 refl h.2)) ∙ sym h.3)
 
-begun : (line word text : List ℕ) → Begins line word text → engine_message line ≡ said_after word text
+begun : (line word text : List ℕ) → FirstKnownWordIs line word text → engine_message line ≡ said_after word text
 unfolding engine_message
 begun line word text b =
-    ap said_by (first_cut is_known line b.0 refl b.1) ∙ ap (λ w. said_after w (b.0).after) b.2 ∙ ap (said_after word) b.3
+    ap found_message (first_cut is_known line b.0 refl b.1) ∙ ap (λ w. said_after w (b.0).after) b.2 ∙ ap (said_after word) b.3
 
-name_is : (text : List ℕ) (t : List ℕ) → first_token text ≡ codes "name" → t ≡ rest text → name_said text ≡ Name t
-name_is text t e f = ap (λ w. cond (is_word (codes "name") w) (Name (rest text)) Nothing) e ∙ ap (λ r. Name r) (sym f)
+name_is : (text : List ℕ) (t : List ℕ) → first_token text ≡ codes "name" → t ≡ rest_after_token text → name_said text ≡ Name t
+name_is text t e f = ap (λ w. cond (is_word (codes "name") w) (Name (rest_after_token text)) Nothing) e ∙ ap (λ r. Name r) (sym f)
 
-best_is : (text others : List ℕ) (best hint : Option Move) → PerhapsMove (first_token text) best → others ≡ after_cut (found_token (is_word (codes "ponder")) true (rest text)) → PerhapsMove (first_token others) hint → best_said text ≡ Best best hint
+best_is : (text others : List ℕ) (best hint : Option Move) → PerhapsMove (first_token text) best → others ≡ after_cut (found_token (is_word (codes "ponder")) true (rest_after_token text)) → PerhapsMove (first_token others) hint → best_said text ≡ Best best hint
 best_is text others best hint b e h =
-    ap (λ m. Best m (hint_in (found_token (is_word (codes "ponder")) true (rest text)))) (sym (perhaps_is (first_token text) best b))
-    ∙ ap (λ m. Best best m) (hint_by (found_token (is_word (codes "ponder")) true (rest text)) ∙ ap (λ t. move_of (first_token t)) (sym e) ∙ sym (perhaps_is (first_token others) hint h))
+    ap (λ m. Best m (hint_in_bestmove (found_token (is_word (codes "ponder")) true (rest_after_token text)))) (sym (perhaps_is (first_token text) best b))
+    ∙ ap (λ m. Best best m) (hint_by (found_token (is_word (codes "ponder")) true (rest_after_token text)) ∙ ap (λ t. move_spelled_by (first_token t)) (sym e) ∙ sym (perhaps_is (first_token others) hint h))
 
 option_is : (text name : List ℕ) (shape : OptionKind) → Declares text name shape → option_said text ≡ OptionLine name shape
 unfolding option_said
 option_is text name shape h =
-    ap (λ w. cond (is_word (codes "name") w) (option_with (found_token (is_word (codes "type")) true (rest text))) Nothing) h.0
-    ∙ ap option_with (first_cut (is_word (codes "type")) (rest text) h.1 refl h.2)
-    ∙ ap (option_line (trimmed (h.1).before)) (shape_is (first_token (h.1).after) (rest (h.1).after) shape h.4)
+    ap (λ w. cond (is_word (codes "name") w) (option_with (found_token (is_word (codes "type")) true (rest_after_token text))) Nothing) h.0
+    ∙ ap option_with (first_cut (is_word (codes "type")) (rest_after_token text) h.1 refl h.2)
+    ∙ ap (uci_option_line (trimmed (h.1).before)) (shape_is (first_token (h.1).after) (rest_after_token (h.1).after) shape h.4)
     ∙ ap (λ n. OptionLine n shape) (sym h.3)
 
 form_is : (line : List ℕ) (m : EngineMsg) → HasForm line m → engine_message line ≡ m
@@ -101,9 +101,9 @@ form_is line (Name name) h = begun line (codes "id") h.0 h.1 ∙ name_is h.0 nam
 form_is line UciOk h = begun line (codes "uciok") h.0 h.1
 form_is line ReadyOk h = begun line (codes "readyok") h.0 h.1
 form_is line (Best best hint) h =
-    begun line (codes "bestmove") h.0 h.1 ∙ best_is h.0 h.3 best hint h.2 (behind_cut (codes "ponder") (rest h.0) h.3 refl h.4) h.5
+    begun line (codes "bestmove") h.0 h.1 ∙ best_is h.0 h.3 best hint h.2 (behind_cut (codes "ponder") (rest_after_token h.0) h.3 refl h.4) h.5
 form_is line (OptionLine name shape) h = begun line (codes "option") h.0 h.1 ∙ option_is h.0 name shape h.2
-form_is line (Info facts) h = begun line (codes "info") h.0 h.1 ∙ ap (λ f. Info f) (tells_is no_facts (tokens h.0) facts h.2)
+form_is line (Info facts) h = begun line (codes "info") h.0 h.1 ∙ ap (λ f. Info f) (reports_is no_facts (tokens h.0) facts h.2)
 form_is line Nothing h = absurd h
 
 -- FROM WHAT IS READ TO THE RELATION
@@ -161,46 +161,46 @@ Holds line (Best best hint) = HasForm line (Best best hint)
 Holds line (OptionLine name shape) = HasForm line (OptionLine name shape)
 Holds line (Info facts) = HasForm line (Info facts)
 
-name_holds : (b : Bool) (line text : List ℕ) → is_word (codes "name") (first_token text) ≡ b → Begins line (codes "id") text → Holds line (cond b (Name (rest text)) Nothing)
+name_holds : (b : Bool) (line text : List ℕ) → is_word (codes "name") (first_token text) ≡ b → FirstKnownWordIs line (codes "id") text → Holds line (cond b (Name (rest_after_token text)) Nothing)
 unfolding Holds
 name_holds true line text e b = (text, b, same_text (first_token text) (codes "name") e, refl)
 name_holds false line text e b = tt
 
-best_holds : (line text : List ℕ) → Begins line (codes "bestmove") text → Holds line (best_said text)
+best_holds : (line text : List ℕ) → FirstKnownWordIs line (codes "bestmove") text → Holds line (best_said text)
 unfolding Holds
 best_holds line text b =
-    let o = found_token (is_word (codes "ponder")) true (rest text) in (
+    let o = found_token (is_word (codes "ponder")) true (rest_after_token text) in (
       text,
       b,
       is_perhaps (first_token text),
       after_cut o,
-      cut_behind (codes "ponder") (rest text) refl,
+      cut_behind (codes "ponder") (rest_after_token text) refl,
       subst (λ (m : Option Move). PerhapsMove (first_token (after_cut o)) m) (sym (hint_by o)) (is_perhaps (first_token (after_cut o))),
     )
 
-shape_holds : (line text : List ℕ) (part : Found) (o : Option OptionKind) → Begins line (codes "option") text → first_token text ≡ codes "name" → IsFirst (is_word (codes "type")) (rest text) part → Fits (first_token part.after) (rest part.after) o → Holds line (option_line (trimmed part.before) o)
+shape_holds : (line text : List ℕ) (part : Found) (o : Option OptionKind) → FirstKnownWordIs line (codes "option") text → first_token text ≡ codes "name" → FirstTokenPasses (is_word (codes "type")) (rest_after_token text) part → Fits (first_token part.after) (rest_after_token part.after) o → Holds line (uci_option_line (trimmed part.before) o)
 unfolding Holds Fits
 shape_holds line text part None b n f s = tt
 shape_holds line text part (Some shape) b n f s = (text, b, (n, part, f, refl, s))
 
-part_holds : (line text : List ℕ) (o : Option Found) → Begins line (codes "option") text → first_token text ≡ codes "name" → found_token (is_word (codes "type")) true (rest text) ≡ o → Holds line (option_with o)
+part_holds : (line text : List ℕ) (o : Option Found) → FirstKnownWordIs line (codes "option") text → first_token text ≡ codes "name" → found_token (is_word (codes "type")) true (rest_after_token text) ≡ o → Holds line (option_with o)
 unfolding Holds
 part_holds line text None b n e = tt
 part_holds line text (Some part) b n e =
-    shape_holds line text part (shape_named (first_token part.after) (rest part.after)) b n (cut_first (is_word (codes "type")) (rest text) part refl e) (shape_fits (first_token part.after) (rest part.after))
+    shape_holds line text part (shape_named (first_token part.after) (rest_after_token part.after)) b n (cut_first (is_word (codes "type")) (rest_after_token text) part refl e) (shape_fits (first_token part.after) (rest_after_token part.after))
 
-option_by : (t : Bool) (line text : List ℕ) → is_word (codes "name") (first_token text) ≡ t → Begins line (codes "option") text → Holds line (cond t (option_with (found_token (is_word (codes "type")) true (rest text))) Nothing)
+option_by : (t : Bool) (line text : List ℕ) → is_word (codes "name") (first_token text) ≡ t → FirstKnownWordIs line (codes "option") text → Holds line (cond t (option_with (found_token (is_word (codes "type")) true (rest_after_token text))) Nothing)
 unfolding Holds
-option_by true line text e b = part_holds line text (found_token (is_word (codes "type")) true (rest text)) b (same_text (first_token text) (codes "name") e) refl
+option_by true line text e b = part_holds line text (found_token (is_word (codes "type")) true (rest_after_token text)) b (same_text (first_token text) (codes "name") e) refl
 option_by false line text e b = tt
 
-option_holds : (line text : List ℕ) → Begins line (codes "option") text → Holds line (option_said text)
+option_holds : (line text : List ℕ) → FirstKnownWordIs line (codes "option") text → Holds line (option_said text)
 unfolding option_said
 option_holds line text b = option_by (is_word (codes "name") (first_token text)) line text refl b
 
-info_holds : (line text : List ℕ) → Begins line (codes "info") text → Holds line (Info (facts_in text))
+info_holds : (line text : List ℕ) → FirstKnownWordIs line (codes "info") text → Holds line (Info (facts_in text))
 unfolding Holds facts_in
-info_holds line text b = (text, b, tells no_facts (tokens text))
+info_holds line text b = (text, b, reports no_facts (tokens text))
 
 word_holds : (b : Bool) (line word w : List ℕ) (m other : EngineMsg) → is_word w word ≡ b → (word ≡ w → Holds line m) → (b ≡ false → Holds line other) → Holds line (cond b m other)
 word_holds true line word w m other e f h = f (same_text word w e)
@@ -209,7 +209,7 @@ word_holds false line word w m other e f h = h refl
 last_or : (a b c d e f : Bool) → a ≡ false → b ≡ false → c ≡ false → d ≡ false → e ≡ false → (a || b || c || d || e || f) ≡ true → f ≡ true
 last_or a b c d e f p q r s t h = sym (rw (p, q, r, s, t) refl) ∙ h
 
-part_message : (line : List ℕ) (part : Found) → IsFirst is_known line part → Holds line (said_after part.word part.after)
+part_message : (line : List ℕ) (part : Found) → FirstTokenPasses is_known line part → Holds line (said_after part.word part.after)
 unfolding Holds
 part_message line part f =
     word_holds (is_word (codes "id") part.word) line part.word (codes "id") _ _ refl (λ w. name_holds (is_word (codes "name") (first_token part.after)) line part.after refl (part, f, w, refl)) (λ a.
@@ -219,7 +219,7 @@ part_message line part f =
     word_holds (is_word (codes "info") part.word) line part.word (codes "info") _ _ refl (λ w. info_holds line part.after (part, f, w, refl)) (λ e.
     option_holds line part.after (part, f, same_text part.word (codes "option") (last_or (is_word (codes "id") part.word) (is_word (codes "uciok") part.word) (is_word (codes "readyok") part.word) (is_word (codes "bestmove") part.word) (is_word (codes "info") part.word) (is_word (codes "option") part.word) a b c d e f.passes), refl))))))
 
-message_by : (line : List ℕ) (o : Option Found) → found_token is_known true line ≡ o → Holds line (said_by o)
+message_by : (line : List ℕ) (o : Option Found) → found_token is_known true line ≡ o → Holds line (found_message o)
 unfolding Holds
 message_by line None e = tt
 message_by line (Some part) e = part_message line part (cut_first is_known line part refl e)
@@ -264,5 +264,5 @@ spells_read line (Info facts) h = form_is line (Info facts) h
 pub spelled : (line : List ℕ) (k : EngineMsg) → k ≡ engine_message line → (m : EngineMsg) → (k ≡ m) ↔ SpellsMessage line m
 spelled line k e m = (λ h. read_spells line m (sym e ∙ h), λ s. e ∙ spells_read line m s)
 
-pub one_message : SpellsOneMessage
+pub one_message : SpellsOneEngineMessage
 one_message line = (engine_message line, read_spells line (engine_message line) refl, λ k s. sym (spells_read line k s))

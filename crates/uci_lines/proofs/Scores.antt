@@ -2,7 +2,7 @@
 use Rattle.std.proofs.Common.{◌≡◌, ℕ, ◌^◌, ◌<◌, Bool, true, false, cond, List, [], ◌∷◌, Option, Some, None, refl, subst}
 use Rattle.std.specs.Prelude.{ℤ, nat_abs, IfSome, codes}
 use Rattle.std.specs.Option.{option_or, option_map}
-use Rattle.peer_words.specs.Tokens.{tokens, trimmed, first_token, rest}
+use Rattle.peer_words.specs.Tokens.{tokens, trimmed, first_token, rest_after_token}
 use Rattle.peer_words.specs.Numbers.{centis}
 use Rattle.peer_words.proofs.Sizes.{centis_small}
 use Rattle.uci_lines.specs.declared.messages.Score.{Score}
@@ -14,8 +14,8 @@ use Rattle.uci_lines.specs.Infos.{field_named, first_score, hear, ends_info, fac
 use Rattle.uci_lines.specs.Messages as says
 use Rattle.uci_lines.specs.Info.{Info}
 use Rattle.uci_lines.specs.Messages.{EngineMsg}
-use Rattle.uci_lines.specs.Engine.{engine_message, said_by, said_after, name_said, best_said}
-use Rattle.uci_lines.specs.Options.{option_said, option_with, option_line, shape_named}
+use Rattle.uci_lines.specs.Engine.{engine_message, found_message, said_after, name_said, best_said}
+use Rattle.uci_lines.specs.Options.{option_said, option_with, uci_option_line, shape_named}
 use Rattle.uci_lines.specs.Scores.{IsCentis, ScoresAreCentis}
 
 abbrev HasSmall : Info → Type 0
@@ -66,18 +66,18 @@ abbrev SaysSmall : EngineMsg → Type 0
 SaysSmall (says.Info f) = HasSmall f
 SaysSmall _ = Unit {0}
 
-line_small : (name : List ℕ) (shape : Option says.OptionKind) → SaysSmall (option_line name shape)
+line_small : (name : List ℕ) (shape : Option says.OptionKind) → SaysSmall (uci_option_line name shape)
 line_small name None = tt
 line_small name (Some shape) = tt
 
 option_small : (b : Bool) (part : Option Found) → SaysSmall (cond b (option_with part) says.Nothing)
 option_small false part = tt
 option_small true None = tt
-option_small true (Some part) = line_small (trimmed part.before) (shape_named (first_token part.after) (rest part.after))
+option_small true (Some part) = line_small (trimmed part.before) (shape_named (first_token part.after) (rest_after_token part.after))
 
 said_option_small : (text : List ℕ) → SaysSmall (option_said text)
 unfolding option_said
-said_option_small text = option_small (is_word (codes "name") (first_token text)) (found_token (is_word (codes "type")) true (rest text))
+said_option_small text = option_small (is_word (codes "name") (first_token text)) (found_token (is_word (codes "type")) true (rest_after_token text))
 
 name_small : (b : Bool) (text : List ℕ) → SaysSmall (cond b (says.Name text) says.Nothing)
 name_small true text = tt
@@ -89,13 +89,13 @@ either_small false x y h k = k
 
 after_small : (word text : List ℕ) → SaysSmall (said_after word text)
 after_small word text =
-    either_small (is_word (codes "id") word) (name_said text) _ (name_small (is_word (codes "name") (first_token text)) (rest text))
+    either_small (is_word (codes "id") word) (name_said text) _ (name_small (is_word (codes "name") (first_token text)) (rest_after_token text))
     (either_small (is_word (codes "uciok") word) says.UciOk _ tt
     (either_small (is_word (codes "readyok") word) says.ReadyOk _ tt
     (either_small (is_word (codes "bestmove") word) (best_said text) _ tt
     (either_small (is_word (codes "info") word) (says.Info (facts_in text)) (option_said text) (in_small text) (said_option_small text)))))
 
-by_small : (part : Option Found) → SaysSmall (said_by part)
+by_small : (part : Option Found) → SaysSmall (found_message part)
 by_small None = tt
 by_small (Some part) = after_small part.word part.after
 

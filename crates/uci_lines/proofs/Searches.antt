@@ -7,12 +7,12 @@ use Rattle.uci_lines.specs.declared.orders.GoControl.TheVariants.{Infinite, Move
 use Rattle.uci_lines.specs.Orders.{Order, Go, optional_number, ponder_text, control_text}
 use Rattle.uci_lines.specs.Behind.{after, number_behind, number_or, perhaps_number}
 use Rattle.uci_lines.specs.Written.{is_count, is_positive}
-use Rattle.uci_lines.specs.OrderReading.{is_positive_or_none, is_none_of, is_search, is_order, where_true, clock_one, clock_two, clock_three, clock_four, clock_in, time_or_clock, infinite_or, control_in, is_nil, search_end, search_with, ponder_or, search_in}
-use Rattle.uci_lines.proofs.Fronts.{BeginsWhite}
+use Rattle.uci_lines.specs.OrderReading.{is_positive_or_none, is_none_of, is_search, is_writable_order, order_where, clock_one, clock_two, clock_three, clock_four, clock_in, time_or_clock, infinite_or, control_in, has_no_token, search_end, search_with, ponder_or, search_in}
+use Rattle.uci_lines.proofs.Prefixes.{BeginsWhite}
 use Rattle.uci_lines.proofs.Stripped.{word_after}
 use Rattle.uci_lines.proofs.Counts.{number_takes, number_again, perhaps_takes}
 
--- What is read is what is written.
+-- The reading is what is written.
 pub record Found (text : List ℕ) (found : GoControl × List ℕ) : Type 0 where
   pub whole : text ≡ control_text found.0 ++ found.1
 
@@ -67,16 +67,16 @@ control_takes : (text : List ℕ) (found : GoControl × List ℕ) → control_in
 unfolding control_in
 control_takes text found h = infinite_takes text (after (codes " infinite") text) found refl h
 
--- What is asked, and that it may be.
+-- The request, and that it may be made.
 pub record Asks (text : List ℕ) (order : Order) (written : List ℕ) : Type 0 where
-  pub fits : is_order order ≡ true
+  pub fits : is_writable_order order ≡ true
   pub whole : text ≡ written
 
-pub true_where : (t : Bool) (order c : Order) → where_true t order ≡ Some c → (t ≡ true) × (order ≡ c)
+pub true_where : (t : Bool) (order c : Order) → order_where t order ≡ Some c → (t ≡ true) × (order ≡ c)
 true_where true order c h = (refl, cc)
 true_where false order c h = absurd (cc)
 
-nil_is : (text : List ℕ) → is_nil text ≡ true → text ≡ []
+nil_is : (text : List ℕ) → has_no_token text ≡ true → text ≡ []
 nil_is [] h = refl
 nil_is (b ∷ bs) h = absurd (cc)
 
@@ -88,8 +88,8 @@ with_takes : (ponder : Bool) (text inner : List ℕ) (o : Option (GoControl × L
 with_takes ponder text inner None c e f h = absurd (cc)
 with_takes ponder text inner (Some found) c e f h =
     let depth = perhaps_number (codes " depth ") found.1 in
-    let both = true_where (is_nil depth.1 && is_search ponder found.0 depth.0) (Go ponder found.0 depth.0) c h in
-    let tests = and_parts (is_nil depth.1) (is_search ponder found.0 depth.0) both.0 in
+    let both = true_where (has_no_token depth.1 && is_search ponder found.0 depth.0) (Go ponder found.0 depth.0) c h in
+    let tests = and_parts (has_no_token depth.1) (is_search ponder found.0 depth.0) both.0 in
     let last : found.1 ≡ optional_number (codes " depth ") depth.0 = perhaps_takes (codes " depth ") found.1 ∙ ap (λ t. optional_number (codes " depth ") depth.0 ++ t) (nil_is depth.1 tests.0) ∙ append-nil (optional_number (codes " depth ") depth.0) in
     (ponder, found.0, depth.0, sym both.1, tests.1, e ∙ ap (λ t. ponder_text ponder ++ t) (control_takes inner found f ∙ ap (λ t. control_text found.0 ++ t) last))
 
@@ -188,7 +188,7 @@ with_again ponder control depth h =
     ap (perhaps_number (codes " depth ")) (sym (append-nil (depth_text depth))) ∙ perhaps_again (codes " depth ") [] depth (depth_fits ponder control depth h) tt no_depth in
     ap (search_with ponder) (control_again ponder control depth h)
     ∙ ap (search_end ponder control) last
-    ∙ ap (λ t. where_true t (Go ponder control depth)) h
+    ∙ ap (λ t. order_where t (Go ponder control depth)) h
 
 no_ponder : (control : GoControl) (more : List ℕ) → after (codes " ponder") (control_text control ++ more) ≡ None
 no_ponder Infinite more = refl

@@ -2,7 +2,7 @@
 use Rattle.std.proofs.Common.{◌≡◌, ℕ, ◌≤◌, List, [], ◌∷◌, ◌++◌, Bool, true, false, ◌==◌, cond, Option, Some, None, is_some, codes, length, refl, sym, ap, ◌∙◌, arith, append_assoc, length-append, subst}
 use Rattle.std.specs.Option.{option_map}
 use Rattle.uci_lines.specs.Behind.{after}
-use Rattle.uci_lines.specs.Written.{onto_first_of, value_here, value_cut, holds_value}
+use Rattle.uci_lines.specs.Written.{onto_first_of, value_here, option_value_cut, holds_value}
 use Rattle.uci_lines.proofs.Stripped.{word_after}
 
 some_by : (t : Bool) (x y : Option (List ℕ)) → is_some x ≡ is_some y → is_some (cond t x None) ≡ is_some (cond t y None)
@@ -55,11 +55,11 @@ later_is b bs (Some q) halves n h e =
     let none : is_some (after (codes " value ") (b ∷ (q.0 ++ codes " value"))) ≡ false = same_start b q.0 q.1 bs k.whole ∙ n in
     subst (λ (r : List ℕ × List ℕ). Cut (b ∷ bs) r) same (record {
       whole = ap (λ t. b ∷ t) k.whole;
-      first = holds_step b (q.0 ++ codes " value") (after (codes " value ") (b ∷ (q.0 ++ codes " value"))) (value_cut (q.0 ++ codes " value")) none k.first;
+      first = holds_step b (q.0 ++ codes " value") (after (codes " value ") (b ∷ (q.0 ++ codes " value"))) (option_value_cut (q.0 ++ codes " value")) none k.first;
     })
 
-cut_step : (b : ℕ) (bs : List ℕ) (o : Option (List ℕ)) (halves : List ℕ × List ℕ) → after (codes " value ") (b ∷ bs) ≡ o → ((q : List ℕ × List ℕ) → value_cut bs ≡ Some q → Cut bs q) → value_here o (option_map (onto_first_of b) (value_cut bs)) ≡ Some halves → Cut (b ∷ bs) halves
-cut_step b bs None halves e h k = later_is b bs (value_cut bs) halves (ap (λ t. is_some t) e) h k
+cut_step : (b : ℕ) (bs : List ℕ) (o : Option (List ℕ)) (halves : List ℕ × List ℕ) → after (codes " value ") (b ∷ bs) ≡ o → ((q : List ℕ × List ℕ) → option_value_cut bs ≡ Some q → Cut bs q) → value_here o (option_map (onto_first_of b) (option_value_cut bs)) ≡ Some halves → Cut (b ∷ bs) halves
+cut_step b bs None halves e h k = later_is b bs (option_value_cut bs) halves (ap (λ t. is_some t) e) h k
 cut_step b bs (Some others) halves e h k =
     let same : ([], others) ≡ halves = first_half others halves k in
     subst (λ (r : List ℕ × List ℕ). Cut (b ∷ bs) r) same (record { whole = word_after (codes " value ") (b ∷ bs) others e; first = refl })
@@ -67,7 +67,7 @@ cut_step b bs (Some others) halves e h k =
     first_half : (x : List ℕ) (r : List ℕ × List ℕ) → Some ([], x) ≡ Some r → ([], x) ≡ r
     first_half x r e = cc
 
-pub value_cut_is : (text : List ℕ) (halves : List ℕ × List ℕ) → value_cut text ≡ Some halves → Cut text halves
+pub value_cut_is : (text : List ℕ) (halves : List ℕ × List ℕ) → option_value_cut text ≡ Some halves → Cut text halves
 value_cut_is [] halves h = absurd (cc)
 value_cut_is (b ∷ bs) halves h = cut_step b bs (after (codes " value ") (b ∷ bs)) halves refl (λ q k. value_cut_is bs q k) h
 
@@ -76,9 +76,9 @@ again_step : (b : ℕ) (o : Option (List ℕ)) (later : Option (List ℕ × List
 again_step b None later name value h e = rw e refl
 again_step b (Some others) later name value h e = absurd (cc)
 
-pub value_cut_again : (name value : List ℕ) → holds_value (name ++ codes " value") ≡ false → value_cut (name ++ (codes " value " ++ value)) ≡ Some (name, value)
+pub value_cut_again : (name value : List ℕ) → holds_value (name ++ codes " value") ≡ false → option_value_cut (name ++ (codes " value " ++ value)) ≡ Some (name, value)
 value_cut_again [] value h = refl
 value_cut_again (b ∷ bs) value h =
-    let parts = some_value (after (codes " value ") (b ∷ (bs ++ codes " value"))) (option_map (onto_first_of b) (value_cut (bs ++ codes " value"))) h in
+    let parts = some_value (after (codes " value ") (b ∷ (bs ++ codes " value"))) (option_map (onto_first_of b) (option_value_cut (bs ++ codes " value"))) h in
     let none : is_some (after (codes " value ") (b ∷ (bs ++ (codes " value " ++ value)))) ≡ false = sym (same_start b bs value (bs ++ (codes " value " ++ value)) refl) ∙ parts.0 in
-    again_step b (after (codes " value ") (b ∷ (bs ++ (codes " value " ++ value)))) (value_cut (bs ++ (codes " value " ++ value))) bs value none (value_cut_again bs value (sym (is_some_onto b (value_cut (bs ++ codes " value"))) ∙ parts.1))
+    again_step b (after (codes " value ") (b ∷ (bs ++ (codes " value " ++ value)))) (option_value_cut (bs ++ (codes " value " ++ value))) bs value none (value_cut_again bs value (sym (is_some_onto b (option_value_cut (bs ++ codes " value"))) ∙ parts.1))

@@ -1,4 +1,4 @@
--- What follows fixed words and numbers, in both directions.
+-- The rest behind fixed words and numbers, in both directions.
 use Rattle.std.proofs.Common.{◌≡◌, ◌≢◌, ℕ, List, [], ◌∷◌, ◌++◌, Bool, true, false, cond, eqb, Option, Some, None, Bor, refl, sym, ap, ◌∙◌, arith}
 use Rattle.std.specs.Option.{MatchOption}
 use Rattle.std.proofs.lemmas.Bool.Decides.{nat_tests}

@@ -1,4 +1,4 @@
--- What is told of a search, as a relation and as a function.
+-- The report of a search, as a relation and as a function.
 use Rattle.std.proofs.Common.{◌≡◌, ◌≢◌, ℕ, zero, suc, ◌<◌, ◌≤◌, ℤ, ◌⊎◌, inl, inr, List, [], ◌∷◌, Bool, true, false, Option, Some, None, is_none, is_some, codes, cond, length, refl, sym, ap, ◌∙◌, subst, arith}
 use Rattle.std.specs.Option.{option_or, option_map}
 use Rattle.std.proofs.lemmas.Bool.{both_ways}
@@ -8,11 +8,11 @@ use Rattle.uci_lines.specs.declared.messages.Score.TheVariants.{Cp, Mate}
 use Rattle.uci_lines.specs.declared.info.InfoField.{InfoField}
 use Rattle.uci_lines.specs.declared.info.InfoField.TheVariants as fields
 use Rattle.uci_lines.specs.Cuts.{is_word}
-use Rattle.chess_board.specs.Spelling.{move_of}
-use Rattle.uci_lines.specs.Moves.{add_move, run, after_run}
+use Rattle.chess_board.specs.Spelling.{move_spelled_by}
+use Rattle.uci_lines.specs.Moves.{add_move, longest_move_run, after_run}
 use Rattle.uci_lines.specs.Info.{Info}
 use Rattle.uci_lines.specs.Infos.{field_named, first_count, first_score, first_move, newer_run, hear, ends_info, facts_from}
-use Rattle.uci_lines.specs.Spells.{PerhapsMove, NoMoveFirst, IsRun, Takes, Tells}
+use Rattle.uci_lines.specs.Spells.{PerhapsMove, NoMoveFirst, IsRun, FieldTakesValue, ReportsFacts}
 use Rattle.uci_lines.proofs.Counts.{same_text, text_same}
 use Rattle.uci_lines.proofs.Listings.{perhaps_is, is_perhaps}
 use Rattle.chess_board.proofs.Spelled.{move_spells, spells_move}
@@ -35,28 +35,28 @@ count_plain t n h = plain (λ s. is_some (count s)) t (ap (λ o. is_some o) h) r
 centis_plain : (t : List ℕ) (n : ℤ) → centis t ≡ Some n → field_named t ≡ fields.Other
 centis_plain t n h = plain (λ s. is_some (centis s)) t (ap (λ o. is_some o) h) refl refl refl refl refl refl refl refl refl refl refl
 
-move_plain : (t : List ℕ) (m : Move) → move_of t ≡ Some m → field_named t ≡ fields.Other
-unfolding move_of
-move_plain t m h = plain (λ s. is_some (move_of s)) t (ap (λ o. is_some o) h) refl refl refl refl refl refl refl refl refl refl refl
+move_plain : (t : List ℕ) (m : Move) → move_spelled_by t ≡ Some m → field_named t ≡ fields.Other
+unfolding move_spelled_by
+move_plain t m h = plain (λ s. is_some (move_spelled_by s)) t (ap (λ o. is_some o) h) refl refl refl refl refl refl refl refl refl refl refl
 
 passed : (f : Info) (t : List ℕ) (ts : List (List ℕ)) → field_named t ≡ fields.Other → facts_from f (t ∷ ts) ≡ facts_from f ts
 passed f t ts e = ap (λ k. cond (ends_info k) f (facts_from (hear k f ts) ts)) e
 
 -- RUNS OF MOVES
 
-no_run : (ts : List (List ℕ)) → NoMoveFirst ts → run ts ≡ []
+no_run : (ts : List (List ℕ)) → NoMoveFirst ts → longest_move_run ts ≡ []
 no_run [] h = refl
-no_run (t ∷ ts) h = ap (λ o. add_move o (run ts)) (sym (perhaps_is t None h))
+no_run (t ∷ ts) h = ap (λ o. add_move o (longest_move_run ts)) (sym (perhaps_is t None h))
 
-run_is : (ts : List (List ℕ)) (moves : List Move) (others : List (List ℕ)) → IsRun ts moves others → run ts ≡ moves
+run_is : (ts : List (List ℕ)) (moves : List Move) (others : List (List ℕ)) → IsRun ts moves others → longest_move_run ts ≡ moves
 run_is ts _ _ (IsRun.Ends h) = no_run ts h
-run_is _ _ others (IsRun.Goes {t = t} {m = m} {ts = ts} {moves = moves} s r) = ap (λ o. add_move o (run ts)) (spells_move t m s) ∙ ap (λ ms. m ∷ ms) (run_is ts moves others r)
+run_is _ _ others (IsRun.Goes {t = t} {m = m} {ts = ts} {moves = moves} s r) = ap (λ o. add_move o (longest_move_run ts)) (spells_move t m s) ∙ ap (λ ms. m ∷ ms) (run_is ts moves others r)
 
 run_passed : (f : Info) (ts : List (List ℕ)) (moves : List Move) (others : List (List ℕ)) → IsRun ts moves others → facts_from f ts ≡ facts_from f others
 run_passed f ts _ _ (IsRun.Ends h) = refl
 run_passed f _ _ others (IsRun.Goes {t = t} {m = m} {ts = ts} {moves = moves} s r) = passed f t ts (move_plain t m (spells_move t m s)) ∙ run_passed f ts moves others r
 
-after_by : (o : Option Move) (f : Info) (t : List ℕ) (ts us : List (List ℕ)) → move_of t ≡ o
+after_by : (o : Option Move) (f : Info) (t : List ℕ) (ts us : List (List ℕ)) → move_spelled_by t ≡ o
     → facts_from f us ≡ facts_from f ts → facts_from f (cond (is_none o) (t ∷ ts) us) ≡ facts_from f (t ∷ ts)
 after_by None f t ts us e h = refl
 after_by (Some m) f t ts us e h = h ∙ sym (passed f t ts (move_plain t m e))
@@ -64,35 +64,35 @@ after_by (Some m) f t ts us e h = h ∙ sym (passed f t ts (move_plain t m e))
 -- no move text tells anything by itself
 pub facts_after : (f : Info) (ts : List (List ℕ)) → facts_from f (after_run ts) ≡ facts_from f ts
 facts_after f [] = refl
-facts_after f (t ∷ ts) = after_by (move_of t) f t ts (after_run ts) refl (facts_after f ts)
+facts_after f (t ∷ ts) = after_by (move_spelled_by t) f t ts (after_run ts) refl (facts_after f ts)
 
 record Runs (ts : List (List ℕ)) (moves : List Move) : Type 0 where
   others : List (List ℕ)
   is_run : IsRun ts moves others
   fits : length others ≤ length ts
 
-runs_by : (t : List ℕ) (ts : List (List ℕ)) (o : Option Move) → move_of t ≡ o → Runs ts (run ts) → Runs (t ∷ ts) (add_move o (run ts))
+runs_by : (t : List ℕ) (ts : List (List ℕ)) (o : Option Move) → move_spelled_by t ≡ o → Runs ts (longest_move_run ts) → Runs (t ∷ ts) (add_move o (longest_move_run ts))
 runs_by t ts None e r = record { others = t ∷ ts; is_run = IsRun.Ends (subst (λ (o : Option Move). PerhapsMove t o) e (is_perhaps t)); fits = omega arith }
 runs_by t ts (Some m) e r = record { others = r.others; is_run = IsRun.Goes (move_spells t m e) r.is_run; fits = omega (arith, r.fits) }
 
-runs : (ts : List (List ℕ)) → Runs ts (run ts)
+runs : (ts : List (List ℕ)) → Runs ts (longest_move_run ts)
 runs [] = record { others = []; is_run = IsRun.Ends tt; fits = omega arith }
-runs (t ∷ ts) = runs_by t ts (move_of t) refl (runs ts)
+runs (t ∷ ts) = runs_by t ts (move_spelled_by t) refl (runs ts)
 
 -- WHAT A FIELD TAKES
 
-pub takes_is : (f : Info) (ts : List (List ℕ)) (g : Info) (others : List (List ℕ)) → Takes f ts g others → facts_from f ts ≡ facts_from g others
-takes_is f _ _ _ (Takes.Depth {t = t} {ts = ts} {n = n} e) = ap (λ o. facts_from (record f { depth = option_or o f.depth }) (t ∷ ts)) e ∙ passed (record f { depth = Some n }) t ts (count_plain t n e)
-takes_is f _ _ _ (Takes.Time {t = t} {ts = ts} {n = n} e) = ap (λ o. facts_from (record f { time = option_or o f.time }) (t ∷ ts)) e ∙ passed (record f { time = Some n }) t ts (count_plain t n e)
-takes_is f _ _ _ (Takes.Nodes {t = t} {ts = ts} {n = n} e) = ap (λ o. facts_from (record f { nodes = option_or o f.nodes }) (t ∷ ts)) e ∙ passed (record f { nodes = Some n }) t ts (count_plain t n e)
-takes_is f _ _ _ (Takes.MultiPv {t = t} {ts = ts} {n = n} e) = ap (λ o. facts_from (record f { multipv = option_or o f.multipv }) (t ∷ ts)) e ∙ passed (record f { multipv = Some n }) t ts (count_plain t n e)
-takes_is f _ _ _ (Takes.Number {t = t} {ts = ts} {n = n} e) = ap (λ o. facts_from (record f { number = option_or o f.number }) (t ∷ ts)) e ∙ passed (record f { number = Some n }) t ts (count_plain t n e)
-takes_is f _ _ _ (Takes.Centipawns {t = t} {ts = ts} {n = n} e) = ap (λ o. facts_from (record f { score = option_or (option_map (λ k. Cp k) o) f.score }) (t ∷ ts)) e ∙ passed (record f { score = Some (Cp n) }) t ts (centis_plain t n e)
-takes_is f _ _ _ (Takes.ToMate {t = t} {ts = ts} {n = n} e) = ap (λ o. facts_from (record f { score = option_or (option_map (λ k. Mate k) o) f.score }) (t ∷ ts)) e ∙ passed (record f { score = Some (Mate n) }) t ts (centis_plain t n e)
-takes_is f _ _ _ Takes.LowerBound = refl
-takes_is f _ _ _ Takes.UpperBound = refl
-takes_is f _ _ _ (Takes.Current {t = t} {ts = ts} {m = m} s) = ap (λ o. facts_from (record f { current = option_or o f.current }) (t ∷ ts)) (spells_move t m s) ∙ passed (record f { current = Some m }) t ts (move_plain t m (spells_move t m s))
-takes_is f _ _ _ (Takes.Pv {ts = ts} {others = others} {m = m} {moves = moves} r) = ap (λ ms. facts_from (record f { pv = newer_run ms f.pv }) ts) (run_is ts (m ∷ moves) others r) ∙ run_passed (record f { pv = m ∷ moves }) ts (m ∷ moves) others r
+pub takes_is : (f : Info) (ts : List (List ℕ)) (g : Info) (others : List (List ℕ)) → FieldTakesValue f ts g others → facts_from f ts ≡ facts_from g others
+takes_is f _ _ _ (FieldTakesValue.Depth {t = t} {ts = ts} {n = n} e) = ap (λ o. facts_from (record f { depth = option_or o f.depth }) (t ∷ ts)) e ∙ passed (record f { depth = Some n }) t ts (count_plain t n e)
+takes_is f _ _ _ (FieldTakesValue.Time {t = t} {ts = ts} {n = n} e) = ap (λ o. facts_from (record f { time = option_or o f.time }) (t ∷ ts)) e ∙ passed (record f { time = Some n }) t ts (count_plain t n e)
+takes_is f _ _ _ (FieldTakesValue.Nodes {t = t} {ts = ts} {n = n} e) = ap (λ o. facts_from (record f { nodes = option_or o f.nodes }) (t ∷ ts)) e ∙ passed (record f { nodes = Some n }) t ts (count_plain t n e)
+takes_is f _ _ _ (FieldTakesValue.MultiPv {t = t} {ts = ts} {n = n} e) = ap (λ o. facts_from (record f { multipv = option_or o f.multipv }) (t ∷ ts)) e ∙ passed (record f { multipv = Some n }) t ts (count_plain t n e)
+takes_is f _ _ _ (FieldTakesValue.Number {t = t} {ts = ts} {n = n} e) = ap (λ o. facts_from (record f { number = option_or o f.number }) (t ∷ ts)) e ∙ passed (record f { number = Some n }) t ts (count_plain t n e)
+takes_is f _ _ _ (FieldTakesValue.Centipawns {t = t} {ts = ts} {n = n} e) = ap (λ o. facts_from (record f { score = option_or (option_map (λ k. Cp k) o) f.score }) (t ∷ ts)) e ∙ passed (record f { score = Some (Cp n) }) t ts (centis_plain t n e)
+takes_is f _ _ _ (FieldTakesValue.ToMate {t = t} {ts = ts} {n = n} e) = ap (λ o. facts_from (record f { score = option_or (option_map (λ k. Mate k) o) f.score }) (t ∷ ts)) e ∙ passed (record f { score = Some (Mate n) }) t ts (centis_plain t n e)
+takes_is f _ _ _ FieldTakesValue.LowerBound = refl
+takes_is f _ _ _ FieldTakesValue.UpperBound = refl
+takes_is f _ _ _ (FieldTakesValue.Current {t = t} {ts = ts} {m = m} s) = ap (λ o. facts_from (record f { current = option_or o f.current }) (t ∷ ts)) (spells_move t m s) ∙ passed (record f { current = Some m }) t ts (move_plain t m (spells_move t m s))
+takes_is f _ _ _ (FieldTakesValue.Pv {ts = ts} {others = others} {m = m} {moves = moves} r) = ap (λ ms. facts_from (record f { pv = newer_run ms f.pv }) ts) (run_is ts (m ∷ moves) others r) ∙ run_passed (record f { pv = m ∷ moves }) ts (m ∷ moves) others r
 
 some_moves : List Move → Bool
 some_moves [] = false
@@ -108,7 +108,7 @@ taking_by fields.Number ts = is_some (first_count ts)
 taking_by fields.Score ts = is_some (first_score ts)
 taking_by fields.Bound ts = true
 taking_by fields.Current ts = is_some (first_move ts)
-taking_by fields.Pv ts = some_moves (run ts)
+taking_by fields.Pv ts = some_moves (longest_move_run ts)
 taking_by fields.Text ts = false
 taking_by fields.Other ts = false
 
@@ -116,19 +116,19 @@ taking : List (List ℕ) → Bool
 taking [] = false
 taking (t ∷ ts) = taking_by (field_named t) ts
 
-takes_taking : (f : Info) (ts : List (List ℕ)) (g : Info) (others : List (List ℕ)) → Takes f ts g others → taking ts ≡ true
+takes_taking : (f : Info) (ts : List (List ℕ)) (g : Info) (others : List (List ℕ)) → FieldTakesValue f ts g others → taking ts ≡ true
 unfolding taking taking_by some_moves
-takes_taking f _ _ _ (Takes.Depth e) = ap (λ o. is_some o) e
-takes_taking f _ _ _ (Takes.Time e) = ap (λ o. is_some o) e
-takes_taking f _ _ _ (Takes.Nodes e) = ap (λ o. is_some o) e
-takes_taking f _ _ _ (Takes.MultiPv e) = ap (λ o. is_some o) e
-takes_taking f _ _ _ (Takes.Number e) = ap (λ o. is_some o) e
-takes_taking f _ _ _ (Takes.Centipawns e) = ap (λ o. is_some (option_map (λ k. Cp k) o)) e
-takes_taking f _ _ _ (Takes.ToMate e) = ap (λ o. is_some (option_map (λ k. Mate k) o)) e
-takes_taking f _ _ _ Takes.LowerBound = refl
-takes_taking f _ _ _ Takes.UpperBound = refl
-takes_taking f _ _ _ (Takes.Current {t = t} {m = m} s) = ap (λ o. is_some o) (spells_move t m s)
-takes_taking f _ _ _ (Takes.Pv {ts = ts} {others = others} {m = m} {moves = moves} r) = ap some_moves (run_is ts (m ∷ moves) others r)
+takes_taking f _ _ _ (FieldTakesValue.Depth e) = ap (λ o. is_some o) e
+takes_taking f _ _ _ (FieldTakesValue.Time e) = ap (λ o. is_some o) e
+takes_taking f _ _ _ (FieldTakesValue.Nodes e) = ap (λ o. is_some o) e
+takes_taking f _ _ _ (FieldTakesValue.MultiPv e) = ap (λ o. is_some o) e
+takes_taking f _ _ _ (FieldTakesValue.Number e) = ap (λ o. is_some o) e
+takes_taking f _ _ _ (FieldTakesValue.Centipawns e) = ap (λ o. is_some (option_map (λ k. Cp k) o)) e
+takes_taking f _ _ _ (FieldTakesValue.ToMate e) = ap (λ o. is_some (option_map (λ k. Mate k) o)) e
+takes_taking f _ _ _ FieldTakesValue.LowerBound = refl
+takes_taking f _ _ _ FieldTakesValue.UpperBound = refl
+takes_taking f _ _ _ (FieldTakesValue.Current {t = t} {m = m} s) = ap (λ o. is_some o) (spells_move t m s)
+takes_taking f _ _ _ (FieldTakesValue.Pv {ts = ts} {others = others} {m = m} {moves = moves} r) = ap some_moves (run_is ts (m ∷ moves) others r)
 
 -- a token and the field that it names
 Named : InfoField → List ℕ → Type 0
@@ -164,16 +164,16 @@ named t =
     (pick t (codes "string") fields.Text fields.Other (is_word (codes "string") t) refl (λ e. e) tt))))))))))
 
 record Take (f : Info) (ts : List (List ℕ)) : Type 0 where
-  told : Info
+  reported : Info
   others : List (List ℕ)
-  takes : Takes f ts told others
+  takes : FieldTakesValue f ts reported others
   shorter : length others < length ts
 
-given : (f g : Info) (t w : List ℕ) (ts others : List (List ℕ)) → t ≡ w → length others ≤ length ts → Takes f (w ∷ ts) g others → Take f (t ∷ ts)
+given : (f g : Info) (t w : List ℕ) (ts others : List (List ℕ)) → t ≡ w → length others ≤ length ts → FieldTakesValue f (w ∷ ts) g others → Take f (t ∷ ts)
 given f g t w ts others e l k = record {
-  told = g;
+  reported = g;
   others = others;
-  takes = subst (λ (u : List ℕ). Takes f (u ∷ ts) g others) (sym e) k;
+  takes = subst (λ (u : List ℕ). FieldTakesValue f (u ∷ ts) g others) (sym e) k;
   shorter = omega (arith, l);
 }
 
@@ -195,33 +195,33 @@ take_score : (f : Info) (t u v : List ℕ) (us : List (List ℕ)) (a b : Bool) �
 take_score f t u v us true b e p q h =
     let s = some_below (λ n. Cp n) (centis v) h in
     given f (record f { score = Some (Cp s.0) }) t (codes "score") (u ∷ v ∷ us) us e (two_less u v us)
-    (subst (λ (w : List ℕ). Takes f (codes "score" ∷ w ∷ v ∷ us) (record f { score = Some (Cp s.0) }) us) (sym (same_text u (codes "cp") p)) (Takes.Centipawns s.1))
+    (subst (λ (w : List ℕ). FieldTakesValue f (codes "score" ∷ w ∷ v ∷ us) (record f { score = Some (Cp s.0) }) us) (sym (same_text u (codes "cp") p)) (FieldTakesValue.Centipawns s.1))
 take_score f t u v us false true e p q h =
     let s = some_below (λ n. Mate n) (centis v) h in
     given f (record f { score = Some (Mate s.0) }) t (codes "score") (u ∷ v ∷ us) us e (two_less u v us)
-    (subst (λ (w : List ℕ). Takes f (codes "score" ∷ w ∷ v ∷ us) (record f { score = Some (Mate s.0) }) us) (sym (same_text u (codes "mate") q)) (Takes.ToMate s.1))
+    (subst (λ (w : List ℕ). FieldTakesValue f (codes "score" ∷ w ∷ v ∷ us) (record f { score = Some (Mate s.0) }) us) (sym (same_text u (codes "mate") q)) (FieldTakesValue.ToMate s.1))
 take_score f t u v us false false e p q h = absurd (cc)
 
 take_pv : (f : Info) (t : List ℕ) (ts : List (List ℕ)) (moves : List Move) → t ≡ codes "pv" → some_moves moves ≡ true → Runs ts moves → Take f (t ∷ ts)
 unfolding some_moves
 take_pv f t ts [] e h r = absurd (cc)
-take_pv f t ts (m ∷ moves) e h r = given f (record f { pv = m ∷ moves }) t (codes "pv") ts r.others e r.fits (Takes.Pv r.is_run)
+take_pv f t ts (m ∷ moves) e h r = given f (record f { pv = m ∷ moves }) t (codes "pv") ts r.others e r.fits (FieldTakesValue.Pv r.is_run)
 
 take_bound : (f : Info) (t : List ℕ) (ts : List (List ℕ)) → (t ≡ codes "lowerbound") ⊎ (t ≡ codes "upperbound") → Take f (t ∷ ts)
-take_bound f t ts (inl e) = given f (record f { bound = true }) t (codes "lowerbound") ts ts e (omega arith) Takes.LowerBound
-take_bound f t ts (inr e) = given f (record f { bound = true }) t (codes "upperbound") ts ts e (omega arith) Takes.UpperBound
+take_bound f t ts (inl e) = given f (record f { bound = true }) t (codes "lowerbound") ts ts e (omega arith) FieldTakesValue.LowerBound
+take_bound f t ts (inr e) = given f (record f { bound = true }) t (codes "upperbound") ts ts e (omega arith) FieldTakesValue.UpperBound
 
 take_by : (k : InfoField) (f : Info) (t : List ℕ) (ts : List (List ℕ)) → Named k t → taking_by k ts ≡ true → Take f (t ∷ ts)
 unfolding Named taking_by
-take_by fields.Depth f t (u ∷ us) e h = let s = some_of (count u) h in given f (record f { depth = Some s.0 }) t (codes "depth") (u ∷ us) us e (one_less u us) (Takes.Depth s.1)
-take_by fields.Time f t (u ∷ us) e h = let s = some_of (count u) h in given f (record f { time = Some s.0 }) t (codes "time") (u ∷ us) us e (one_less u us) (Takes.Time s.1)
-take_by fields.Nodes f t (u ∷ us) e h = let s = some_of (count u) h in given f (record f { nodes = Some s.0 }) t (codes "nodes") (u ∷ us) us e (one_less u us) (Takes.Nodes s.1)
-take_by fields.MultiPv f t (u ∷ us) e h = let s = some_of (count u) h in given f (record f { multipv = Some s.0 }) t (codes "multipv") (u ∷ us) us e (one_less u us) (Takes.MultiPv s.1)
-take_by fields.Number f t (u ∷ us) e h = let s = some_of (count u) h in given f (record f { number = Some s.0 }) t (codes "currmovenumber") (u ∷ us) us e (one_less u us) (Takes.Number s.1)
+take_by fields.Depth f t (u ∷ us) e h = let s = some_of (count u) h in given f (record f { depth = Some s.0 }) t (codes "depth") (u ∷ us) us e (one_less u us) (FieldTakesValue.Depth s.1)
+take_by fields.Time f t (u ∷ us) e h = let s = some_of (count u) h in given f (record f { time = Some s.0 }) t (codes "time") (u ∷ us) us e (one_less u us) (FieldTakesValue.Time s.1)
+take_by fields.Nodes f t (u ∷ us) e h = let s = some_of (count u) h in given f (record f { nodes = Some s.0 }) t (codes "nodes") (u ∷ us) us e (one_less u us) (FieldTakesValue.Nodes s.1)
+take_by fields.MultiPv f t (u ∷ us) e h = let s = some_of (count u) h in given f (record f { multipv = Some s.0 }) t (codes "multipv") (u ∷ us) us e (one_less u us) (FieldTakesValue.MultiPv s.1)
+take_by fields.Number f t (u ∷ us) e h = let s = some_of (count u) h in given f (record f { number = Some s.0 }) t (codes "currmovenumber") (u ∷ us) us e (one_less u us) (FieldTakesValue.Number s.1)
 take_by fields.Score f t (u ∷ v ∷ us) e h = take_score f t u v us (is_word (codes "cp") u) (is_word (codes "mate") u) e refl refl h
 take_by fields.Bound f t ts e h = take_bound f t ts e
-take_by fields.Current f t (u ∷ us) e h = let s = some_of (move_of u) h in given f (record f { current = Some s.0 }) t (codes "currmove") (u ∷ us) us e (one_less u us) (Takes.Current (move_spells u s.0 s.1))
-take_by fields.Pv f t ts e h = take_pv f t ts (run ts) e h (runs ts)
+take_by fields.Current f t (u ∷ us) e h = let s = some_of (move_spelled_by u) h in given f (record f { current = Some s.0 }) t (codes "currmove") (u ∷ us) us e (one_less u us) (FieldTakesValue.Current (move_spells u s.0 s.1))
+take_by fields.Pv f t ts e h = take_pv f t ts (longest_move_run ts) e h (runs ts)
 take_by k f t ts e h = absurd (cc)
 
 take : (f : Info) (t : List ℕ) (ts : List (List ℕ)) → taking (t ∷ ts) ≡ true → Take f (t ∷ ts)
@@ -249,7 +249,7 @@ unheard fields.Number f ts h = ap (λ o. record f { number = option_or o f.numbe
 unheard fields.Score f ts h = ap (λ o. record f { score = option_or o f.score }) (none_of (first_score ts) h)
 unheard fields.Bound f ts h = absurd (cc)
 unheard fields.Current f ts h = ap (λ o. record f { current = option_or o f.current }) (none_of (first_move ts) h)
-unheard fields.Pv f ts h = ap (λ ms. record f { pv = newer_run ms f.pv }) (empty_of (run ts) h)
+unheard fields.Pv f ts h = ap (λ ms. record f { pv = newer_run ms f.pv }) (empty_of (longest_move_run ts) h)
 unheard k f ts h = refl
 
 ends_by : (k : InfoField) (t : List ℕ) → Named k t → t ≢ codes "string" → ends_info k ≡ false
@@ -265,33 +265,33 @@ skipped f t ts n h =
 
 -- BOTH WAYS
 
-skip_by : (b : Bool) (f : Info) (t : List ℕ) (ts : List (List ℕ)) → taking (t ∷ ts) ≡ b → t ≢ codes "string" → ((g : Info) (others : List (List ℕ)) → Takes f (t ∷ ts) g others → ⊥) → facts_from f (t ∷ ts) ≡ facts_from f ts
-skip_by true f t ts e n s = let k = take f t ts e in absurd (s k.told k.others k.takes)
+skip_by : (b : Bool) (f : Info) (t : List ℕ) (ts : List (List ℕ)) → taking (t ∷ ts) ≡ b → t ≢ codes "string" → ((g : Info) (others : List (List ℕ)) → FieldTakesValue f (t ∷ ts) g others → ⊥) → facts_from f (t ∷ ts) ≡ facts_from f ts
+skip_by true f t ts e n s = let k = take f t ts e in absurd (s k.reported k.others k.takes)
 skip_by false f t ts e n s = skipped f t ts n e
 
-pub tells_is : (f : Info) (ts : List (List ℕ)) (h : Info) → Tells f ts h → facts_from f ts ≡ h
-tells_is f _ _ Tells.End = refl
-tells_is f _ _ Tells.Rest = refl
-tells_is f ts h (Tells.Taken {g = g} {others = others} k r) = takes_is f ts g others k ∙ tells_is g others h r
-tells_is f _ h (Tells.Skipped {t = t} {ts = ts} n s r) = skip_by (taking (t ∷ ts)) f t ts refl n s ∙ tells_is f ts h r
+pub reports_is : (f : Info) (ts : List (List ℕ)) (h : Info) → ReportsFacts f ts h → facts_from f ts ≡ h
+reports_is f _ _ ReportsFacts.End = refl
+reports_is f _ _ ReportsFacts.Rest = refl
+reports_is f ts h (ReportsFacts.Taken {g = g} {others = others} k r) = takes_is f ts g others k ∙ reports_is g others h r
+reports_is f _ h (ReportsFacts.Skipped {t = t} {ts = ts} n s r) = skip_by (taking (t ∷ ts)) f t ts refl n s ∙ reports_is f ts h r
 
-string_or : (b : Bool) (f : Info) (t : List ℕ) (ts : List (List ℕ)) → is_word (codes "string") t ≡ b → taking (t ∷ ts) ≡ false → Tells f ts (facts_from f ts) → Tells f (t ∷ ts) (facts_from f (t ∷ ts))
-string_or true f t ts e h r = subst (λ (w : List ℕ). Tells f (w ∷ ts) (facts_from f (w ∷ ts))) (sym (same_text t (codes "string") e)) Tells.Rest
+string_or : (b : Bool) (f : Info) (t : List ℕ) (ts : List (List ℕ)) → is_word (codes "string") t ≡ b → taking (t ∷ ts) ≡ false → ReportsFacts f ts (facts_from f ts) → ReportsFacts f (t ∷ ts) (facts_from f (t ∷ ts))
+string_or true f t ts e h r = subst (λ (w : List ℕ). ReportsFacts f (w ∷ ts) (facts_from f (w ∷ ts))) (sym (same_text t (codes "string") e)) ReportsFacts.Rest
 string_or false f t ts e h r =
     let other : t ≢ codes "string" = λ same. both_ways (is_word (codes "string") t) e (text_same t (codes "string") same) in
-    subst (λ (g : Info). Tells f (t ∷ ts) g) (sym (skipped f t ts other h))
-    (Tells.Skipped other (λ g others k. both_ways (taking (t ∷ ts)) h (takes_taking f (t ∷ ts) g others k)) r)
+    subst (λ (g : Info). ReportsFacts f (t ∷ ts) g) (sym (skipped f t ts other h))
+    (ReportsFacts.Skipped other (λ g others k. both_ways (taking (t ∷ ts)) h (takes_taking f (t ∷ ts) g others k)) r)
 
-tells_by : (b : Bool) (f : Info) (t : List ℕ) (ts : List (List ℕ)) → taking (t ∷ ts) ≡ b → ((g : Info) (us : List (List ℕ)) → length us < length (t ∷ ts) → Tells g us (facts_from g us)) → Tells f (t ∷ ts) (facts_from f (t ∷ ts))
-tells_by true f t ts e i =
+reports_by : (b : Bool) (f : Info) (t : List ℕ) (ts : List (List ℕ)) → taking (t ∷ ts) ≡ b → ((g : Info) (us : List (List ℕ)) → length us < length (t ∷ ts) → ReportsFacts g us (facts_from g us)) → ReportsFacts f (t ∷ ts) (facts_from f (t ∷ ts))
+reports_by true f t ts e i =
     let k = take f t ts e in
-    subst (λ (g : Info). Tells f (t ∷ ts) g) (sym (takes_is f (t ∷ ts) k.told k.others k.takes)) (Tells.Taken k.takes (i k.told k.others k.shorter))
-tells_by false f t ts e i = string_or (is_word (codes "string") t) f t ts refl e (i f ts (omega arith))
+    subst (λ (g : Info). ReportsFacts f (t ∷ ts) g) (sym (takes_is f (t ∷ ts) k.reported k.others k.takes)) (ReportsFacts.Taken k.takes (i k.reported k.others k.shorter))
+reports_by false f t ts e i = string_or (is_word (codes "string") t) f t ts refl e (i f ts (omega arith))
 
-tells_within : (n : ℕ) (f : Info) (ts : List (List ℕ)) → length ts < n → Tells f ts (facts_from f ts)
-tells_within zero f ts l = absurd (omega (arith, l))
-tells_within (suc n) f [] l = Tells.End
-tells_within (suc n) f (t ∷ ts) l = tells_by (taking (t ∷ ts)) f t ts refl (λ g us k. tells_within n g us (omega (arith, l, k)))
+reports_within : (n : ℕ) (f : Info) (ts : List (List ℕ)) → length ts < n → ReportsFacts f ts (facts_from f ts)
+reports_within zero f ts l = absurd (omega (arith, l))
+reports_within (suc n) f [] l = ReportsFacts.End
+reports_within (suc n) f (t ∷ ts) l = reports_by (taking (t ∷ ts)) f t ts refl (λ g us k. reports_within n g us (omega (arith, l, k)))
 
-pub tells : (f : Info) (ts : List (List ℕ)) → Tells f ts (facts_from f ts)
-tells f ts = tells_within (suc (length ts)) f ts (omega arith)
+pub reports : (f : Info) (ts : List (List ℕ)) → ReportsFacts f ts (facts_from f ts)
+reports f ts = reports_within (suc (length ts)) f ts (omega arith)

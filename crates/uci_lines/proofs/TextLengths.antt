@@ -4,7 +4,7 @@ use Rattle.std.proofs.lemmas.Fmt.{length-decimal-le}
 use Rattle.std.proofs.lemmas.Bool.{and_parts}
 use Rattle.uci_lines.specs.declared.orders.GoControl.{GoControl}
 use Rattle.uci_lines.specs.declared.orders.GoControl.TheVariants.{Infinite, MoveTime, Clock}
-use Rattle.uci_lines.specs.Orders.{optional_text, optional_number, set_option_text, start_text, moves_text, position_text, ponder_text, control_text, go_text}
+use Rattle.uci_lines.specs.Orders.{optional_text, optional_number, set_option_text, order_start_text, order_moves_text, uci_position_text, ponder_text, control_text, go_text}
 use Rattle.uci_lines.specs.Written.{is_count, is_positive}
 use Rattle.uci_lines.specs.OrderReading.{is_positive_or_none, is_search}
 use Rattle.uci_lines.proofs.Searches.{count_below, positive_below, depth_fits}
@@ -46,14 +46,14 @@ optional_text_length (Some value) n h = omega (arith, length-append (codes " val
 pub setting_length : (name : List ℕ) (value : Option (List ℕ)) (n : ℕ) → length (optional_text [] value) ≤ n → length (set_option_text name value) ≤ 22 + length name + n
 setting_length name value n h = simp length-append (omega (arith, optional_text_length value n h))
 
-start_length : (fen : Option (List ℕ)) (n : ℕ) → length (optional_text [] fen) ≤ n → length (start_text fen) ≤ 8 + n
+start_length : (fen : Option (List ℕ)) (n : ℕ) → length (optional_text [] fen) ≤ n → length (order_start_text fen) ≤ 8 + n
 start_length None n h = omega arith
 start_length (Some fen) n h = omega (arith, length-append (codes "fen ") fen)
 
-moves_length : (moves : List ℕ) → length (moves_text moves) ≤ 7 + length moves
+moves_length : (moves : List ℕ) → length (order_moves_text moves) ≤ 7 + length moves
 moves_length [] = omega arith
 moves_length (b ∷ bs) = omega (arith, length-append (codes " moves ") (b ∷ bs))
 
 -- a `position` order
-pub position_length : (fen : Option (List ℕ)) (moves : List ℕ) (n : ℕ) → length (optional_text [] fen) ≤ n → length (position_text fen moves) ≤ 24 + n + length moves
+pub position_length : (fen : Option (List ℕ)) (moves : List ℕ) (n : ℕ) → length (optional_text [] fen) ≤ n → length (uci_position_text fen moves) ≤ 24 + n + length moves
 position_length fen moves n h = simp length-append (omega (arith, start_length fen n h, moves_length moves))

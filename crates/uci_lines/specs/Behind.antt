@@ -1,4 +1,4 @@
--- What follows fixed words and numbers.
+-- The rest behind fixed words and numbers.
 use Rattle.std.specs.Prelude.{ℕ, List, [], ◌∷◌, drop, decimal}
 use Rattle.std.specs.Prelude.{if◌then◌else◌, ◌==◌, Option, Some, None}
 use Rattle.std.specs.List.{before_first}
@@ -6,7 +6,7 @@ use Rattle.std.specs.Str.{bytes_eq}
 use Rattle.peer_words.specs.Tokens.{is_white, token_end}
 use Rattle.peer_words.specs.Numbers.{count}
 
--- what follows a word at the front
+-- what follows a word at the start
 abbrev pub after : List ℕ → List ℕ → Option (List ℕ)
 after [] text = Some text
 after (b ∷ bs) [] = None
@@ -24,15 +24,15 @@ abbrev pub count_with_rest : Option ℕ → List ℕ → Option (ℕ × List ℕ
 count_with_rest None others = None
 count_with_rest (Some n) others = Some (n, others)
 
--- the count at the front, up to white space, and what follows it
-abbrev pub number_in : Option (List ℕ) → Option (ℕ × List ℕ)
-number_in None = None
-number_in (Some text) =
+-- the count at the start, up to white space, and what follows it
+abbrev pub count_at_start : Option (List ℕ) → Option (ℕ × List ℕ)
+count_at_start None = None
+count_at_start (Some text) =
     count_with_rest (exact_count (before_first is_white text)) (drop (token_end text) text)
 
--- a word at the front and a count after it
+-- a word at the start and a count after it
 unfoldable pub number_behind : List ℕ → List ℕ → Option (ℕ × List ℕ)
-number_behind word text = number_in (after word text)
+number_behind word text = count_at_start (after word text)
 
 abbrev pub number_or : Option (ℕ × List ℕ) → List ℕ → Option ℕ × List ℕ
 number_or None text = (None, text)

@@ -2,7 +2,7 @@
 use Rattle.std.specs.Prelude.{ℕ, List, [], ◌∷◌, codes, length, drop, Bool}
 use Rattle.std.specs.Prelude.{true, ◌&&◌, if◌then◌else◌, Option, Some, None}
 use Rattle.std.specs.List.{before_first, onto_first}
-use Rattle.peer_words.specs.Tokens.{is_white, trimmed, first_token, rest}
+use Rattle.peer_words.specs.Tokens.{is_white, trimmed, first_token, rest_after_token}
 use Rattle.uci_lines.specs.Cuts.{Found, found_token, is_word, is_choice}
 
 -- A text, cut before each token that is `default` or `var`. The first piece is what is before all
@@ -18,7 +18,7 @@ pieces fresh (b ∷ bs) =
 abbrev pub values_among : List (List ℕ) → List (List ℕ)
 values_among [] = []
 values_among (piece ∷ others) =
-    if is_word (codes "var") (first_token piece) then rest piece ∷ values_among others
+    if is_word (codes "var") (first_token piece) then rest_after_token piece ∷ values_among others
     else values_among others
 
 -- the values of a combo

@@ -19,7 +19,7 @@ pub record Found : Type 0 where
 abbrev pub onto_part : ℕ → Found → Found
 onto_part b part = record { before = b ∷ part.before; word = part.word; after = part.after }
 
--- Where the first token that passes is. A token begins at the front only if the front is fresh:
+-- Where the first token that passes is. A token begins at the start only if the front is fresh:
 -- the start of the line, or after white space.
 abbrev pub found_token : (List ℕ → Bool) → Bool → List ℕ → Option Found
 found_token p fresh [] = None
@@ -46,12 +46,12 @@ is_known token =
 abbrev pub is_choice : List ℕ → Bool
 is_choice token = is_word (codes "default") token || is_word (codes "var") token
 
-abbrev pub stops : Delimiter → List ℕ → Bool
-stops Message token = is_known token
-stops Kind token = is_word (codes "type") token
-stops Default token = is_word (codes "default") token
-stops Choice token = is_choice token
-stops Ponder token = is_word (codes "ponder") token
+abbrev pub delimits : Delimiter → List ℕ → Bool
+delimits Message token = is_known token
+delimits Kind token = is_word (codes "type") token
+delimits Default token = is_word (codes "default") token
+delimits Choice token = is_choice token
+delimits Ponder token = is_word (codes "ponder") token
 
 abbrev pub found_of : CodeFound → Found
 found_of found = record {

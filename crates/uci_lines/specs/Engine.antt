@@ -1,27 +1,27 @@
--- What a line of the engine says.
+-- The meaning of a line of the engine.
 use Rattle.std.specs.Prelude.{ℕ, List, codes, true, if◌then◌else◌, Option, Some, None}
-use Rattle.peer_words.specs.Tokens.{first_token, rest}
+use Rattle.peer_words.specs.Tokens.{first_token, rest_after_token}
 use Rattle.chess_board.specs.declared.board.Move.{Move}
 use Rattle.uci_lines.specs.Cuts.{Found, found_token, is_word, is_known}
-use Rattle.chess_board.specs.Spelling.{move_of}
+use Rattle.chess_board.specs.Spelling.{move_spelled_by}
 use Rattle.uci_lines.specs.Options.{option_said}
 use Rattle.uci_lines.specs.Infos.{facts_in}
 use Rattle.uci_lines.specs.Messages.{EngineMsg, Name, UciOk, ReadyOk, Best, Info, Nothing}
 
 -- after `id`
 abbrev pub name_said : List ℕ → EngineMsg
-name_said text = if is_word (codes "name") (first_token text) then Name (rest text) else Nothing
+name_said text = if is_word (codes "name") (first_token text) then Name (rest_after_token text) else Nothing
 
 -- after `ponder`
-abbrev pub hint_in : Option Found → Option Move
-hint_in None = None
-hint_in (Some part) = move_of (first_token part.after)
+abbrev pub hint_in_bestmove : Option Found → Option Move
+hint_in_bestmove None = None
+hint_in_bestmove (Some part) = move_spelled_by (first_token part.after)
 
 -- after `bestmove`
 abbrev pub best_said : List ℕ → EngineMsg
 best_said text =
-    Best (move_of (first_token text))
-    (hint_in (found_token (is_word (codes "ponder")) true (rest text)))
+    Best (move_spelled_by (first_token text))
+    (hint_in_bestmove (found_token (is_word (codes "ponder")) true (rest_after_token text)))
 
 -- a known word, with what follows it
 abbrev pub said_after : List ℕ → List ℕ → EngineMsg
@@ -33,10 +33,10 @@ said_after word text =
     else (if is_word (codes "info") word then Info (facts_in text)
     else option_said text))))
 
-abbrev pub said_by : Option Found → EngineMsg
-said_by None = Nothing
-said_by (Some part) = said_after part.word part.after
+abbrev pub found_message : Option Found → EngineMsg
+found_message None = Nothing
+found_message (Some part) = said_after part.word part.after
 
 -- what is before the first known word is ignored
 unfoldable pub engine_message : List ℕ → EngineMsg
-engine_message line = said_by (found_token is_known true line)
+engine_message line = found_message (found_token is_known true line)

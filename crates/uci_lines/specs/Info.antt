@@ -1,10 +1,10 @@
--- What an engine reports of its search.
+-- The engine's report on its search.
 use Rattle.std.specs.Prelude.{ℕ, Bool, List, Option}
 use Rattle.peer_words.specs.Tokens.{tokens}
 use Rattle.chess_board.specs.declared.board.Move.{Move}
 use Rattle.uci_lines.specs.declared.messages.Score.{Score}
 use Rattle.uci_lines.specs.declared.messages.Info as code
-use Rattle.uci_lines.specs.Moves.{run}
+use Rattle.uci_lines.specs.Moves.{longest_move_run}
 
 -- what an engine reports of its search, with the moves of its pv
 pub record Info : Type 0 where
@@ -28,5 +28,5 @@ info_of i = record {
   score = i.score;
   bound = i.bound;
   current = i.current;
-  pv = run (tokens i.pv.now);
+  pv = longest_move_run (tokens i.pv.now);
 }

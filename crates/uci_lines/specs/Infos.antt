@@ -1,4 +1,4 @@
--- What an engine reports of its search.
+-- The engine's report on its search.
 use Rattle.std.specs.Prelude.{ℕ, List, [], ◌∷◌, codes, Bool, true}
 use Rattle.std.specs.Prelude.{false, if◌then◌else◌, Option, None}
 use Rattle.std.specs.Option.{option_or, option_map}
@@ -10,8 +10,8 @@ use Rattle.uci_lines.specs.declared.messages.Score.TheVariants.{Cp, Mate}
 use Rattle.uci_lines.specs.declared.info.InfoField.{InfoField}
 use Rattle.uci_lines.specs.declared.info.InfoField.TheVariants as fields
 use Rattle.uci_lines.specs.Cuts.{is_word}
-use Rattle.chess_board.specs.Spelling.{move_of}
-use Rattle.uci_lines.specs.Moves.{run}
+use Rattle.chess_board.specs.Spelling.{move_spelled_by}
+use Rattle.uci_lines.specs.Moves.{longest_move_run}
 use Rattle.uci_lines.specs.Info.{Info}
 
 -- the field that a token names
@@ -46,14 +46,14 @@ first_score (unit ∷ number ∷ ts) = score_of unit number
 
 abbrev pub first_move : List (List ℕ) → Option Move
 first_move [] = None
-first_move (t ∷ ts) = move_of t
+first_move (t ∷ ts) = move_spelled_by t
 
 -- a run of moves takes the place of an earlier one, unless it is empty
 abbrev pub newer_run : List Move → List Move → List Move
 newer_run [] old = old
 newer_run (m ∷ moves) old = m ∷ moves
 
--- What a field says, with the tokens after its word. If what must follow does not, nothing changes.
+-- The meaning of a field, with the tokens after its word. If what must follow does not, nothing changes.
 abbrev pub hear : InfoField → Info → List (List ℕ) → Info
 hear fields.Depth f ts = record f { depth = option_or (first_count ts) f.depth }
 hear fields.Time f ts = record f { time = option_or (first_count ts) f.time }
@@ -63,7 +63,7 @@ hear fields.Number f ts = record f { number = option_or (first_count ts) f.numbe
 hear fields.Score f ts = record f { score = option_or (first_score ts) f.score }
 hear fields.Bound f ts = record f { bound = true }
 hear fields.Current f ts = record f { current = option_or (first_move ts) f.current }
-hear fields.Pv f ts = record f { pv = newer_run (run ts) f.pv }
+hear fields.Pv f ts = record f { pv = newer_run (longest_move_run ts) f.pv }
 hear fields.Text f ts = f
 hear fields.Other f ts = f
 

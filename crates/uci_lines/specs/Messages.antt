@@ -1,4 +1,4 @@
--- What an engine says, whatever memory its texts lie in.
+-- The messages of an engine, whatever memory their texts lie in.
 use Rattle.std.specs.Prelude.{ℕ, ℤ, Bool, List, Option, Some, None}
 use Rattle.chess_board.specs.declared.board.Move.{Move}
 use Rattle.uci_lines.specs.declared.messages.OptionMsg.{OptionMsg}
@@ -38,12 +38,12 @@ abbrev pub declared_by : Option OptionMsg → EngineMsg
 declared_by None = Nothing
 declared_by (Some option) = OptionLine option.name.now (option_kind_of option.kind)
 
-abbrev pub engine_message_of : CodeEngineMsg → EngineMsg
-engine_message_of (messages.Name text) = Name text.now
-engine_message_of messages.UciOk = UciOk
-engine_message_of messages.ReadyOk = ReadyOk
-engine_message_of (messages.Best best hint) = Best best hint
-engine_message_of (messages.OptionLine option) =
+abbrev pub uci_message_of : CodeEngineMsg → EngineMsg
+uci_message_of (messages.Name text) = Name text.now
+uci_message_of messages.UciOk = UciOk
+uci_message_of messages.ReadyOk = ReadyOk
+uci_message_of (messages.Best best hint) = Best best hint
+uci_message_of (messages.OptionLine option) =
     OptionLine option.name.now (option_kind_of option.kind)
-engine_message_of (messages.Info info) = Info (info_of info)
-engine_message_of messages.Nothing = Nothing
+uci_message_of (messages.Info info) = Info (info_of info)
+uci_message_of messages.Nothing = Nothing

@@ -3,7 +3,7 @@ use Rattle.std.specs.Prelude.{ℤ, int_lt, ℕ, List, [], ◌∷◌, codes, Bool
 use Rattle.std.specs.Prelude.{false, if◌then◌else◌, Option, Some, None}
 use Rattle.std.specs.Int.{int_min, int_max}
 use Rattle.std.specs.Option.{option_or}
-use Rattle.peer_words.specs.Tokens.{tokens, trimmed, first_token, rest}
+use Rattle.peer_words.specs.Tokens.{tokens, trimmed, first_token, rest_after_token}
 use Rattle.peer_words.specs.Numbers.{signed_number}
 use Rattle.uci_lines.specs.declared.range.SpinRange.{SpinRange as Numbers}
 use Rattle.uci_lines.specs.Cuts.{Found, found_token, is_word}
@@ -22,8 +22,8 @@ pub record SpinRange : Type 0 where
   pub min : Option ℤ
   pub max : Option ℤ
 
-abbrev pub range_of : Numbers → SpinRange
-range_of n = record { default = n.default; min = n.min; max = n.max }
+abbrev pub range_of_spin : Numbers → SpinRange
+range_of_spin n = record { default = n.default; min = n.min; max = n.max }
 
 abbrev pub first_signed : List (List ℕ) → Option ℤ
 first_signed [] = None
@@ -57,12 +57,12 @@ abbrev pub spin_in : SpinRange → Option OptionKind
 spin_in r = spin r.default r.min r.max
 
 -- `<empty>` is the empty text
-abbrev pub shown_text : List ℕ → List ℕ
-shown_text text = if is_word (codes "<empty>") text then [] else text
+abbrev pub option_text_shown : List ℕ → List ℕ
+option_text_shown text = if is_word (codes "<empty>") text then [] else text
 
 abbrev pub text_after : Option Found → List ℕ
 text_after None = []
-text_after (Some part) = shown_text (trimmed part.after)
+text_after (Some part) = option_text_shown (trimmed part.after)
 
 -- the kind of an option by its word, with the rest of the line
 abbrev pub shape_named : List ℕ → List ℕ → Option OptionKind
@@ -76,19 +76,19 @@ shape_named word text =
     then Some (Text (text_after (found_token (is_word (codes "default")) true text)))
     else None))))
 
-abbrev pub option_line : List ℕ → Option OptionKind → EngineMsg
-option_line name None = Nothing
-option_line name (Some shape) = OptionLine name shape
+abbrev pub uci_option_line : List ℕ → Option OptionKind → EngineMsg
+uci_option_line name None = Nothing
+uci_option_line name (Some shape) = OptionLine name shape
 
 -- the name is before the first `type`
 abbrev pub option_with : Option Found → EngineMsg
 option_with None = Nothing
 option_with (Some part) =
-    option_line (trimmed part.before) (shape_named (first_token part.after) (rest part.after))
+    uci_option_line (trimmed part.before) (shape_named (first_token part.after) (rest_after_token part.after))
 
 -- what follows `option`
 unfoldable pub option_said : List ℕ → EngineMsg
 option_said text =
     if is_word (codes "name") (first_token text)
-    then option_with (found_token (is_word (codes "type")) true (rest text))
+    then option_with (found_token (is_word (codes "type")) true (rest_after_token text))
     else Nothing

@@ -8,20 +8,20 @@ use Rattle.fen_text.specs.Written.{position_fen}
 use Rattle.uci_lines.specs.declared.orders.GoControl.{GoControl}
 use Rattle.uci_lines.specs.declared.orders.GoControl.TheVariants.{Infinite, MoveTime, Clock}
 use Rattle.uci_lines.specs.Behind.{after, number_behind, perhaps_number}
-use Rattle.uci_lines.specs.Written.{is_text, value_cut, holds_value, is_moves}
+use Rattle.uci_lines.specs.Written.{is_trimmed_text, option_value_cut, holds_value, is_moves}
 use Rattle.uci_lines.specs.Written.{is_fen, fields_before, is_count, is_positive}
 use Rattle.uci_lines.specs.Orders.{Order, Uci, IsReady, NewGame, Stop, PonderHit}
-use Rattle.uci_lines.specs.Orders.{Quit, SetOption, Position, Go, order_text}
+use Rattle.uci_lines.specs.Orders.{Quit, SetOption, Position, Go, uci_order_text}
 
 -- The name ends before the first ` value `.
-abbrev pub is_setting : List ℕ → Option (List ℕ) → Bool
-is_setting name None = is_text name && not (holds_value name)
-is_setting name (Some value) =
-    is_text name && is_text value && not (holds_value (name ++ codes " value"))
+abbrev pub is_writable_setting : List ℕ → Option (List ℕ) → Bool
+is_writable_setting name None = is_trimmed_text name && not (holds_value name)
+is_writable_setting name (Some value) =
+    is_trimmed_text name && is_trimmed_text value && not (holds_value (name ++ codes " value"))
 
-abbrev pub is_start : Option (List ℕ) → Bool
-is_start None = true
-is_start (Some fen) = is_fen fen
+abbrev pub is_writable_start : Option (List ℕ) → Bool
+is_writable_start None = true
+is_writable_start (Some fen) = is_fen fen
 
 abbrev pub is_played : List ℕ → Bool
 is_played [] = true
@@ -45,24 +45,24 @@ is_search ponder (Clock wtime btime winc binc movestogo) depth =
     && is_positive_or_none movestogo && is_positive_or_none depth
 
 -- whether an order may be written
-abbrev pub is_order : Order → Bool
-is_order (SetOption name value) = is_setting name value
-is_order (Position fen moves) = is_start fen && is_played moves
-is_order (Go ponder control depth) = is_search ponder control depth
-is_order _ = true
+abbrev pub is_writable_order : Order → Bool
+is_writable_order (SetOption name value) = is_writable_setting name value
+is_writable_order (Position fen moves) = is_writable_start fen && is_played moves
+is_writable_order (Go ponder control depth) = is_search ponder control depth
+is_writable_order _ = true
 
-abbrev pub where_true : Bool → Order → Option Order
-where_true true order = Some order
-where_true false order = None
+abbrev pub order_where : Bool → Order → Option Order
+order_where true order = Some order
+order_where false order = None
 
 -- after `setoption name `
 abbrev pub setting_by : Option (List ℕ × List ℕ) → List ℕ → Option Order
-setting_by None text = where_true (is_text text) (SetOption text None)
+setting_by None text = order_where (is_trimmed_text text) (SetOption text None)
 setting_by (Some halves) text =
-    where_true (is_text halves.0 && is_text halves.1) (SetOption halves.0 (Some halves.1))
+    order_where (is_trimmed_text halves.0 && is_trimmed_text halves.1) (SetOption halves.0 (Some halves.1))
 
-abbrev pub setting_in : List ℕ → Option Order
-setting_in text = setting_by (value_cut text) text
+abbrev pub setting_order_in : List ℕ → Option Order
+setting_order_in text = setting_by (option_value_cut text) text
 
 -- after the start of a position
 abbrev pub moves_by : Option (List ℕ) → Option (List ℕ)
@@ -77,21 +77,21 @@ abbrev pub position_order_from : Option (List ℕ) → Option (List ℕ) → Opt
 position_order_from fen None = None
 position_order_from fen (Some moves) = Some (Position fen moves)
 
-abbrev pub set_up : List ℕ × List ℕ → Option Order
-set_up halves =
+abbrev pub setup_order : List ℕ × List ℕ → Option Order
+setup_order halves =
     if is_fen halves.0 then position_order_from (Some halves.0) (moves_in halves.1) else None
 
 abbrev pub fen_in : Option (List ℕ) → Option Order
 fen_in None = None
-fen_in (Some text) = set_up (fields_before 5 text)
+fen_in (Some text) = setup_order (fields_before 5 text)
 
-abbrev pub start_in : Option (List ℕ) → List ℕ → Option Order
-start_in (Some others) text = position_order_from None (moves_in others)
-start_in None text = fen_in (after (codes "fen ") text)
+abbrev pub start_order_in : Option (List ℕ) → List ℕ → Option Order
+start_order_in (Some others) text = position_order_from None (moves_in others)
+start_order_in None text = fen_in (after (codes "fen ") text)
 
 -- after `position `
 abbrev pub position_in : List ℕ → Option Order
-position_in text = start_in (after (codes "startpos") text) text
+position_in text = start_order_in (after (codes "startpos") text) text
 
 -- the four numbers of a clock, and the moves to go
 abbrev pub clock_four : ℕ → ℕ → ℕ → Option (ℕ × List ℕ) → Option (GoControl × List ℕ)
@@ -129,13 +129,13 @@ infinite_or None text = time_or_clock (number_behind (codes " movetime ") text) 
 unfoldable pub control_in : List ℕ → Option (GoControl × List ℕ)
 control_in text = infinite_or (after (codes " infinite") text) text
 
-abbrev pub is_nil : List ℕ → Bool
-is_nil [] = true
-is_nil (b ∷ bs) = false
+abbrev pub has_no_token : List ℕ → Bool
+has_no_token [] = true
+has_no_token (b ∷ bs) = false
 
 abbrev pub search_end : Bool → GoControl → Option ℕ × List ℕ → Option Order
 search_end ponder control depth =
-    where_true (is_nil depth.1 && is_search ponder control depth.0) (Go ponder control depth.0)
+    order_where (has_no_token depth.1 && is_search ponder control depth.0) (Go ponder control depth.0)
 
 abbrev pub search_with : Bool → Option (GoControl × List ℕ) → Option Order
 search_with ponder None = None
@@ -159,7 +159,7 @@ position_or (Some text) line = position_in text
 position_or None line = search_or_none (after (codes "go") line)
 
 abbrev pub setting_or : Option (List ℕ) → List ℕ → Option Order
-setting_or (Some text) line = setting_in text
+setting_or (Some text) line = setting_order_in text
 setting_or None line = position_or (after (codes "position ") line) line
 
 abbrev pub long_order : List ℕ → Option Order
@@ -178,8 +178,8 @@ order_in line =
 
 -- a line is the text of an order that may be written
 pub record SpellsOrder (line : List ℕ) (order : Order) : Type 0 where
-  pub fits : is_order order ≡ true
-  pub text : line ≡ order_text order
+  pub fits : is_writable_order order ≡ true
+  pub text : line ≡ uci_order_text order
 
 -- The text of every position may stand in an order.
 abbrev pub TakesPositions : Type 0

@@ -28,13 +28,13 @@ abbrev pub optional_number : List ℕ → Option ℕ → List ℕ
 optional_number word None = []
 optional_number word (Some n) = word ++ decimal n
 
-abbrev pub start_text : Option (List ℕ) → List ℕ
-start_text None = codes "startpos"
-start_text (Some fen) = codes "fen " ++ fen
+abbrev pub order_start_text : Option (List ℕ) → List ℕ
+order_start_text None = codes "startpos"
+order_start_text (Some fen) = codes "fen " ++ fen
 
-abbrev pub moves_text : List ℕ → List ℕ
-moves_text [] = []
-moves_text (b ∷ bs) = codes " moves " ++ b ∷ bs
+abbrev pub order_moves_text : List ℕ → List ℕ
+order_moves_text [] = []
+order_moves_text (b ∷ bs) = codes " moves " ++ b ∷ bs
 
 abbrev pub ponder_text : Bool → List ℕ
 ponder_text false = []
@@ -52,8 +52,8 @@ abbrev pub set_option_text : List ℕ → Option (List ℕ) → List ℕ
 set_option_text name value =
     codes "setoption name " ++ name ++ optional_text (codes " value ") value
 
-abbrev pub position_text : Option (List ℕ) → List ℕ → List ℕ
-position_text fen moves = codes "position " ++ start_text fen ++ moves_text moves
+abbrev pub uci_position_text : Option (List ℕ) → List ℕ → List ℕ
+uci_position_text fen moves = codes "position " ++ order_start_text fen ++ order_moves_text moves
 
 abbrev pub go_text : Bool → GoControl → Option ℕ → List ℕ
 go_text ponder control depth =
@@ -61,28 +61,28 @@ go_text ponder control depth =
     ++ optional_number (codes " depth ") depth
 
 -- the text of an order, without its line feed
-unfoldable pub order_text : Order → List ℕ
-order_text Uci = codes "uci"
-order_text IsReady = codes "isready"
-order_text NewGame = codes "ucinewgame"
-order_text Stop = codes "stop"
-order_text PonderHit = codes "ponderhit"
-order_text Quit = codes "quit"
-order_text (SetOption name value) = set_option_text name value
-order_text (Position fen moves) = position_text fen moves
-order_text (Go ponder control depth) = go_text ponder control depth
+unfoldable pub uci_order_text : Order → List ℕ
+uci_order_text Uci = codes "uci"
+uci_order_text IsReady = codes "isready"
+uci_order_text NewGame = codes "ucinewgame"
+uci_order_text Stop = codes "stop"
+uci_order_text PonderHit = codes "ponderhit"
+uci_order_text Quit = codes "quit"
+uci_order_text (SetOption name value) = set_option_text name value
+uci_order_text (Position fen moves) = uci_position_text fen moves
+uci_order_text (Go ponder control depth) = go_text ponder control depth
 
 abbrev pub optional_now : Option (Bor (List ℕ)) → Option (List ℕ)
 optional_now None = None
 optional_now (Some text) = Some text.now
 
-abbrev pub order_of : CodeOrder → Order
-order_of orders.Uci = Uci
-order_of orders.IsReady = IsReady
-order_of orders.NewGame = NewGame
-order_of orders.Stop = Stop
-order_of orders.PonderHit = PonderHit
-order_of orders.Quit = Quit
-order_of (orders.SetOption name value) = SetOption name.now (optional_now value)
-order_of (orders.Position fen moves) = Position (optional_now fen) moves.now
-order_of (orders.Go ponder control depth) = Go ponder control depth
+abbrev pub uci_order_of : CodeOrder → Order
+uci_order_of orders.Uci = Uci
+uci_order_of orders.IsReady = IsReady
+uci_order_of orders.NewGame = NewGame
+uci_order_of orders.Stop = Stop
+uci_order_of orders.PonderHit = PonderHit
+uci_order_of orders.Quit = Quit
+uci_order_of (orders.SetOption name value) = SetOption name.now (optional_now value)
+uci_order_of (orders.Position fen moves) = Position (optional_now fen) moves.now
+uci_order_of (orders.Go ponder control depth) = Go ponder control depth

@@ -3,13 +3,13 @@ use Rattle.std.specs.Prelude.{◌≡◌, ◌≢◌, ◌⊎◌, ℕ, ℤ, int_lt,
 use Rattle.std.specs.Prelude.{codes, Bool, true, false, not, Option, Some, None}
 use Rattle.std.specs.Int.{int_min, int_max}
 use Rattle.std.specs.List.{list_all}
-use Rattle.peer_words.specs.Tokens.{is_white, is_token, tokens, trimmed, first_token, rest}
+use Rattle.peer_words.specs.Tokens.{is_white, is_token, tokens, trimmed, first_token, rest_after_token}
 use Rattle.peer_words.specs.Numbers.{count, centis, signed_number}
 use Rattle.chess_board.specs.declared.board.Move.{Move}
-use Rattle.chess_board.specs.Text.{Spells as MoveSpells}
+use Rattle.chess_board.specs.Text.{SpellsMove as MoveSpells}
 use Rattle.uci_lines.specs.declared.messages.Score.TheVariants.{Cp, Mate}
 use Rattle.uci_lines.specs.Cuts.{Found, is_word, is_known, is_choice}
-use Rattle.uci_lines.specs.Options.{shown_text}
+use Rattle.uci_lines.specs.Options.{option_text_shown}
 use Rattle.uci_lines.specs.Infos.{no_facts}
 use Rattle.uci_lines.specs.Info.{Info as AnyInfo}
 use Rattle.uci_lines.specs.Messages.{OptionKind, Check, Spin, Combo, Button, Text, EngineMsg}
@@ -31,7 +31,7 @@ abbrev pub IsNoneOf : (List ℕ → Bool) → List (List ℕ) → Type 0
 IsNoneOf p ts = list_all (λ t. not (p t)) ts ≡ true
 
 -- The first token of a text that passes, between the bytes before and after it.
-pub record IsFirst (p : List ℕ → Bool) (text : List ℕ) (part : Found) : Type 0 where
+pub record FirstTokenPasses (p : List ℕ → Bool) (text : List ℕ) (part : Found) : Type 0 where
   pub whole : text ≡ part.before ++ (part.word ++ part.after)
   pub token : is_token part.word ≡ true
   pub passes : p part.word ≡ true
@@ -43,7 +43,7 @@ pub record IsFirst (p : List ℕ → Bool) (text : List ℕ) (part : Found) : Ty
 abbrev pub Behind : List ℕ → List ℕ → List ℕ → Type 0
 Behind word text others =
     (IsNoneOf (is_word word) (tokens text) × (others ≡ []))
-    ⊎ ((part : Found) × IsFirst (is_word word) text part × (others ≡ part.after))
+    ⊎ ((part : Found) × FirstTokenPasses (is_word word) text part × (others ≡ part.after))
 
 -- the move that a text spells, or none if it spells none
 abbrev pub PerhapsMove : List ℕ → Option Move → Type 0
@@ -66,17 +66,17 @@ pub record IsLast (word : List ℕ) (ts : List (List ℕ)) (n : ℤ) : Type 0 wh
 abbrev pub UpToChoice : List ℕ → List ℕ → Type 0
 UpToChoice text value =
     (IsNoneOf is_choice (tokens text) × (value ≡ trimmed text))
-    ⊎ ((part : Found) × IsFirst is_choice text part × (value ≡ trimmed part.before))
+    ⊎ ((part : Found) × FirstTokenPasses is_choice text part × (value ≡ trimmed part.before))
 
 -- The values of a combo: each `var` takes the bytes up to the next `default` or `var`.
 pub data HasValues : List ℕ → List (List ℕ) → Type 0 where
   Ended : {text : List ℕ} → IsNoneOf is_choice (tokens text) → HasValues text []
   Var : {text value : List ℕ} → {values : List (List ℕ)} → (part : Found)
-      → IsFirst is_choice text part → part.word ≡ codes "var" → UpToChoice part.after value
+      → FirstTokenPasses is_choice text part → part.word ≡ codes "var" → UpToChoice part.after value
       → HasValues part.after values
       → HasValues text (value ∷ values)
   Default : {text : List ℕ} → {values : List (List ℕ)} → (part : Found)
-      → IsFirst is_choice text part → part.word ≡ codes "default" → HasValues part.after values
+      → FirstTokenPasses is_choice text part → part.word ≡ codes "default" → HasValues part.after values
       → HasValues text values
 
 -- the kind of an option, by the word after `type` and what follows it
@@ -95,88 +95,88 @@ HasShape word text (Combo default values) =
 HasShape word text Button = word ≡ codes "button"
 HasShape word text (Text default) =
     (word ≡ codes "string") × (others : List ℕ) × Behind (codes "default") text others
-    × (default ≡ shown_text (trimmed others))
+    × (default ≡ option_text_shown (trimmed others))
 
 -- what follows `option`: `name`, the name up to the first `type`, and the kind
 abbrev pub Declares : List ℕ → List ℕ → OptionKind → Type 0
 Declares text name shape =
     (first_token text ≡ codes "name")
-    × (part : Found) × IsFirst (is_word (codes "type")) (rest text) part
+    × (part : Found) × FirstTokenPasses (is_word (codes "type")) (rest_after_token text) part
     × (name ≡ trimmed part.before)
-    × HasShape (first_token part.after) (rest part.after) shape
+    × HasShape (first_token part.after) (rest_after_token part.after) shape
 
--- WHAT IS TOLD OF A SEARCH
+-- WHAT IS REPORTED OF A SEARCH
 
 -- no move text is first
 abbrev pub NoMoveFirst : List (List ℕ) → Type 0
 NoMoveFirst [] = Unit {0}
 NoMoveFirst (t ∷ ts) = (m : Move) → MoveSpells t m → ⊥
 
--- the longest run of move texts at the front, and the tokens after it
+-- the longest run of move texts at the start, and the tokens after it
 pub data IsRun : List (List ℕ) → List Move → List (List ℕ) → Type 0 where
   Ends : {ts : List (List ℕ)} → NoMoveFirst ts → IsRun ts [] ts
   Goes : {t : List ℕ} → {m : Move} → {ts others : List (List ℕ)} → {moves : List Move}
       → MoveSpells t m → IsRun ts moves others → IsRun (t ∷ ts) (m ∷ moves) others
 
--- A field at the front of the tokens takes its value: what is reported then, and
+-- A field at the start of the tokens takes its value: what is reported then, and
 -- the tokens that are left.
-pub data Takes (f : AnyInfo) : List (List ℕ) → AnyInfo → List (List ℕ) → Type 0 where
+pub data FieldTakesValue (f : AnyInfo) : List (List ℕ) → AnyInfo → List (List ℕ) → Type 0 where
   Depth : {t : List ℕ} → {ts : List (List ℕ)} → {n : ℕ} → count t ≡ Some n
-      → Takes f (codes "depth" ∷ t ∷ ts) (record f { depth = Some n }) ts
+      → FieldTakesValue f (codes "depth" ∷ t ∷ ts) (record f { depth = Some n }) ts
   Time : {t : List ℕ} → {ts : List (List ℕ)} → {n : ℕ} → count t ≡ Some n
-      → Takes f (codes "time" ∷ t ∷ ts) (record f { time = Some n }) ts
+      → FieldTakesValue f (codes "time" ∷ t ∷ ts) (record f { time = Some n }) ts
   Nodes : {t : List ℕ} → {ts : List (List ℕ)} → {n : ℕ} → count t ≡ Some n
-      → Takes f (codes "nodes" ∷ t ∷ ts) (record f { nodes = Some n }) ts
+      → FieldTakesValue f (codes "nodes" ∷ t ∷ ts) (record f { nodes = Some n }) ts
   MultiPv : {t : List ℕ} → {ts : List (List ℕ)} → {n : ℕ} → count t ≡ Some n
-      → Takes f (codes "multipv" ∷ t ∷ ts) (record f { multipv = Some n }) ts
+      → FieldTakesValue f (codes "multipv" ∷ t ∷ ts) (record f { multipv = Some n }) ts
   Number : {t : List ℕ} → {ts : List (List ℕ)} → {n : ℕ} → count t ≡ Some n
-      → Takes f (codes "currmovenumber" ∷ t ∷ ts) (record f { number = Some n }) ts
+      → FieldTakesValue f (codes "currmovenumber" ∷ t ∷ ts) (record f { number = Some n }) ts
   Centipawns : {t : List ℕ} → {ts : List (List ℕ)} → {n : ℤ} → centis t ≡ Some n
-      → Takes f (codes "score" ∷ codes "cp" ∷ t ∷ ts) (record f { score = Some (Cp n) }) ts
+      → FieldTakesValue f (codes "score" ∷ codes "cp" ∷ t ∷ ts) (record f { score = Some (Cp n) }) ts
   ToMate : {t : List ℕ} → {ts : List (List ℕ)} → {n : ℤ} → centis t ≡ Some n
-      → Takes f (codes "score" ∷ codes "mate" ∷ t ∷ ts) (record f { score = Some (Mate n) }) ts
+      → FieldTakesValue f (codes "score" ∷ codes "mate" ∷ t ∷ ts) (record f { score = Some (Mate n) }) ts
   LowerBound : {ts : List (List ℕ)}
-      → Takes f (codes "lowerbound" ∷ ts) (record f { bound = true }) ts
+      → FieldTakesValue f (codes "lowerbound" ∷ ts) (record f { bound = true }) ts
   UpperBound : {ts : List (List ℕ)}
-      → Takes f (codes "upperbound" ∷ ts) (record f { bound = true }) ts
+      → FieldTakesValue f (codes "upperbound" ∷ ts) (record f { bound = true }) ts
   Current : {t : List ℕ} → {ts : List (List ℕ)} → {m : Move} → MoveSpells t m
-      → Takes f (codes "currmove" ∷ t ∷ ts) (record f { current = Some m }) ts
+      → FieldTakesValue f (codes "currmove" ∷ t ∷ ts) (record f { current = Some m }) ts
   Pv : {ts others : List (List ℕ)} → {m : Move} → {moves : List Move} → IsRun ts (m ∷ moves) others
-      → Takes f (codes "pv" ∷ ts) (record f { pv = m ∷ moves }) others
+      → FieldTakesValue f (codes "pv" ∷ ts) (record f { pv = m ∷ moves }) others
 
--- What is reported in the end, by the tokens from left to right: a later value replaces an earlier
+-- The final report, by the tokens from left to right: a later value replaces an earlier
 -- one, and a token that takes nothing is skipped.
-pub data Tells : AnyInfo → List (List ℕ) → AnyInfo → Type 0 where
-  End : {f : AnyInfo} → Tells f [] f
-  Rest : {f : AnyInfo} → {ts : List (List ℕ)} → Tells f (codes "string" ∷ ts) f
-  Taken : {f g h : AnyInfo} → {ts others : List (List ℕ)} → Takes f ts g others → Tells g others h
-      → Tells f ts h
+pub data ReportsFacts : AnyInfo → List (List ℕ) → AnyInfo → Type 0 where
+  End : {f : AnyInfo} → ReportsFacts f [] f
+  Rest : {f : AnyInfo} → {ts : List (List ℕ)} → ReportsFacts f (codes "string" ∷ ts) f
+  Taken : {f g h : AnyInfo} → {ts others : List (List ℕ)} → FieldTakesValue f ts g others → ReportsFacts g others h
+      → ReportsFacts f ts h
   Skipped : {f h : AnyInfo} → {t : List ℕ} → {ts : List (List ℕ)} → t ≢ codes "string"
-      → ((g : AnyInfo) (others : List (List ℕ)) → Takes f (t ∷ ts) g others → ⊥)
-      → Tells f ts h → Tells f (t ∷ ts) h
+      → ((g : AnyInfo) (others : List (List ℕ)) → FieldTakesValue f (t ∷ ts) g others → ⊥)
+      → ReportsFacts f ts h → ReportsFacts f (t ∷ ts) h
 
 -- MESSAGES
 
 -- the first known word of a line, and what follows it
-abbrev pub Begins : List ℕ → List ℕ → List ℕ → Type 0
-Begins line word text =
-    (part : Found) × IsFirst is_known line part × (part.word ≡ word) × (part.after ≡ text)
+abbrev pub FirstKnownWordIs : List ℕ → List ℕ → List ℕ → Type 0
+FirstKnownWordIs line word text =
+    (part : Found) × FirstTokenPasses is_known line part × (part.word ≡ word) × (part.after ≡ text)
 
 -- a line has the form of a message
 abbrev pub HasForm : List ℕ → EngineMsg → Type 0
 HasForm line (Name name) =
-    (text : List ℕ) × Begins line (codes "id") text × (first_token text ≡ codes "name")
-    × (name ≡ rest text)
-HasForm line UciOk = (text : List ℕ) × Begins line (codes "uciok") text
-HasForm line ReadyOk = (text : List ℕ) × Begins line (codes "readyok") text
+    (text : List ℕ) × FirstKnownWordIs line (codes "id") text × (first_token text ≡ codes "name")
+    × (name ≡ rest_after_token text)
+HasForm line UciOk = (text : List ℕ) × FirstKnownWordIs line (codes "uciok") text
+HasForm line ReadyOk = (text : List ℕ) × FirstKnownWordIs line (codes "readyok") text
 HasForm line (Best best hint) =
-    (text : List ℕ) × Begins line (codes "bestmove") text × PerhapsMove (first_token text) best
-    × (others : List ℕ) × Behind (codes "ponder") (rest text) others
+    (text : List ℕ) × FirstKnownWordIs line (codes "bestmove") text × PerhapsMove (first_token text) best
+    × (others : List ℕ) × Behind (codes "ponder") (rest_after_token text) others
     × PerhapsMove (first_token others) hint
 HasForm line (OptionLine name shape) =
-    (text : List ℕ) × Begins line (codes "option") text × Declares text name shape
+    (text : List ℕ) × FirstKnownWordIs line (codes "option") text × Declares text name shape
 HasForm line (Info facts) =
-    (text : List ℕ) × Begins line (codes "info") text × Tells no_facts (tokens text) facts
+    (text : List ℕ) × FirstKnownWordIs line (codes "info") text × ReportsFacts no_facts (tokens text) facts
 HasForm line Nothing = ⊥
 
 -- A line spells a message: the one whose form it has, and Nothing if it has none.
@@ -185,7 +185,7 @@ SpellsMessage line Nothing = (m : EngineMsg) → HasForm line m → ⊥
 SpellsMessage line m = HasForm line m
 
 -- A line spells exactly one message.
-abbrev pub SpellsOneMessage : Type 0
-SpellsOneMessage =
+abbrev pub SpellsOneEngineMessage : Type 0
+SpellsOneEngineMessage =
     (line : List ℕ)
     → (m : EngineMsg) × SpellsMessage line m × ((k : EngineMsg) → SpellsMessage line k → k ≡ m)

@@ -8,7 +8,7 @@ use Rattle.uci_lines.specs.Messages.{EngineMsg, Best, Info}
 abbrev pub can_write : Option Move → Type 0
 can_write m = IfSome m (λ k. IsOfficer k.promotion)
 
-abbrev pub CanWrite : EngineMsg → Type 0
-CanWrite (Best best hint) = can_write best × can_write hint
-CanWrite (Info facts) = can_write facts.current
-CanWrite _ = Unit {0}
+abbrev pub CanWriteEngineMsg : EngineMsg → Type 0
+CanWriteEngineMsg (Best best hint) = can_write best × can_write hint
+CanWriteEngineMsg (Info facts) = can_write facts.current
+CanWriteEngineMsg _ = Unit {0}

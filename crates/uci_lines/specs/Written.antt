@@ -8,18 +8,18 @@ use Rattle.std.specs.Str.{bytes_eq}
 use Rattle.peer_words.specs.Tokens.{trimmed}
 use Rattle.chess_board.specs.declared.board.Move.{Move}
 use Rattle.chess_board.specs.Position.{Position}
-use Rattle.chess_board.specs.Text.{text_of}
+use Rattle.chess_board.specs.Text.{text_of_move}
 use Rattle.fen_text.specs.declared.fault.FenFault.{FenFault}
 use Rattle.fen_text.specs.Fen.{position_of}
 use Rattle.fen_text.specs.Written.{position_fen}
 use Rattle.uci_lines.specs.Behind.{after}
-use Rattle.chess_board.specs.Spelling.{move_of}
+use Rattle.chess_board.specs.Spelling.{move_spelled_by}
 use Rattle.peer_words.specs.Bytes.{blank}
 use Rattle.chess_board.specs.Play.{top_count}
 
 -- a text that is not empty and neither begins nor ends with white space
-abbrev pub is_text : List ℕ → Bool
-is_text text = nat_lt 0 (length text) && bytes_eq (trimmed text) text
+abbrev pub is_trimmed_text : List ℕ → Bool
+is_trimmed_text text = nat_lt 0 (length text) && bytes_eq (trimmed text) text
 
 abbrev pub onto_first_of : ℕ → List ℕ × List ℕ → List ℕ × List ℕ
 onto_first_of b halves = (b ∷ halves.0, halves.1)
@@ -29,21 +29,21 @@ abbrev pub value_here : Option (List ℕ) → Option (List ℕ × List ℕ) → 
 value_here (Some others) later = Some ([], others)
 value_here None later = later
 
-abbrev pub value_cut : List ℕ → Option (List ℕ × List ℕ)
-value_cut [] = None
-value_cut (b ∷ bs) =
-    value_here (after (codes " value ") (b ∷ bs)) (option_map (onto_first_of b) (value_cut bs))
+abbrev pub option_value_cut : List ℕ → Option (List ℕ × List ℕ)
+option_value_cut [] = None
+option_value_cut (b ∷ bs) =
+    value_here (after (codes " value ") (b ∷ bs)) (option_map (onto_first_of b) (option_value_cut bs))
 
 abbrev pub holds_value : List ℕ → Bool
-holds_value text = is_some (value_cut text)
+holds_value text = is_some (option_value_cut text)
 
 abbrev pub written_by : Option Move → List ℕ → Bool
 written_by None text = false
-written_by (Some m) text = bytes_eq (text_of m) text
+written_by (Some m) text = bytes_eq (text_of_move m) text
 
 -- a move as it is written, its promotion in lower case
 abbrev pub is_written_move : List ℕ → Bool
-is_written_move text = written_by (move_of text) text
+is_written_move text = written_by (move_spelled_by text) text
 
 abbrev pub is_blank_byte : ℕ → Bool
 is_blank_byte b = b == blank
@@ -64,7 +64,7 @@ is_fen text = fen_by (position_of text) text
 abbrev pub split_onto : ℕ → List ℕ × List ℕ → List ℕ × List ℕ
 split_onto b halves = (b ∷ halves.0, halves.1)
 
--- What is before the blank after so many others, and what begins with it: six fields are before
+-- The text before the blank after so many others, and the text that begins with it: six fields are before
 -- the sixth blank.
 abbrev pub fields_before : ℕ → List ℕ → List ℕ × List ℕ
 fields_before blanks [] = ([], [])

@@ -1,4 +1,4 @@
-// What follows fixed words and numbers.
+// The rest behind fixed words and numbers.
 ghost use Rattle.std.specs.Prelude.{◌≡◌, drop};
 ghost use Rattle.std.specs.List.{before_first};
 ghost use Rattle.std.specs.Option.{option_map};
@@ -9,7 +9,7 @@ ghost use Rattle.uci_lines.specs.Behind.{after, exact_count, number_behind, perh
 use itoa::Buffer;
 use peer_words::{read_count, split_at_white};
 
-/// What follows a word at the front.
+/// The rest behind a word at the start.
 pub(crate) fn after<'a>(word: &[u8], text: &'a [u8]) -> Option<&'a [u8]>
     ensures { optional_now result ≡ after word.now text.now }
 {
@@ -29,7 +29,7 @@ fn exact_count(word: &[u8]) -> Option<u64>
     }
 }
 
-/// The count after a word at the front, and what follows it.
+/// The count after a word at the start, and what follows it.
 #[tactic(auto, unfolding(crate::specs::Behind::number_behind))]
 pub(crate) fn number_behind<'a>(word: &[u8], text: &'a [u8]) -> Option<(u64, &'a [u8])>
     ensures { option_map (λ p. (p.0, p.1.now)) result ≡ number_behind word.now text.now }

@@ -3,7 +3,7 @@ ghost use Rattle.std.specs.Prelude.{◌≡◌, true, drop};
 ghost use Rattle.std.specs.List.{before_first};
 ghost use Rattle.peer_words.specs.Tokens.{is_white, token_end};
 ghost use Rattle.std.specs.Option.{option_map};
-ghost use Rattle.uci_lines.specs.Cuts.{found_token, stops, found_of};
+ghost use Rattle.uci_lines.specs.Cuts.{found_token, delimits, found_of};
 
 use peer_words::{is_white, split_at_white};
 
@@ -31,10 +31,10 @@ pub(crate) struct FoundToken<'a> {
 }
 
 impl Delimiter {
-    ghost use Rattle.uci_lines.specs.Cuts.{stops};
+    ghost use Rattle.uci_lines.specs.Cuts.{delimits};
 
     fn has(self, word: &[u8]) -> bool
-        ensures { result ≡ stops self word.now }
+        ensures { result ≡ delimits self word.now }
     {
         match self {
             Delimiter::Message => is_known(word),
@@ -48,7 +48,7 @@ impl Delimiter {
 
 ghost use Rattle.uci_lines.specs.Cuts.{is_known, is_word};
 
-/// Whether a token is this word.
+/// True if a token is this word.
 pub(crate) fn is_word(token: &[u8], word: &str) -> bool
     ensures { result ≡ is_word word.now token.now }
 {
@@ -68,7 +68,7 @@ fn is_known(word: &[u8]) -> bool
 
 /// The first token at which the text is to be cut.
 pub(crate) fn find_word(text: &[u8], stop: Delimiter) -> Option<FoundToken<'_>>
-    ensures { option_map found_of result ≡ found_token (stops stop) true text.now }
+    ensures { option_map found_of result ≡ found_token (delimits stop) true text.now }
 {
     let mut is_fresh = true;
     for (i, byte) in text.iter().enumerate() {

@@ -1,8 +1,8 @@
 // Reads what an engine says.
 ghost use Rattle.std.specs.Prelude.{◌≡◌, ◌↔◌};
 ghost use Rattle.uci_lines.specs.Engine.{name_said, best_said, said_after, engine_message};
-ghost use Rattle.uci_lines.specs.Writable.{CanWrite};
-ghost use Rattle.uci_lines.specs.Messages.{EngineMsg as AnyEngineMsg, engine_message_of};
+ghost use Rattle.uci_lines.specs.Writable.{CanWriteEngineMsg};
+ghost use Rattle.uci_lines.specs.Messages.{EngineMsg as AnyEngineMsg, uci_message_of};
 ghost use Rattle.uci_lines.specs.Spells.{SpellsMessage};
 
 use crate::cut::{Delimiter, find_word, is_word};
@@ -13,8 +13,8 @@ use chess_board::read_move;
 use peer_words::split_token;
 
 fn read_name(text: &[u8]) -> EngineMsg<'_>
-    ensures value { engine_message_of result ≡ name_said text.now }
-    ensures writable { CanWrite (engine_message_of result) }
+    ensures value { uci_message_of result ≡ name_said text.now }
+    ensures writable { CanWriteEngineMsg (uci_message_of result) }
 {
     let (word, others) = split_token(text);
     if is_word(word, "name") {
@@ -25,8 +25,8 @@ fn read_name(text: &[u8]) -> EngineMsg<'_>
 }
 
 fn read_best(text: &[u8]) -> EngineMsg<'_>
-    ensures value { engine_message_of result ≡ best_said text.now }
-    ensures writable { CanWrite (engine_message_of result) }
+    ensures value { uci_message_of result ≡ best_said text.now }
+    ensures writable { CanWriteEngineMsg (uci_message_of result) }
 {
     let (word, others) = split_token(text);
     let best = read_move(word);
@@ -38,8 +38,8 @@ fn read_best(text: &[u8]) -> EngineMsg<'_>
 }
 
 fn read_after<'a>(word: &[u8], text: &'a [u8]) -> EngineMsg<'a>
-    ensures value { engine_message_of result ≡ said_after word.now text.now }
-    ensures writable { CanWrite (engine_message_of result) }
+    ensures value { uci_message_of result ≡ said_after word.now text.now }
+    ensures writable { CanWriteEngineMsg (uci_message_of result) }
 {
     if is_word(word, "id") {
         read_name(text)
@@ -58,8 +58,8 @@ fn read_after<'a>(word: &[u8], text: &'a [u8]) -> EngineMsg<'a>
 
 #[tactic(auto, unfolding(crate::specs::Engine::engine_message))]
 fn read_message(line: &[u8]) -> EngineMsg<'_>
-    ensures value { engine_message_of result ≡ engine_message line.now }
-    ensures writable { CanWrite (engine_message_of result) }
+    ensures value { uci_message_of result ≡ engine_message line.now }
+    ensures writable { CanWriteEngineMsg (uci_message_of result) }
 {
     match find_word(line, Delimiter::Message) {
         Some(found) => read_after(found.word, found.after),
@@ -67,14 +67,14 @@ fn read_message(line: &[u8]) -> EngineMsg<'_>
     }
 }
 
-/// What a line of the engine says (UCI, "Engine to GUI"). It may end with a CR, and has no LF.
+/// The message in a line of the engine (UCI, "Engine to GUI"). The line may end with a CR, and has no LF.
 /// `lines_say_one_message` says that each line spells exactly one message.
 pub fn read_engine(line: &[u8]) -> EngineMsg<'_>
-    ensures value { engine_message_of result ≡ engine_message line.now }
+    ensures value { uci_message_of result ≡ engine_message line.now }
     // A message is read if and only if the line spells it.
-    ensures spelled { (m : AnyEngineMsg) → (engine_message_of result ≡ m)
+    ensures spelled { (m : AnyEngineMsg) → (uci_message_of result ≡ m)
         ↔ SpellsMessage line.now m }
-    ensures writable { CanWrite (engine_message_of result) }
+    ensures writable { CanWriteEngineMsg (uci_message_of result) }
 {
     read_message(line)
 }

@@ -1,8 +1,8 @@
-// What an engine reports of its search (UCI, "info").
+// The engine's report on its search (UCI, "info").
 ghost use Rattle.std.specs.Prelude.{◌≡◌, ◌≤◌, length};
 ghost use Rattle.peer_words.specs.Tokens.{tokens};
 ghost use Rattle.uci_lines.specs.Infos.{ends_info, field_named, first_count, score_of, first_score, first_move, newer_run, hear, facts_in, facts_from};
-ghost use Rattle.uci_lines.specs.Moves.{run};
+ghost use Rattle.uci_lines.specs.Moves.{longest_move_run};
 ghost use Rattle.uci_lines.specs.Writable.{can_write};
 ghost use Rattle.uci_lines.specs.Info.{info_of, Info as AnyInfo};
 ghost use Rattle.std.specs.Option.{option_or};
@@ -57,7 +57,7 @@ fn field_named(word: &[u8]) -> InfoField
     }
 }
 
-/// Whether what follows the word is ignored.
+/// True if what follows the word is ignored.
 fn ends_info(field: InfoField) -> bool
     ensures { result ≡ ends_info field }
 {
@@ -93,12 +93,13 @@ fn first_score(text: &[u8]) -> Option<Score>
 
 /// A run of moves takes the place of an earlier one, unless it is empty.
 fn newer_run<'a>(new: &'a [u8], old: &'a [u8]) -> &'a [u8]
-    ensures { run (tokens result.now) ≡ newer_run (run (tokens new.now)) (run (tokens old.now)) }
+    ensures { longest_move_run (tokens result.now) ≡ newer_run (longest_move_run (tokens
+        new.now)) (longest_move_run (tokens old.now)) }
 {
     if next_move(new).is_some() { new } else { old }
 }
 
-/// Takes in the number at the front of a text, if there is one, and gives the text that is read on.
+/// Takes in the number at the start of a text, if there is one, and gives the text that is read on.
 fn take_count<'a>(count: &mut Option<u64>, text: &'a [u8]) -> &'a [u8]
     ensures value { count.new ≡ option_or (first_count (tokens text.now)) count.old }
     ensures others { (facts : AnyInfo) → facts_from facts (tokens result.now)

@@ -1,4 +1,18 @@
 //! The lines of a chess engine: what it says, and the orders to it (Universal Chess Interface, April 2006).
+//!
+//! `read_engine` reads of each line the one message that the line spells, which may be `Nothing`. `write_order`
+//! writes the text of an order. `read_order` reads a line if and only if it is the text of an order that may be
+//! written, and as that order.
+//!
+//! An example, which a test runs on the runtime `rt`:
+//!
+//! ```
+//! let is_read = match read_engine(b"info depth 9 score cp 25 pv e2e4 e7e5") {
+//!     EngineMsg::Info(info) => info.depth == Some(9) && info.score == Some(Score::Cp(25)),
+//!     _ => false,
+//! };
+//! assert!(rt; is_read);
+//! ```
 #![tactic(auto)]
 
 mod behind;

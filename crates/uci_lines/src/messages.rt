@@ -1,7 +1,7 @@
-// What an engine says.
+// The messages of an engine.
 use chess_board::Move;
 
-/// What a line of the engine says (UCI, "Engine to GUI").
+/// The message in a line of the engine (UCI, "Engine to GUI").
 #[derive(Clone, Copy)]
 pub enum EngineMsg<'a> {
     /// `id name` and a text.
@@ -38,7 +38,7 @@ pub enum OptionKind<'a> {
     Text { default: &'a [u8] },
 }
 
-/// What the engine reports of its search. Times are in milliseconds.
+/// The engine's report on its search. Times are in milliseconds.
 #[derive(Clone, Copy)]
 pub struct Info<'a> {
     pub depth: Option<u64>,
@@ -48,7 +48,7 @@ pub struct Info<'a> {
     /// `currmovenumber`.
     pub number: Option<u64>,
     pub score: Option<Score>,
-    /// Whether the score is a lower or upper bound.
+    /// True if the score is a lower or upper bound.
     pub bound: bool,
     /// `currmove`.
     pub current: Option<Move>,

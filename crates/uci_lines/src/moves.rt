@@ -2,7 +2,7 @@
 ghost use Rattle.std.specs.Prelude.{◌≡◌, ◌∷◌, ◌<◌, ◌≤◌, [], length, MatchOption, IfSome};
 ghost use Rattle.peer_words.specs.Tokens.{tokens};
 ghost use Rattle.chess_board.specs.Text.{IsOfficer};
-ghost use Rattle.uci_lines.specs.Moves.{run, after_run};
+ghost use Rattle.uci_lines.specs.Moves.{longest_move_run, after_run};
 
 use chess_board::{Move, read_move};
 use peer_words::next_token;
@@ -23,8 +23,8 @@ fn next_text(text: &[u8]) -> Option<(&[u8], &[u8])>
 
 /// The first move of a text of moves, and the text after it. None if the text begins with no move.
 pub fn next_move(text: &[u8]) -> Option<(Move, &[u8])>
-    ensures first { MatchOption result (run (tokens text.now) ≡ [])
-        (λ p. run (tokens text.now) ≡ p.0 ∷ run (tokens p.1.now)) }
+    ensures first { MatchOption result (longest_move_run (tokens text.now) ≡ [])
+        (λ p. longest_move_run (tokens text.now) ≡ p.0 ∷ longest_move_run (tokens p.1.now)) }
     ensures officer { IfSome result (λ p. IsOfficer p.0.promotion) }
     ensures shorter { IfSome result (λ p. length p.1.now < length text.now) }
 {
@@ -32,7 +32,7 @@ pub fn next_move(text: &[u8]) -> Option<(Move, &[u8])>
     Some((read_move(token)?, others))
 }
 
-/// The text after the move texts at the front of a text, as many as there are.
+/// The text after the move texts at the start of a text, as many as there are.
 pub(crate) fn after_moves(text: &[u8]) -> &[u8]
     ensures others { tokens result.now ≡ after_run (tokens text.now) }
     ensures within { length result.now ≤ length text.now }

@@ -5,8 +5,8 @@ ghost use Rattle.peer_words.specs.Tokens.{tokens, trimmed};
 ghost use Rattle.uci_lines.specs.Cuts.{found_token, is_word, is_choice};
 ghost use Rattle.uci_lines.specs.Choices.{values, before_choice, from_choice, default_value};
 ghost use Rattle.uci_lines.specs.Options.{is_on, text_after, shape_named, option_with, option_said};
-ghost use Rattle.uci_lines.specs.Writable.{CanWrite};
-ghost use Rattle.uci_lines.specs.Messages.{option_kind_of, declared_by, engine_message_of};
+ghost use Rattle.uci_lines.specs.Writable.{CanWriteEngineMsg};
+ghost use Rattle.uci_lines.specs.Messages.{option_kind_of, declared_by, uci_message_of};
 
 use crate::cut::{Delimiter, find_word, is_word};
 use crate::messages::{EngineMsg, OptionKind, OptionMsg};
@@ -34,7 +34,7 @@ fn text_default(text: &[u8]) -> &[u8]
     }
 }
 
-/// What is before the first `default` or `var`.
+/// The text before the first `default` or `var`.
 fn before_choice(text: &[u8]) -> &[u8]
     ensures { result.now ≡ before_choice (found_token is_choice true text.now) text.now }
 {
@@ -53,7 +53,7 @@ fn combo_default(text: &[u8]) -> &[u8]
     }
 }
 
-/// What is before the first `default` or `var`, trimmed, and what begins with it.
+/// The text before the first `default` or `var`, trimmed, and the text that begins with it.
 fn split_choice(text: &[u8]) -> (&[u8], &[u8])
     ensures value { result.0.now
         ≡ trimmed (before_choice (found_token is_choice true text.now) text.now) }
@@ -120,11 +120,11 @@ fn option_after(text: &[u8]) -> Option<OptionMsg<'_>>
     Some(OptionMsg { name, kind })
 }
 
-/// What follows `option`.
+/// The message of the text behind `option`.
 #[tactic(auto, unfolding(crate::specs::Options::option_said))]
 pub(crate) fn read_option(text: &[u8]) -> EngineMsg<'_>
-    ensures value { engine_message_of result ≡ option_said text.now }
-    ensures writable { CanWrite (engine_message_of result) }
+    ensures value { uci_message_of result ≡ option_said text.now }
+    ensures writable { CanWriteEngineMsg (uci_message_of result) }
 {
     let (word, others) = split_token(text);
     if !is_word(word, "name") {

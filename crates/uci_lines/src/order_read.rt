@@ -2,8 +2,8 @@
 ghost use Rattle.std.specs.Prelude.{◌≡◌, codes, IfOk, IsOkAnd};
 ghost use Rattle.std.specs.Option.{option_map};
 ghost use Rattle.uci_lines.specs.Behind.{after, number_behind};
-ghost use Rattle.uci_lines.specs.OrderReading.{is_positive_or_none, is_search, setting_in, moves_in, set_up, position_in, clock_four, clock_three, clock_in, control_in, search_with, search_in, long_order, order_in, SpellsOrder, TakesPositions};
-ghost use Rattle.uci_lines.specs.Orders.{Order as AnyOrder, order_of, optional_now};
+ghost use Rattle.uci_lines.specs.OrderReading.{is_positive_or_none, is_search, setting_order_in, moves_in, setup_order, position_in, clock_four, clock_three, clock_in, control_in, search_with, search_in, long_order, order_in, SpellsOrder, TakesPositions};
+ghost use Rattle.uci_lines.specs.Orders.{Order as AnyOrder, uci_order_of, optional_now};
 ghost use Rattle.uci_lines.specs.Written.{fields_before};
 
 use crate::behind::{after, number_behind, perhaps_number};
@@ -16,7 +16,7 @@ use crate::written::{cut_value, is_count, is_fen, is_moves, is_positive, is_text
 pub struct BadOrder;
 
 fn read_setting(text: &[u8]) -> Option<Order<'_>>
-    ensures { option_map order_of result ≡ setting_in text.now }
+    ensures { option_map uci_order_of result ≡ setting_order_in text.now }
 {
     let (name, value) = match cut_value(text) {
         Some((name, value)) => (name, Some(value)),
@@ -44,7 +44,7 @@ fn read_moves(text: &[u8]) -> Option<&[u8]>
 }
 
 fn read_set_up(text: &[u8]) -> Option<Order<'_>>
-    ensures { option_map order_of result ≡ set_up (fields_before 5 text.now) }
+    ensures { option_map uci_order_of result ≡ setup_order (fields_before 5 text.now) }
 {
     let (fen, others) = split_fields(text);
     if !is_fen(fen) {
@@ -58,7 +58,7 @@ fn read_set_up(text: &[u8]) -> Option<Order<'_>>
 }
 
 fn read_position(text: &[u8]) -> Option<Order<'_>>
-    ensures { option_map order_of result ≡ position_in text.now }
+    ensures { option_map uci_order_of result ≡ position_in text.now }
 {
     match after(b"startpos", text) {
         Some(others) => {
@@ -150,7 +150,7 @@ fn is_search(ponder: bool, control: GoControl, depth: Option<u64>) -> bool
 }
 
 fn read_search_with(ponder: bool, text: &[u8]) -> Option<Order<'_>>
-    ensures { option_map order_of result ≡ search_with ponder (control_in text.now) }
+    ensures { option_map uci_order_of result ≡ search_with ponder (control_in text.now) }
 {
     let (control, others) = read_control(text)?;
     let (depth, others) = perhaps_number(b" depth ", others);
@@ -166,7 +166,7 @@ fn read_search_with(ponder: bool, text: &[u8]) -> Option<Order<'_>>
 }
 
 fn read_search(text: &[u8]) -> Option<Order<'_>>
-    ensures { option_map order_of result ≡ search_in text.now }
+    ensures { option_map uci_order_of result ≡ search_in text.now }
 {
     match after(b" ponder", text) {
         Some(others) => read_search_with(true, others),
@@ -175,7 +175,7 @@ fn read_search(text: &[u8]) -> Option<Order<'_>>
 }
 
 fn read_long(line: &[u8]) -> Option<Order<'_>>
-    ensures { option_map order_of result ≡ long_order line.now }
+    ensures { option_map uci_order_of result ≡ long_order line.now }
 {
     if let Some(text) = after(b"setoption name ", line) {
         return read_setting(text);
@@ -188,7 +188,7 @@ fn read_long(line: &[u8]) -> Option<Order<'_>>
 
 #[tactic(auto, unfolding(crate::specs::OrderReading::order_in))]
 fn order_in(line: &[u8]) -> Option<Order<'_>>
-    ensures { option_map order_of result ≡ order_in line.now }
+    ensures { option_map uci_order_of result ≡ order_in line.now }
 {
     if is_word(line, "uci") {
         Some(Order::Uci)
@@ -212,8 +212,9 @@ fn order_in(line: &[u8]) -> Option<Order<'_>>
 /// # Errors
 /// `BadOrder` if and only if the line is the text of no order that may be written.
 pub fn read_order(line: &[u8]) -> Result<Order<'_>, BadOrder>
-    ensures found { IfOk result (λ o. SpellsOrder line.now (order_of o)) }
-    ensures only { (c : AnyOrder) → SpellsOrder line.now c → IsOkAnd result (λ o. order_of o ≡ c) }
+    ensures found { IfOk result (λ o. SpellsOrder line.now (uci_order_of o)) }
+    ensures only { (c : AnyOrder) → SpellsOrder line.now c → IsOkAnd result (λ o. uci_order_of o
+        ≡ c) }
 {
     order_in(line).ok_or(BadOrder)
 }

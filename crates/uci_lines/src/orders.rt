@@ -1,7 +1,7 @@
 // The orders to an engine.
 ghost use Rattle.std.specs.Prelude.{◌≡◌, ◌+◌, ◌≤◌, ◌++◌, codes, decimal, length};
 ghost use Rattle.line_io.specs.Out.{with};
-ghost use Rattle.uci_lines.specs.Orders.{order_of, order_text, optional_text, optional_number, optional_now, start_text, moves_text, set_option_text, position_text, control_text, go_text};
+ghost use Rattle.uci_lines.specs.Orders.{uci_order_of, uci_order_text, optional_text, optional_number, optional_now, order_start_text, order_moves_text, set_option_text, uci_position_text, control_text, go_text};
 
 use itoa::Buffer;
 use line_io::Out;
@@ -31,7 +31,7 @@ pub enum Order<'a> {
     },
 }
 
-/// How long a search may last. Times are in milliseconds.
+/// The time that a search may last. Times are in milliseconds.
 #[derive(Clone, Copy, PartialEq, Eq)]
 pub enum GoControl {
     Infinite,
@@ -85,8 +85,8 @@ fn put_set_option(name: &[u8], value: Option<&[u8]>, out: &mut Out)
 }
 
 fn put_start(fen: Option<&[u8]>, out: &mut Out)
-    requires { length out.old.text + length (start_text (optional_now fen)) ≤ out.old.room }
-    ensures { out.new ≡ with out.old (start_text (optional_now fen.entry)) }
+    requires { length out.old.text + length (order_start_text (optional_now fen)) ≤ out.old.room }
+    ensures { out.new ≡ with out.old (order_start_text (optional_now fen.entry)) }
 {
     match fen {
         Some(fen) => {
@@ -98,8 +98,8 @@ fn put_start(fen: Option<&[u8]>, out: &mut Out)
 }
 
 fn put_moves(moves: &[u8], out: &mut Out)
-    requires { length out.old.text + length (moves_text moves.now) ≤ out.old.room }
-    ensures { out.new ≡ with out.old (moves_text moves.now) }
+    requires { length out.old.text + length (order_moves_text moves.now) ≤ out.old.room }
+    ensures { out.new ≡ with out.old (order_moves_text moves.now) }
 {
     if !moves.is_empty() {
         out.put(b" moves ");
@@ -108,9 +108,9 @@ fn put_moves(moves: &[u8], out: &mut Out)
 }
 
 fn put_position(fen: Option<&[u8]>, moves: &[u8], out: &mut Out)
-    requires { length out.old.text + length (position_text (optional_now fen) moves.now)
+    requires { length out.old.text + length (uci_position_text (optional_now fen) moves.now)
         ≤ out.old.room }
-    ensures { out.new ≡ with out.old (position_text (optional_now fen.entry) moves.now) }
+    ensures { out.new ≡ with out.old (uci_position_text (optional_now fen.entry) moves.now) }
 {
     out.put(b"position ");
     put_start(fen, out);
@@ -153,10 +153,11 @@ fn put_go(ponder: bool, control: GoControl, depth: Option<u64>, out: &mut Out)
 }
 
 /// Writes an order, with no line feed.
-#[tactic(auto, unfolding(crate::specs::Orders::order_text))]
+#[tactic(auto, unfolding(crate::specs::Orders::uci_order_text))]
 pub fn write_order(order: &Order, out: &mut Out)
-    requires { length out.old.text + length (order_text (order_of order.now)) ≤ out.old.room }
-    ensures { out.new ≡ with out.old (order_text (order_of order.now)) }
+    requires { length out.old.text + length (uci_order_text (uci_order_of order.now)) ≤
+        out.old.room }
+    ensures { out.new ≡ with out.old (uci_order_text (uci_order_of order.now)) }
 {
     match order {
         Order::Uci => out.put(b"uci"),

@@ -2,7 +2,7 @@
 ghost use Rattle.std.specs.Prelude.{◌≡◌};
 ghost use Rattle.std.specs.Option.{option_map};
 ghost use Rattle.peer_words.specs.Tokens.{tokens};
-ghost use Rattle.uci_lines.specs.Options.{range_of, limited, first_signed, range_from, no_range};
+ghost use Rattle.uci_lines.specs.Options.{range_of_spin, limited, first_signed, range_from, no_range};
 
 use crate::cut::is_word;
 use crate::messages::OptionKind;
@@ -18,12 +18,12 @@ pub(crate) struct SpinRange {
 
 impl SpinRange {
     ghost use Rattle.std.specs.Option.{option_map};
-    ghost use Rattle.uci_lines.specs.Options.{range_of, spin_in};
+    ghost use Rattle.uci_lines.specs.Options.{range_of_spin, spin_in};
     ghost use Rattle.uci_lines.specs.Messages.{option_kind_of};
 
     /// The spin, with its default moved into the range. None if a number is missing or the range is empty.
     pub fn spin<'a>(self) -> Option<OptionKind<'a>>
-        ensures { option_map option_kind_of result ≡ spin_in (range_of self) }
+        ensures { option_map option_kind_of result ≡ spin_in (range_of_spin self) }
     {
         let (default, min, max) = (self.default?, self.min?, self.max?);
         if min > max {
@@ -41,7 +41,7 @@ fn first_signed(text: &[u8]) -> Option<i64>
 }
 
 fn limited(range: SpinRange, word: &[u8], after: &[u8]) -> SpinRange
-    ensures { range_of result ≡ limited (range_of range) word.now (tokens after.now) }
+    ensures { range_of_spin result ≡ limited (range_of_spin range) word.now (tokens after.now) }
 {
     if is_word(word, "default") {
         let default = first_signed(after).or(range.default);
@@ -58,7 +58,7 @@ fn limited(range: SpinRange, word: &[u8], after: &[u8]) -> SpinRange
 }
 
 pub(crate) fn read_range(text: &[u8]) -> SpinRange
-    ensures { range_of result ≡ range_from no_range (tokens text.now) }
+    ensures { range_of_spin result ≡ range_from no_range (tokens text.now) }
 {
     let mut range = SpinRange {
         default: None,

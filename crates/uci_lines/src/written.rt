@@ -1,23 +1,23 @@
 // Names, values, moves and positions as they stand in orders.
 ghost use Rattle.std.specs.Prelude.{◌≡◌, position};
 ghost use Rattle.std.specs.Option.{option_map};
-ghost use Rattle.uci_lines.specs.Written.{is_text, value_cut, is_written_move, is_blank_byte, is_moves, is_fen, fields_before, is_count, is_positive};
+ghost use Rattle.uci_lines.specs.Written.{is_trimmed_text, option_value_cut, is_written_move, is_blank_byte, is_moves, is_fen, fields_before, is_count, is_positive};
 
 use crate::behind::after;
 use chess_board::{read_move, write_move};
 use fen_text::{read_fen, write_fen};
 use peer_words::trim;
 
-/// Whether a text is not empty, and neither begins nor ends with white space.
+/// True if a text is not empty, and neither begins nor ends with white space.
 pub(crate) fn is_text(text: &[u8]) -> bool
-    ensures { result ≡ is_text text.now }
+    ensures { result ≡ is_trimmed_text text.now }
 {
     !text.is_empty() && trim(text) == text
 }
 
-/// What is before and after the first ` value `.
+/// The texts before and after the first ` value `.
 pub(crate) fn cut_value(text: &[u8]) -> Option<(&[u8], &[u8])>
-    ensures { option_map (λ p. (p.0.now, p.1.now)) result ≡ value_cut text.now }
+    ensures { option_map (λ p. (p.0.now, p.1.now)) result ≡ option_value_cut text.now }
 {
     for i in 0..text.len() {
         let (name, others) = text.split_at(i);
@@ -43,7 +43,7 @@ fn blank_at(text: &[u8]) -> Option<usize>
     text.iter().position(|b| *b == b' ')
 }
 
-/// Whether a text is one move or more as they are written, with one blank between.
+/// True if a text is one move or more as they are written, with one blank between.
 pub(crate) fn is_moves(text: &[u8]) -> bool
     ensures { result ≡ is_moves text.now }
 {
@@ -59,7 +59,7 @@ pub(crate) fn is_moves(text: &[u8]) -> bool
     is_written_move(others)
 }
 
-/// Whether a text is that of a position as it is written.
+/// True if a text is that of a position as it is written.
 pub(crate) fn is_fen(text: &[u8]) -> bool
     ensures { result ≡ is_fen text.now }
 {
@@ -89,7 +89,7 @@ pub(crate) fn split_fields(text: &[u8]) -> (&[u8], &[u8])
     (text, &[])
 }
 
-/// Whether a number is written with at most 18 digits.
+/// True if a number is written with at most 18 digits.
 pub(crate) fn is_count(n: u64) -> bool
     ensures { result ≡ is_count n }
 {

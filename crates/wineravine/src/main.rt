@@ -2,11 +2,11 @@
 #![tactic(auto)]
 
 use child_engine::{EngineInput, RealHost};
-use host_run::Interface;
 use line_io::{ReadAdapter, WriteAdapter};
-use program_edges::{ClosedStreams, NO_MEMORY, WORDS_ROOM, words_of};
+use program_command_line::{ARGUMENTS_ROOM, ClosedStreams, NO_MEMORY, arguments_of};
+use program_lifecycle::Interface;
 use std::process::{ChildStdin, ExitCode};
-use wineravine_app::{refuse_for_memory, wineravine_main};
+use wineravine_runner::{refuse_for_memory, wineravine_main};
 
 fn main(rt: HostRuntime) -> ExitCode {
     let Some(closed) = ClosedStreams::fill(&rt) else {
@@ -18,11 +18,11 @@ fn main(rt: HostRuntime) -> ExitCode {
     };
     let mut diag = closed.diag(WriteAdapter::new(rt.stderr()));
     let mut host = RealHost::<_, EngineInput<ChildStdin>>::new(&rt, closed.has_own_diag(&rt));
-    let status = match words_of(&rt, rt.alloc(), WORDS_ROOM) {
-        Ok(words) => wineravine_main(
+    let status = match arguments_of(&rt, rt.alloc(), ARGUMENTS_ROOM) {
+        Ok(arguments) => wineravine_main(
             &rt,
             rt.alloc(),
-            words.as_slice(),
+            arguments.as_slice(),
             &mut interface,
             &mut host,
             &mut diag,

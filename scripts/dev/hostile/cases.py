@@ -5,7 +5,7 @@ MIB = 1024
 SCRIPT_COMMANDS = ("migrate", "games", "judge", "revive 3", "drive")
 UNMARKED = "replay: line 1 has no mark"
 
-# What a case must come to: its status, or one of several; what is told, if it is not the text of
+# What a case must come to: its status, or one of several; what is reported, if it is not the text of
 # the status; the output, whole or a part; the name of a file that must be a script that is lawful
 # and replays to itself, or a command that must be true of the log; and the bound of its memory in
 # KiB.
@@ -105,9 +105,9 @@ REPLAY = [
          script="script",
          output="x usermove g1f3\nX Illegal move (game too long): g1f3\n"
                 "x go\nX 1/2-1/2 {Draw by repetition}\n"),
-    case("replay: 100,000 words", "replay replay", 2, "replay: usage", "", words=100000),
-    case("moves: 100,000 words", "replay moves", 2, "replay: position: board", "", words=100000),
-    case("replay: a word that is no text", "replay $'\\xff'", 2, "replay: usage", ""),
+    case("replay: 100,000 arguments", "replay replay", 2, "replay: usage", "", words=100000),
+    case("moves: 100,000 arguments", "replay moves", 2, "replay: position: board", "", words=100000),
+    case("replay: an argument that is no text", "replay $'\\xff'", 2, "replay: usage", ""),
     *each_command("closed input", "replay %s <&-", 4),
     *each_command("a folder as input", "replay %s <.", 4),
     *each_command("a full disk", "replay %s <plies >/dev/full", 5),
@@ -115,7 +115,7 @@ REPLAY = [
     *each_command("64 MiB of NUL bytes", "replay %s <nuls", 2, told=UNMARKED),
     *each_command("64 MiB of random bytes", "replay %s <noise", 2, told=UNMARKED),
     *each_command("64 MiB of the longest lines", "replay %s <longest >script", 0),
-    *each_command("100,000 words", "replay %s", 2, told="replay: usage", output="", words=100000),
+    *each_command("100,000 arguments", "replay %s", 2, told="replay: usage", output="", words=100000),
 ]
 
 SCRIPTED = [
@@ -129,7 +129,7 @@ SCRIPTED = [
     case("scripted: a script that is missing", "scripted none </dev/null", 4, output=""),
     case("scripted: a folder as script", "scripted . </dev/null", 4, output=""),
     case("scripted: a name that is no text", "scripted $'\\xff' </dev/null", 4, output=""),
-    case("scripted: two words, one no text", "scripted toy $'\\xff' </dev/null", 2, output=""),
+    case("scripted: two arguments, one no text", "scripted toy $'\\xff' </dev/null", 2, output=""),
     case("scripted: a script without an end", "scripted /dev/zero </dev/null", 7, output="",
          memory=40 * MIB),
     case("scripted: a script of NUL bytes", "scripted <(head -c 16777216 nuls) </dev/null", 6,
@@ -139,12 +139,12 @@ SCRIPTED = [
     case("scripted: 64 MiB without a line feed", "scripted toy <letters", 0, output=""),
     case("scripted: 64 MiB of NUL bytes", "scripted toy <nuls", 0, output=""),
     case("scripted: 64 MiB of random bytes", "scripted toy <noise", 0, output=""),
-    case("scripted: 100,000 words", "scripted toy", 2, output="", words=100000),
+    case("scripted: 100,000 arguments", "scripted toy", 2, output="", words=100000),
 ]
 
 BRIDGE = [
-    unlogged("no words", "bridge", 2, output=""),
-    unlogged("a word that is no text", "bridge cat $'\\xff'", 2, output=""),
+    unlogged("no arguments", "bridge", 2, output=""),
+    unlogged("an argument that is no text", "bridge cat $'\\xff'", 2, output=""),
     unlogged("an engine that is missing", ASKS + "./none", 8, output=""),
     unlogged("an engine that is not executable", ASKS + "./toy", 8, output=""),
     unlogged("an engine that is a folder", ASKS + "./folder", 8, output=""),
@@ -216,14 +216,14 @@ BRIDGE = [
            "cut -c 3- pings pings | { ./unblocked 1; bridge --LogFile log %s; } | { sleep 1; cat; }"
            % LISTENS, (0, 5),
            memory=None),
-    # the words have room for 16,000 of one byte
-    bridge("16,000 words", "bridge --LogFile log -- true", (0, 7), words=16000),
-    unlogged("100,000 words", "bridge --LogFile log -- true", 3, output="", log="[ ! -e log ]",
+    # the arguments have room for 16,000 of one byte
+    bridge("16,000 arguments", "bridge --LogFile log -- true", (0, 7), words=16000),
+    unlogged("100,000 arguments", "bridge --LogFile log -- true", 3, output="", log="[ ! -e log ]",
              words=100000),
-    bridge("words of 1,000,000 bytes",
+    bridge("arguments of 1,000,000 bytes",
            "bridge --LogFile log -- true $(head -c 1000000 letters | fold -w 100000)",
            (0, 7)),
-    unlogged("words of 1,100,000 bytes",
+    unlogged("arguments of 1,100,000 bytes",
              "bridge --LogFile log -- true $(head -c 1100000 letters | fold -w 100000)", 3,
              output="", log="[ ! -e log ]"),
 ]

@@ -50,9 +50,9 @@ class Table:
         plays, log = self.plays, self.start + "log "
         mute, ended = MUTE[self.program], ENDED[self.program]
         return [
-            self.unstarted("no words", self.program, 2),
+            self.unstarted("no arguments", self.program, 2),
             self.unstarted("a log and no engine", self.start + "log", 2),
-            self.unstarted("a word that is no text", log + "cat $'\\xff'", 2),
+            self.unstarted("an argument that is no text", log + "cat $'\\xff'", 2),
             self.unstarted("an engine that is missing", plays + "./none", 8),
             self.unstarted("an engine that is not executable", plays + "./toy", 8),
             self.unstarted("an engine that is a folder", plays + "./folder", 8),
@@ -67,8 +67,8 @@ class Table:
                         (0, 7)),
             self.logged("an engine that closes its output",
                         plays + "sh -c 'exec >&-; cat >/dev/null'", 0),
-            self.row("16,000 words", log + "true", (0, 7), words=16000),
-            self.unstarted("100,000 words", log + "true", 3, words=100000),
+            self.row("16,000 arguments", log + "true", (0, 7), words=16000),
+            self.unstarted("100,000 arguments", log + "true", 3, words=100000),
         ]
 
     def streams(self):

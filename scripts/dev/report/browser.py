@@ -1,6 +1,6 @@
 """A browser without a window, asked by its own debugging protocol over two pipes.
 
-This is what Chromium's word --remote-debugging-pipe is for.
+This is what Chromium's argument --remote-debugging-pipe is for.
 """
 import base64
 import fcntl

@@ -243,12 +243,15 @@ def check_statuses(work):
     cases = [((), 2), (("--jobs",), 2), (("--wrong", "x"), 2), (("a.log", "b.log"), 2),
              (("no-such.log",), 4), (("",), 2), (("--resume", work), 2),
              (("--jobs", "2", numbered), 2), (("--machines", "no-such", work), 3),
-             (("--jobs", "many", work), 2), (("--jobs", "-1", work), 2)]
+             (("--jobs", "many", work), 2), (("--jobs", "-1", work), 2),
+             (("--sprt", "5", "0", work), 2), (("--sprt", "0", work), 2),
+             (("--sprt", "0", "5", "--beta", "0.7", work), 2), (("--alpha", "0.1", work), 2),
+             (("--sprt", "0", "5", numbered), 2)]
     for words, status in cases:
         ran = ask(REPORT, *words)
         answer = (ran.returncode, ran.stderr.startswith(b"wineravine-report: "), ran.stdout)
         wants(answer == (status, True, b""),
-              f"the words {words}: status {ran.returncode}, not {status}: {ran.stderr.decode()}")
+              f"the arguments {words}: status {ran.returncode}, not {status}: {ran.stderr.decode()}")
     ran = ask(REPORT, numbered, env={**os.environ, "REPLAY": "no-such-program"})
     wants(ran.returncode == 3 and b"no-such-program" in ran.stderr,
           f"no replay: status {ran.returncode}")

@@ -16,7 +16,7 @@ def take_pictures(page, log, index, folder):
     for name, shown, width, height, dark in (
             ("report", made, 1280, 800, False), ("report-dark", made, 1280, 800, True),
                                              ("report-narrow", made, 400, 800, False),
-            ("report-narrow-dark", made, 400, 800, True), ("report-table", index, 1280, 560, False),
+            ("report-narrow-dark", made, 400, 800, True), ("report-table", index, 1280, 760, False),
                                              ("report-table-narrow", index, 400, 800, True)):
         page.size(width, height, dark)
         page.open(shown)
@@ -27,10 +27,24 @@ def take_pictures(page, log, index, folder):
     say(f"pictures taken: {folder}")
 
 
+def take_games(page, index, folder):
+    """The table of a match, with the list of its games and the scores of both engines."""
+    page.size(1280, 1060)
+    page.open(index)
+    page.js("document.querySelector('#games details').open = true;"
+            " [...document.querySelectorAll('#game-rows button')]"
+            ".find(e => e.textContent === 'scores').click(); scrollTo(0, 0)")
+    page.js("new Promise(done => setTimeout(done, 200))")
+    page.picture(folder / "report-games.png")
+    make_small(folder / "report-games.png")
+    say(f"the picture of a match taken: {folder}")
+
+
 def make_small(picture):
     """Leaves a picture fewer colours, if ImageMagick is there."""
     if shutil.which("convert"):
-        subprocess.run(["convert", picture, "-colors", "96", f"PNG8:{picture}"], check=False)
+        subprocess.run(["convert", picture, "+dither", "-colors", "96", f"PNG8:{picture}"],
+                       check=False)
 
 
 def take_xboard(work, wineravine, folder):

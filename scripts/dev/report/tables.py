@@ -133,7 +133,7 @@ def check_rows(rows):
           f"late.log: {rows['late.log']}")
     wants(rows["tap.log"][2] == "replay judge tap: lawful talk" and rows["tap.log"][7] == "",
           f"tap.log: {rows['tap.log']}")
-    told = [rows[f"{it}.log"][8][:1] for it in ("illegal", "right", "tap", "driver", "reviver")]
+    told = [rows[f"{it}.log"][10][:1] for it in ("illegal", "right", "tap", "driver", "reviver")]
     wants(told == ["2", "0", "", "", ""], f"engine faults: {told}")
     wants("unlawful at line 16" in rows["faulty.log"][2], f"faulty.log: {rows['faulty.log']}")
     for name in ("driver.log", "reviver.log"):
@@ -165,9 +165,13 @@ def check_without_parallel(page, work, folder):
     for name in ("env", "python3"):
         (tools / name).symlink_to(shutil.which(name))
     here = {**os.environ, "PATH": str(tools)}
+    for made in folder.rglob("*.log.html"):
+        made.unlink()
     again = ask(REPORT, folder, env=here)
     wants(again.stdout == (folder / "index.html").read_bytes(),
-          "without GNU parallel the table is another one")
+          "made without GNU parallel the table is another one")
+    wants(ask(REPORT, folder, env=here).stdout == again.stdout,
+          "of pages that are kept the table is another one")
     ran = ask(REPORT, "--joblog", work / "none", folder, env=here)
     wants(ran.returncode == 3 and b"parallel" in ran.stderr,
           f"a joblog without GNU parallel: status {ran.returncode}")

@@ -1,4 +1,4 @@
-"""What the checks in Python share: where things are, how words are read, what a check says."""
+"""What the checks in Python share: where things are, how arguments are read, what a check says."""
 import argparse
 import os
 import pathlib
@@ -13,13 +13,13 @@ os.environ.pop("LANGUAGE", None)
 
 
 def words_of(text):
-    """A reader of words for the script with this docstring, which --help prints."""
+    """A reader of arguments for the script with this docstring, which --help prints."""
     return argparse.ArgumentParser(usage=argparse.SUPPRESS, description=text,
                                    formatter_class=argparse.RawDescriptionHelpFormatter)
 
 
 def program(path):
-    """A word that names a program: its full path."""
+    """An argument that names a program: its full path."""
     if not os.access(path, os.X_OK):
         raise argparse.ArgumentTypeError(f"there is no program {path}")
     return os.path.realpath(path)

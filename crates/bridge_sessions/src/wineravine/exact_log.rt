@@ -2,16 +2,16 @@
 use crate::expected::{expect_bytes, words_of};
 use crate::program::Counts;
 use child_engine::{Fails, MemHost};
-use host_run::Interface;
 use line_io::MemSink;
 use paced_host::{DueText, PacedHost, PacedLog, PacedTexts};
+use program_lifecycle::Interface;
 use std::alloc::Global;
 use std::process::Abort;
 use std::sync::Wait;
 use std::thread::Threads;
-use wineravine_app::{refuse_for_memory, wineravine_main};
+use wineravine_runner::{refuse_for_memory, wineravine_main};
 
-/// What the engine says at once, in one piece.
+/// The text that the engine says at once, in one piece.
 const ENGINE: &[u8] = b"\
     id name Toy\n\
     option name Style type combo default Normal var Solid var Normal\n\
@@ -72,7 +72,7 @@ fn run_program<'a, R: Threads + Wait + Sync + Abort>(
     alloc: Global,
     counts: &'a Counts,
 ) -> PacedHost<'a> {
-    let words = words_of(rt, alloc, WORDS);
+    let arguments = words_of(rt, alloc, WORDS);
     let host = MemHost::make(alloc, ENGINE, 200, 10_000, &Fails::default()).expect(rt, "memory");
     let mut host = PacedHost::new(alloc, host, &counts.log, ENGINE_ENDS);
     let output = MemSink::make(alloc, 5_000, &[]).expect(rt, "memory");
@@ -81,8 +81,8 @@ fn run_program<'a, R: Threads + Wait + Sync + Abort>(
         output: PacedLog::new(output, &counts.output),
     };
     let mut diag = MemSink::make(alloc, 1_000, &[]).expect(rt, "memory");
-    let words = words.as_slice();
-    let status = wineravine_main(rt, alloc, words, &mut interface, &mut host, &mut diag);
+    let arguments = arguments.as_slice();
+    let status = wineravine_main(rt, alloc, arguments, &mut interface, &mut host, &mut diag);
     assert_eq!(rt; status.code, 0);
     expect_bytes(rt, interface.output.sink.taken(), OUTPUT);
     expect_bytes(rt, diag.taken(), b"");
@@ -98,7 +98,7 @@ fn options_come_before_the_first_line_of_an_engine_that_talks_at_once(rt: HostRu
 }
 
 #[test]
-fn no_memory_is_told(rt: HostRuntime) {
+fn no_memory_is_reported(rt: HostRuntime) {
     let mut diag = MemSink::make(rt.alloc(), 100, &[]).expect(&rt, "memory");
     assert_eq!(rt; refuse_for_memory(&mut diag).code, 3);
     expect_bytes(&rt, diag.taken(), b"wineravine: no memory\n");

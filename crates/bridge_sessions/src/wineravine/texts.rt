@@ -1,6 +1,6 @@
 // The texts that the program shows are those of its command.
-use program_edges::version_line;
-use setting_words::{HELP, wineravine_command};
+use bridge_command_line::{HELP, wineravine_command};
+use program_command_line::version_line;
 
 #[test]
 fn help_and_the_version_are_what_the_command_says(rt: HostRuntime) {

@@ -23,7 +23,7 @@ fn new_game(rt: &impl Abort, alloc: Global) -> Game {
     Game::make(alloc).expect(rt, "memory")
 }
 
-/// Whether a game has so many plies, its position has come so often, and it has not ended.
+/// True if a game has so many plies, its position has come so often, and it has not ended.
 fn is_open(game: &Game, plies: u32, repeats: u32) -> bool {
     game.plies() == plies && game.repeats() == repeats && game.ended().is_none()
 }
@@ -67,7 +67,7 @@ fn expect_hint(rt: &impl Abort, alloc: Global, game: &Game, hint: Move) {
     expect_text(rt, out.bytes(), "position startpos moves e2e4");
 }
 
-/// What stands after two moves, of which the second is taken back.
+/// The game after two moves, of which the second is taken back.
 fn check_taken_back(rt: &impl Abort, game: &mut Game, opening: Move) {
     assert!(rt; game.undo(3) == Err(NoMove) && game.undo(1) == Ok(()));
     assert!(rt; game.plies() == 1 && game.moves() == [opening].as_slice());
@@ -95,7 +95,7 @@ fn play_longest(rt: &impl Abort, game: &mut Game) {
     assert!(rt; game.plies() == 12_000 && game.repeats() == 3_001);
 }
 
-/// What the longest game refuses, and that it is taken back as a whole.
+/// The refusals of the longest game, and that it is taken back as a whole.
 fn check_longest(rt: &impl Abort, game: &mut Game) {
     assert!(rt; game.try_play(move_of(rt, "e2e5")) == Err(PlayFault::Illegal));
     assert!(rt; game.try_play(move_of(rt, "e2e4")) == Err(PlayFault::TooLong));

@@ -1,4 +1,4 @@
-//! What the board tells, and the limits of its counts.
+//! The answers of the board, and the limits of its counts.
 use super::positions::move_of;
 use chess_board::{Kind, Position, Side, Square, equal_positions};
 use std::process::Abort;
@@ -10,7 +10,7 @@ fn squares_are_named(rt: HostRuntime) {
     assert!(rt; f3.file() == 5 && f3.rank() == 2);
 }
 
-/// What stands on the start position, whose turn it is, and what is attacked.
+/// The pieces of the start position, whose turn it is, and what is attacked.
 fn check_pieces(rt: &impl Abort, start: &Position) {
     let e1 = Square::at(4, 0).expect(rt, "e1");
     let f3 = Square::at(5, 2).expect(rt, "f3");
@@ -19,7 +19,7 @@ fn check_pieces(rt: &impl Abort, start: &Position) {
     assert!(rt; start.attacked(f3, Side::White) && !start.attacked(f3, Side::Black));
 }
 
-/// What may be done at the start position.
+/// The moves that may be made at the start position.
 fn check_moves(rt: &impl Abort, start: &Position) {
     assert!(rt; start.moves().as_slice().first().copied() == Some(move_of(rt, "a2a3")));
     assert!(rt; start.try_play(move_of(rt, "b7a8q")).is_none());

@@ -1,4 +1,4 @@
-// What a core tells beside its lines. The program `replay` opens each session itself, and shows neither the settings nor
+// A core's answers beside its lines. The program `replay` opens each session itself, and shows neither the settings nor
 // the state of the engine.
 use crate::expect::expect;
 use adapter_core::Core;
@@ -53,7 +53,7 @@ const GAME: [Row; 8] = [
 ];
 
 /// Opens a session and takes its events, and compares what the core tells after each.
-fn check_told(rt: &impl Abort, core: &mut Core, rows: &[Row]) {
+fn check_reported(rt: &impl Abort, core: &mut Core, rows: &[Row]) {
     assert!(rt; core.may(&Event::Open));
     core.step(&Event::Open);
     expect(rt, !core.may(&Event::Open), "it opens once");
@@ -77,7 +77,7 @@ fn check_unopened(rt: &impl Abort, core: &Core) {
 }
 
 #[test]
-fn tells_what_was_chosen(rt: HostRuntime) {
+fn reports_what_was_chosen(rt: HostRuntime) {
     let usual = Settings::usual();
     let mut core = Core::make(rt.alloc(), &usual).expect(&rt, "memory");
     check_unopened(&rt, &core);
@@ -89,13 +89,13 @@ fn tells_what_was_chosen(rt: HostRuntime) {
     core.set(&chosen);
     let kept = core.settings() == chosen;
     expect(&rt, kept, "chosen before the first step");
-    check_told(&rt, &mut core, &CLOSED_EARLY);
+    check_reported(&rt, &mut core, &CLOSED_EARLY);
     end_core(core);
 }
 
 #[test]
-fn tells_what_stands(rt: HostRuntime) {
+fn reports_what_stands(rt: HostRuntime) {
     let mut core = Core::make(rt.alloc(), &Settings::usual()).expect(&rt, "memory");
-    check_told(&rt, &mut core, &GAME);
+    check_reported(&rt, &mut core, &GAME);
     end_core(core);
 }

@@ -1,4 +1,4 @@
-// What is decided at a desk where no session shows it.
+// The decisions at a desk where no session shows them.
 use crate::expect::expect;
 use cecp_lines::{IfaceMsg, read_iface};
 use desk_rules::{AskedOrders, Context, Desk, Effect};
@@ -12,7 +12,7 @@ use std::process::Abort;
 /// The states of the engine in which `hard` asks for nothing, and begins an epoch all the same.
 const UNASKED: [EngineState; 2] = [EngineState::Boot, EngineState::Gone];
 
-/// Whether `hard` is obeyed, asks for nothing, and begins an epoch.
+/// True if `hard` is obeyed, asks for nothing, and begins an epoch.
 fn decides_unasked(desk: &Desk, held: &HeldOrders, engine: EngineState) -> bool {
     let context = Context {
         settings: Settings::usual(),
@@ -24,13 +24,13 @@ fn decides_unasked(desk: &Desk, held: &HeldOrders, engine: EngineState) -> bool 
     };
     let decision = desk.decide(context, held, &Event::Iface(b"hard"));
     // Read with its type, which the proof then knows.
-    let effect: Effect = decision.ruling.effect;
+    let effect: Effect = decision.event_effect.effect;
     let obeyed = matches!(&effect, Effect::Accepts(IfaceMsg::Hard));
     let unasked = matches!(&decision.asks, AskedOrders::One(None));
-    obeyed && unasked && decision.ruling.begins_epoch
+    obeyed && unasked && decision.event_effect.begins_epoch
 }
 
-/// Whether that is decided at a desk before its first event.
+/// True if that is decided at a desk before its first event.
 fn opening_is_unasked(
     rt: &impl Abort,
     alloc: Global,
@@ -68,7 +68,7 @@ const CLEARINGS: [(&'static str, bool); 13] = [
     ("draw", false),
 ];
 
-/// Whether a line forgets the score of a lost move that was shown.
+/// True if a line forgets the score of a lost move that was shown.
 fn forgets_score(rt: &impl Abort, one_is_lost: &Settings, line: &str) -> bool {
     let message = read_iface(line.as_bytes()).expect(rt, "a message");
     let mut scores = Scores::new(one_is_lost);

@@ -1,4 +1,4 @@
-// What the dialogue makes of what the engine says: the program `replay` shows the orders alone.
+// The dialogue's reading of what the engine says: the program `replay` shows the orders alone.
 use crate::expect::expect;
 use chess_board::{Move, Square};
 use peer_words::GoKind;
@@ -41,7 +41,7 @@ const ON_MOVE: Orders = Orders::Begin(Call::Move);
 
 const ON_HINT: Orders = Orders::Begin(Call::Ponder(G1F3));
 
-/// What the engine says, if it speaks, and what that means; whether an epoch begins then; the call, and the orders.
+/// The engine's words, if it speaks, and their meaning; whether an epoch begins then; the call, and the orders.
 type Turn = (Option<Said>, Heard, bool, Call, Orders);
 
 /// A search is stopped, another is answered, and a move comes while the engine ponders.

@@ -2,15 +2,15 @@
 use adapter_core::{
     ended_sides_get_nothing, interface_alone, moves_are_shown_in_time, one_dialogue,
 };
-use dialogue_laws::{
+use drill::drills_are_one;
+use policy_rules::Settings;
+use search_epochs::{open_search, served_call, whole_dialogue, whole_turn};
+use trace_laws::{
     cores_within_limits, engine_on_wire, last_settings_stand, laws_hold, order_places,
     pings_get_pongs, searches_end_once, searches_serve, traces_are_dialogues, traces_exist,
     written_texts_are_lines,
 };
-use drill::drills_are_one;
-use policy_rules::Settings;
-use search_epochs::{open_search, served_call, whole_dialogue, whole_turn};
-use session_script::scripts_have_one_trace;
+use trace_scripts::scripts_have_one_trace;
 
 #[test]
 fn laws_can_be_called(_rt: HostRuntime) {

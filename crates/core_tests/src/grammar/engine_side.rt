@@ -1,17 +1,15 @@
 // Lines as engines print them.
 ghost use Rattle.std.specs.Prelude.{◌≤◌, length};
-ghost use Rattle.uci_lines.specs.Messages.{engine_message_of};
-ghost use Rattle.uci_lines.specs.Writable.{CanWrite};
-ghost use Rattle.uci_engine_side.specs.Said.{said_text};
+ghost use Rattle.uci_lines.specs.Messages.{uci_message_of};
+ghost use Rattle.uci_lines.specs.Writable.{CanWriteEngineMsg};
+ghost use Rattle.uci_as_engine.specs.Said.{said_text};
 
 use crate::expect::expect_text;
 use chess_board::{Move, Square};
 use line_io::Out;
 use std::alloc::Global;
 use std::process::Abort;
-use uci_engine_side::{
-    write_engine, written_messages_are_read_again, written_messages_fit_the_line,
-};
+use uci_as_engine::{write_engine, written_messages_are_read_again, written_messages_fit_the_line};
 use uci_lines::{EngineMsg, OptionKind, OptionMsg};
 
 const E2E4: Move = Move {
@@ -21,8 +19,8 @@ const E2E4: Move = Move {
 };
 
 fn expect_written(rt: &impl Abort, alloc: Global, msg: &EngineMsg, want: &str)
-    requires writable { CanWrite (engine_message_of msg.now) }
-    requires short { length (said_text (engine_message_of msg.now)) ≤ 200 }
+    requires writable { CanWriteEngineMsg (uci_message_of msg.now) }
+    requires short { length (said_text (uci_message_of msg.now)) ≤ 200 }
 {
     let mut out = Out::make(alloc, 200).expect(rt, "memory");
     write_engine(msg, &mut out);
@@ -30,7 +28,7 @@ fn expect_written(rt: &impl Abort, alloc: Global, msg: &EngineMsg, want: &str)
 }
 
 #[test]
-#[tactic(auto, unfolding(uci_engine_side::specs::Said::said_text))]
+#[tactic(auto, unfolding(uci_as_engine::specs::Said::said_text))]
 fn writes_what_an_engine_says(rt: HostRuntime) {
     written_messages_are_read_again();
     written_messages_fit_the_line();

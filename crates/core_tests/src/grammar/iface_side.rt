@@ -1,9 +1,9 @@
-// What no clause says: that the definitions mean the lines that real engines write.
+// A fact that no clause says: that the definitions mean the lines that real engines write.
 use crate::expect::{expect, expect_text};
 use crate::rows::{
     bytes_in, bytes_of, cut, first, move_in, move_of, number_of, signed_of, small_of,
 };
-use cecp_iface_side::{read_reply, write_iface, written_messages_are_read_again};
+use cecp_as_interface::{read_reply, write_iface, written_messages_are_read_again};
 use cecp_lines::{IfaceMsg, Outcome, Reason, Reply, Spelling, UserError};
 use line_io::Out;
 use std::process::Abort;
@@ -98,7 +98,7 @@ fn moved<'a>(rt: &impl Abort, kind: &str, fields: &str) -> Reply<'a> {
     }
 }
 
-/// What a row says that a line means.
+/// The meaning that a row gives to a line.
 fn meant<'a>(rt: &impl Abort, want: &'a str) -> Option<Reply<'a>> {
     let (kind, fields) = cut(want);
     Some(match first(kind) {

@@ -85,7 +85,7 @@ fn go_of<'a>(rt: &impl Abort, fields: &str) -> Order<'a> {
     }
 }
 
-/// What a row says that a line means.
+/// The meaning that a row gives to a line.
 fn meant<'a>(rt: &impl Abort, want: &'a str) -> Order<'a> {
     let (kind, fields) = cut(want);
     match first(kind) {

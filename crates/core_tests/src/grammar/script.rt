@@ -17,7 +17,7 @@ const LENGTHS: [(u8, usize, bool); 4] = [
     (b'U', 131_073, false),
 ];
 
-/// Whether a line of a length that begins with a letter is a mark.
+/// True if a line of a length that begins with a letter is a mark.
 fn is_mark(rt: &impl Abort, alloc: Global, letter: u8, length: usize) -> bool {
     let mut line = vec![in alloc; b' '; length].expect(rt, "memory");
     if let Some(first) = line.first_mut() {

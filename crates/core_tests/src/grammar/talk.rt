@@ -2,7 +2,7 @@
 use crate::expect::expect;
 use fen_text::write_fen;
 use peer_words::GoKind;
-use uci_engine_side::{go_kind, spoken};
+use uci_as_engine::{go_kind, spoken};
 
 const START: &str = "rnbqkbnr/pppppppp/8/8/8/8/PPPPPPPP/RNBQKBNR w KQkq - 0 1";
 
@@ -54,7 +54,7 @@ const NO_POSITIONS: [&str; 7] = [
     "position fen moves e2e4",
 ];
 
-/// Whether a line is read as these moves, and as the position after them.
+/// True if a line is read as these moves, and as the position after them.
 fn is_spoken(line: &str, moves: &str, end: &str) -> bool {
     match spoken(line.as_bytes()) {
         Some(said) => {

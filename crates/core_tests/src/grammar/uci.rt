@@ -1,4 +1,4 @@
-// What engines report where the interface is shown nothing of it.
+// The reports of engines where the interface is shown nothing of them.
 use crate::expect::expect;
 use std::process::Abort;
 use uci_lines::{EngineMsg, OptionKind, OptionMsg, Score, read_engine};
@@ -30,8 +30,8 @@ const REPORTS: [Row; 6] = [
     ("info string depth 9", None, None, false),
 ];
 
-/// Whether a line is a report with these values.
-fn tells(line: &str, time: Option<u64>, score: Option<Score>, bound: bool) -> bool {
+/// True if a line is a report with these values.
+fn reports(line: &str, time: Option<u64>, score: Option<Score>, bound: bool) -> bool {
     match read_engine(line.as_bytes()) {
         EngineMsg::Info(info) => info.time == time && info.score == score && info.bound == bound,
         _ => false,
@@ -41,7 +41,7 @@ fn tells(line: &str, time: Option<u64>, score: Option<Score>, bound: bool) -> bo
 #[test]
 fn engine_lines(rt: HostRuntime) {
     for (line, time, score, bound) in &REPORTS {
-        expect(&rt, tells(line, *time, *score, *bound), line);
+        expect(&rt, reports(line, *time, *score, *bound), line);
     }
 }
 

@@ -101,8 +101,8 @@ fn lines_are_cut_at_white_space(rt: HostRuntime) {
     expect_text(&rt, rest, "40 5");
     let (none, after) = split_token(b" \r");
     expect(&rt, none.is_empty() && after.is_empty(), "no token");
-    let (front, behind) = split_at_white(b"level\t40 5");
-    expect_text(&rt, front, "level");
+    let (prefix, behind) = split_at_white(b"level\t40 5");
+    expect_text(&rt, prefix, "level");
     expect_text(&rt, behind, "\t40 5");
 }
 

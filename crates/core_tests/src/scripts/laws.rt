@@ -1,4 +1,4 @@
-use lawful_talk::{logs_are_clean, scripts_are_clean};
+use judge_and_driver_laws::{logs_are_clean, scripts_are_clean};
 use policy_rules::Settings;
 use session_judge::crossings_are_the_difference;
 

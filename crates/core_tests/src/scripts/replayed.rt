@@ -4,8 +4,8 @@ ghost use Rattle.std.specs.Prelude.{◌<◌};
 
 use crate::expect::expect;
 use crate::scripts::streams::Streams;
+use line_command::{Ending, report_without_buffer};
 use line_io::MemSink;
-use line_scribe::{Ending, tell_short};
 use replay_tool::{refuse_for_memory, replay_main};
 use std::alloc::Global;
 use std::process::Abort;
@@ -32,18 +32,18 @@ const NUMBERED_SCRIPT: &str =
 type Answer = (u8, &'static str, &'static str);
 
 /// The words as the program takes them.
-fn words_of(rt: &impl Abort, alloc: Global, words: &[&[u8]]) -> Vec<Vec<u8>> {
+fn arguments_of(rt: &impl Abort, alloc: Global, arguments: &[&[u8]]) -> Vec<Vec<u8>> {
     let mut list = Vec::new(alloc);
-    for word in words {
-        let word = Vec::from_slice(alloc, word).expect(rt, "memory");
-        list.push(word).expect(rt, "memory");
+    for argument in arguments {
+        let argument = Vec::from_slice(alloc, argument).expect(rt, "memory");
+        list.push(argument).expect(rt, "memory");
     }
     list
 }
 
 /// Runs the program on words, and gives its status.
-fn status_of(rt: &impl Abort, alloc: Global, words: &[&[u8]], streams: &mut Streams) -> u8 {
-    let list = words_of(rt, alloc, words);
+fn status_of(rt: &impl Abort, alloc: Global, arguments: &[&[u8]], streams: &mut Streams) -> u8 {
+    let list = arguments_of(rt, alloc, arguments);
     let input = &mut streams.input;
     let output = &mut streams.output;
     replay_main(alloc, list.as_slice(), input, output, &mut streams.diag).code
@@ -53,15 +53,15 @@ fn status_of(rt: &impl Abort, alloc: Global, words: &[&[u8]], streams: &mut Stre
 fn expect_answer(
     rt: &impl Abort,
     alloc: Global,
-    words: &[&[u8]],
+    arguments: &[&[u8]],
     mut streams: Streams,
     want: Answer,
 ) {
-    let (status, output, told) = want;
-    let found = status_of(rt, alloc, words, &mut streams);
+    let (status, output, reported) = want;
+    let found = status_of(rt, alloc, arguments, &mut streams);
     expect(rt, streams.output.taken() == output.as_bytes(), output);
-    let same = found == status && streams.diag.taken() == told.as_bytes();
-    expect(rt, same, told);
+    let same = found == status && streams.diag.taken() == reported.as_bytes();
+    expect(rt, same, reported);
 }
 
 /// An input in pieces of each size below eight gives this script, and the script gives itself and
@@ -86,15 +86,15 @@ fn inputs_in_pieces_are_replayed(rt: HostRuntime) {
     expect_script(&rt, rt.alloc(), NUMBERED, NUMBERED_SCRIPT);
 }
 
-/// What these words answer whose first write fails.
-fn expect_no_write(rt: &impl Abort, alloc: Global, words: &[&[u8]], input: &[u8]) {
+/// The answer to these arguments if the first write fails.
+fn expect_no_write(rt: &impl Abort, alloc: Global, arguments: &[&[u8]], input: &[u8]) {
     let streams = Streams::failing(rt, alloc, input, 4096, &[], &[1]);
     let want = (5, "", "replay: writing failed\n");
-    expect_answer(rt, alloc, words, streams, want);
+    expect_answer(rt, alloc, arguments, streams, want);
 }
 
 #[test]
-fn a_read_that_fails_is_told(rt: HostRuntime) {
+fn a_read_that_fails_is_reported(rt: HostRuntime) {
     let alloc = rt.alloc();
     let unread = Streams::failing(&rt, alloc, b"x ping 1\nx ping 2\n", 9, &[2], &[]);
     let output = "U uci\nx ping 1\nX pong 1\n";
@@ -103,7 +103,7 @@ fn a_read_that_fails_is_told(rt: HostRuntime) {
 }
 
 #[test]
-fn writes_that_fail_are_told(rt: HostRuntime) {
+fn writes_that_fail_are_reported(rt: HostRuntime) {
     let alloc = rt.alloc();
     let moves = [
         b"moves".as_slice(),
@@ -118,26 +118,26 @@ fn writes_that_fail_are_told(rt: HostRuntime) {
 }
 
 #[test]
-fn a_word_that_is_no_text_is_told(rt: HostRuntime) {
+fn an_argument_that_is_no_text_is_reported(rt: HostRuntime) {
     let empty = Streams::make(&rt, rt.alloc(), b"", 7);
     let want = (2, "", "replay: position: board\n");
     expect_answer(&rt, rt.alloc(), &[b"moves", b"\xff"], empty, want);
 }
 
 #[test]
-fn a_lack_of_memory_is_told(rt: HostRuntime) {
+fn a_lack_of_memory_is_reported(rt: HostRuntime) {
     let mut diag = MemSink::make(rt.alloc(), 100, &[]).expect(&rt, "memory");
     let refused = refuse_for_memory(&mut diag).code == 3;
-    let told = diag.taken() == b"replay: no memory\n".as_slice();
-    expect(&rt, refused && told, "no memory");
+    let reported = diag.taken() == b"replay: no memory\n".as_slice();
+    expect(&rt, refused && reported, "no memory");
 }
 
 #[test]
-fn an_endless_input_is_told(rt: HostRuntime) {
+fn an_endless_input_is_reported(rt: HostRuntime) {
     let mut diag = MemSink::make(rt.alloc(), 100, &[]).expect(&rt, "memory");
-    let refused = tell_short(Ending::TooLong, &mut diag).code() == 6;
-    let told = diag.taken() == b"replay: input too long\n".as_slice();
-    expect(&rt, refused && told, "too long");
+    let refused = report_without_buffer(Ending::TooLong, &mut diag).code() == 6;
+    let reported = diag.taken() == b"replay: input too long\n".as_slice();
+    expect(&rt, refused && reported, "too long");
 }
 
 /// A line of so many letters.
@@ -150,7 +150,7 @@ fn letters(rt: &impl Abort, alloc: Global, count: usize) -> Vec<u8> {
     line
 }
 
-/// How long the script of an input is, if it is replayed.
+/// The length of the script of an input, if it is replayed.
 fn script_length(rt: &impl Abort, alloc: Global, input: &[u8]) -> Option<usize> {
     let mut streams = Streams::make(rt, alloc, input, 4096);
     let done = status_of(rt, alloc, &[b"replay"], &mut streams) == 0;

@@ -1,4 +1,4 @@
-// What a command reads and writes, and its diagnostic, in memory.
+// The input and the output of a command, and its diagnostic, in memory.
 ghost use Rattle.std.specs.Prelude.{◌<◌};
 
 use line_io::{MemSink, MemSource};

@@ -45,19 +45,19 @@ fn option_of<'a>(rt: &impl Abort, line: &'a str) -> OptionMsg<'a> {
 }
 
 /// Declares what each line tells, and compares what comes of it.
-fn expect_told(rt: &impl Abort, rows: &[Row], options: &mut Options) {
+fn expect_reported(rt: &impl Abort, rows: &[Row], options: &mut Options) {
     for (line, want) in rows {
-        let told = options.declare(&option_of(rt, line), false);
-        expect(rt, told == *want, line);
+        let reported = options.declare(&option_of(rt, line), false);
+        expect(rt, reported == *want, line);
     }
 }
 
-/// Whether there are so many options, and their texts are so long.
+/// True if there are so many options, and their texts are so long.
 fn are_so_many(options: &Options, count: usize, text: usize) -> bool {
     options.count() == count && options.text() == text
 }
 
-/// Whether an option is declared, and there are so many then, and their texts are so long.
+/// True if an option is declared, and there are so many then, and their texts are so long.
 fn declares(msg: &OptionMsg, count: usize, text: usize, options: &mut Options) -> bool {
     options.declare(msg, false) == Declared::Done && are_so_many(options, count, text)
 }
@@ -65,7 +65,7 @@ fn declares(msg: &OptionMsg, count: usize, text: usize, options: &mut Options) -
 /// Declares what each line tells where nothing else is declared, and compares what comes of it.
 fn expect_alone(rt: &impl Abort, alloc: Global, rows: &[Row]) {
     let mut options = Options::make(alloc).expect(rt, "memory for the options");
-    expect_told(rt, rows, &mut options);
+    expect_reported(rt, rows, &mut options);
 }
 
 /// Declares as much text as there may be, by two options with these letters.
@@ -75,7 +75,7 @@ fn fill_text(rt: &impl Abort, letters: &[u8], options: &mut Options) {
     expect(rt, declares(&first, 1, 32_768, options), "1 options");
     let second = OptionMsg { name: b"B", kind };
     expect(rt, declares(&second, 2, 65_536, options), "2 options");
-    expect_told(rt, &FULL_TEXT, options);
+    expect_reported(rt, &FULL_TEXT, options);
 }
 
 /// Declares so much text where nothing else is declared.
@@ -108,7 +108,7 @@ fn fill_table(options: &mut Options) {
 fn declares_so_many_options(rt: HostRuntime) {
     let mut options = Options::make(rt.alloc()).expect(&rt, "memory for the options");
     fill_table(&mut options);
-    expect_told(&rt, &FULL_TABLE, &mut options);
+    expect_reported(&rt, &FULL_TABLE, &mut options);
     // 27 bytes each
     expect(&rt, are_so_many(&options, 256, 6_912), "all");
 }
@@ -150,13 +150,13 @@ fn fill_bytes(rt: &impl Abort, longer: &[u8], held: &mut HeldOrders) {
     expect(rt, !held.fits(longer), "a longer one");
 }
 
-/// What a line begins with that sets an option to a long value.
+/// The beginning of a line that sets an option to a long value.
 const LONG: &[u8] = b"setoption name S value ";
 
 /// The letters of the longest value of an option named by one letter.
 const MOST: usize = 65_512;
 
-/// What spells no order does not fit.
+/// A text that spells no order does not fit.
 fn check_no_orders(rt: &impl Abort, held: &HeldOrders) {
     for line in &NO_ORDERS {
         expect(rt, !held.fits(line.as_bytes()), line);

@@ -15,13 +15,13 @@ const ROWS: [(&str, &str); 9] = [
     ("StrengthOptions", "false"),
 ];
 
-/// Whether a setting has this name and this usual value.
+/// True if a setting has this name and this usual value.
 fn is_called(setting: Setting, name: &str, usual: &str) -> bool {
     let row = setting.row();
     row.name == name && row.usual == usual
 }
 
-/// Whether the usual value of a setting is a number just if its range is one of numbers.
+/// True if the usual value of a setting is a number just if its range is one of numbers.
 fn is_in_range(setting: Setting) -> bool {
     let has_numbers = matches!(setting.row().range, Range::Number { .. });
     let value = Settings::usual().value(setting);

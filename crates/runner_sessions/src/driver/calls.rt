@@ -8,7 +8,8 @@ use cecp_driver::{
     Driver, DriverStep, EVENT_ROOM, LINE_LIMIT, put_marks, runs_are_sound, scripts_are_one,
     searches_are_on_the_ordered_game,
 };
-use lawful_talk::{engines_hear_the_ordered, lines_are_cecp};
+use driver_state_machine::moves_are_asked_for_once;
+use judge_and_driver_laws::{engines_hear_the_ordered, lines_are_cecp};
 use line_io::{Event, Out};
 use std::alloc::Global;
 use std::process::Abort;
@@ -17,7 +18,7 @@ fn gives(both: DriverStep, up: &str, child: &str) -> bool {
     both.up == up.as_bytes() && both.child == child.as_bytes()
 }
 
-/// Whether a line with its mark, `x` of an order and `u` of a line of the engine, or `u.` of its
+/// True if a line with its mark, `x` of an order and `u` of a line of the engine, or `u.` of its
 /// end, gives these lines up to the interface, and these to the engine.
 fn plays_row(driver: &mut Driver, row: &str) -> bool {
     let (marked, up, child) = three_of(row);
@@ -35,7 +36,7 @@ fn expect_played(rt: &impl Abort, driver: &mut Driver, rows: &str) {
     }
 }
 
-// How each session begins.
+// The beginning of each session.
 const OPENING: &str = "\
     x uci||xboard\nprotover 2\n;\
     u feature ping=1 setboard=1 usermove=1 analyze=1 myname=\"Old\" done=1\
@@ -142,6 +143,7 @@ fn expect_marks(rt: &impl Abort, alloc: Global) {
 
 #[test]
 fn events_are_played(rt: HostRuntime) {
+    moves_are_asked_for_once();
     searches_are_on_the_ordered_game();
     runs_are_sound();
     scripts_are_one();

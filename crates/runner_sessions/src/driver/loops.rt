@@ -1,18 +1,18 @@
 // The loop and both pipes over sources and sinks in memory.
 ghost use Rattle.std.specs.Prelude.{◌≡◌, []};
-ghost use Rattle.event_pipe.specs.Ends.{IsSender, IsFreshTaker, events_sent};
-ghost use Rattle.mediator.specs.Ran.{AreReady};
-ghost use Rattle.driver_runner.specs.Drives.{drives};
-ghost use Rattle.runner_sessions.specs.Ready.{IsReady};
+ghost use Rattle.event_pipe.specs.Ends.{IsSender, IsFreshReceiver, events_sent};
+ghost use Rattle.mediator.specs.Ran.{MediatorIsReady};
+ghost use Rattle.driver_runner.specs.Drives.{driving_meaning};
+ghost use Rattle.runner_sessions.specs.Ready.{IsLogReady};
 
 use crate::expected::{expect_bytes, expect_true};
 use crate::streams::{letters_before, sink, source};
 use cecp_driver::Driver;
 use driver_runner::Driving;
 use event_pipe::{Pipe, PipeSend, PipeTake, ReadEnd, read_pipe};
-use host_run::{HandedStreams, Interface, LoopEnd};
 use line_io::{MemSink, MemSource, Out};
 use mediator::{MediatorParts, RunEnd, TURN_ROOM, Turns, mediate, run_pipes};
+use program_lifecycle::{HandedStreams, Interface, LoopEnd};
 use std::alloc::Global;
 use std::process::Abort;
 use std::sync::Wait;
@@ -29,16 +29,16 @@ const LOG: &[u8] = b"\
     u feature ping=1\n\
     u.\n";
 
-// What a run needs.
-fn make_turns(rt: &impl Abort, alloc: Global, taker: PipeTake) -> Turns<Driving>
-    ensures taker { result.taker ≡ taker }
-    ensures ready { IsReady result.mediator result.text }
+// The parts that a run needs.
+fn make_turns(rt: &impl Abort, alloc: Global, receiving_end: PipeTake) -> Turns<Driving>
+    ensures receiving_end { result.receiving_end ≡ receiving_end }
+    ensures ready { IsLogReady result.mediator result.text }
 {
     let text = Out::make(alloc, TURN_ROOM).expect(rt, "memory for the marks");
     let driver = Driver::make(alloc).expect(rt, "memory for the driver");
     Turns {
         mediator: Driving { driver },
-        taker,
+        receiving_end,
         text,
     }
 }
@@ -80,12 +80,12 @@ fn read_lines<R: Wait + Abort>(rt: &R, alloc: Global, lines: &[u8], to: PipeSend
 fn mediate_all<R: Wait + Abort>(
     rt: &R,
     alloc: Global,
-    taker: PipeTake,
+    receiving_end: PipeTake,
     sinks: &mut Sinks,
 ) -> LoopEnd
-    requires taker { IsFreshTaker taker }
+    requires receiving_end { IsFreshReceiver receiving_end }
 {
-    let mut turns = make_turns(rt, alloc, taker);
+    let mut turns = make_turns(rt, alloc, receiving_end);
     mediate(
         rt,
         &mut turns,
@@ -98,10 +98,10 @@ fn mediate_all<R: Wait + Abort>(
 
 // Runs the loop over these lines of the interface, and a line of the engine behind them.
 fn run_loop<R: Wait + Abort>(rt: &R, alloc: Global, lines: &[u8], sinks: &mut Sinks) -> LoopEnd {
-    let (iface, child, taker) = Pipe::make(alloc).expect(rt, "memory for the channel");
+    let (iface, child, receiving_end) = Pipe::make(alloc).expect(rt, "memory for the channel");
     read_lines(rt, alloc, lines, iface);
     read_lines(rt, alloc, b"feature ping=1\n", child);
-    mediate_all(rt, alloc, taker, sinks)
+    mediate_all(rt, alloc, receiving_end, sinks)
 }
 
 // A line of 65,537 bytes, and two orders after it, which come before the engine's line.
@@ -123,15 +123,15 @@ fn long_lines_are_passed_over(rt: HostRuntime) {
     }
 }
 
-// What a run of both pipes needs.
+// The parts that a run of both pipes needs.
 fn make_parts(rt: &impl Abort, alloc: Global) -> MediatorParts<Driving>
-    ensures { AreReady drives result }
+    ensures { MediatorIsReady driving_meaning result }
 {
-    let (iface, engine, taker) = Pipe::make(alloc).expect(rt, "memory for the channel");
+    let (iface, engine, receiving_end) = Pipe::make(alloc).expect(rt, "memory for the channel");
     MediatorParts {
         iface,
         engine,
-        turns: make_turns(rt, alloc, taker),
+        turns: make_turns(rt, alloc, receiving_end),
     }
 }
 

@@ -6,7 +6,7 @@ use crate::runs::{Peers, WholeLog, expect_log, expect_runs};
 use crate::streams::{sink, words_of};
 use driver_runner::{logs_are_whole, refuse_for_memory};
 use paced_host::DueText;
-use program_edges::{EngineRequest, WordsRefusal, read_words};
+use program_command_line::{ArgumentsRefusal, EngineRequest, read_arguments};
 use std::alloc::Global;
 use std::process::Abort;
 
@@ -109,26 +109,26 @@ const LOG: WholeLog = WholeLog {
         u.\n",
 };
 
-// Whether these words ask for nothing since they are not the program's.
-fn are_refused(alloc: Global, words: &[Vec<u8>]) -> bool {
-    match read_words(alloc, words) {
+// True if these arguments ask for nothing since they are not the program's.
+fn are_refused(alloc: Global, arguments: &[Vec<u8>]) -> bool {
+    match read_arguments(alloc, arguments) {
         Ok(_) => false,
-        Err(refusal) => refusal == WordsRefusal::Usage,
+        Err(refusal) => refusal == ArgumentsRefusal::Usage,
     }
 }
 
 // The words of a row are refused just if its status is 2.
 fn expect_refusals(rt: &impl Abort, alloc: Global, rows: &str) {
     for row in rows.split(';') {
-        let (_, words, others) = three_of(row);
+        let (_, arguments, others) = three_of(row);
         let (_, code, _) = three_of(others);
-        let words = words_of(rt, alloc, words);
-        let is_refused = are_refused(alloc, words.as_slice());
+        let arguments = words_of(rt, alloc, arguments);
+        let is_refused = are_refused(alloc, arguments.as_slice());
         expect_true(rt, row, is_refused == (code == "2"));
     }
 }
 
-// Whether this log and an engine of these two words are asked for.
+// True if this log and an engine of these two words are asked for.
 fn asks_for(request: &EngineRequest, log_name: &str, program: &str, argument: &str) -> bool {
     let [first, second] = request.engine.as_slice() else {
         return false;
@@ -139,8 +139,8 @@ fn asks_for(request: &EngineRequest, log_name: &str, program: &str, argument: &s
 }
 
 fn are_read(rt: &impl Abort, alloc: Global) -> bool {
-    let words = words_of(rt, alloc, "d.log,--,-x");
-    match read_words(alloc, words.as_slice()) {
+    let arguments = words_of(rt, alloc, "d.log,--,-x");
+    match read_arguments(alloc, arguments.as_slice()) {
         Ok(request) => asks_for(&request, "d.log", "--", "-x"),
         Err(_) => false,
     }

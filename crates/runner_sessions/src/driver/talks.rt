@@ -8,7 +8,7 @@ use paced_host::DueText;
 const PLAYS: Talk = Talk {
     name: "an engine plays",
     program: Program::Driver,
-    words: "d.log,engine",
+    arguments: "d.log,engine",
     iface: &[
         DueText {
             lines: 0,

@@ -1,8 +1,8 @@
 // Searches, call by call.
 use crate::expected::expect_true;
 use chess_board::{Move, Square};
-use driver_talk::{
-    BoardChange, DriverCall, DriverDeed, DriverTalk, GoClocks, Reach, ToEngine, ToIface,
+use driver_state_machine::{
+    BoardChange, DriverAction, DriverCall, DriverState, GoClocks, Reach, ToEngine, ToIface,
     WantedSearch,
 };
 use peer_words::GoKind;
@@ -29,11 +29,11 @@ const A1B1: Move = Move {
 struct Turn {
     name: &'static str,
     call: DriverCall,
-    deed: DriverDeed,
+    action: DriverAction,
     is_free: bool,
 }
 
-const QUIET: DriverDeed = DriverDeed {
+const QUIET: DriverAction = DriverAction {
     up: ToIface::Nothing,
     down: ToEngine::Nothing,
     board: BoardChange::Same,
@@ -55,7 +55,7 @@ const PONDERED: [Turn; 6] = [
     Turn {
         name: "uci greets the engine",
         call: DriverCall::Uci,
-        deed: DriverDeed {
+        action: DriverAction {
             down: ToEngine::Greeting,
             ..QUIET
         },
@@ -64,7 +64,7 @@ const PONDERED: [Turn; 6] = [
     Turn {
         name: "go ponder has it analyse",
         call: DriverCall::Go(GO_PONDER),
-        deed: DriverDeed {
+        action: DriverAction {
             down: ToEngine::Analyse {
                 clocks: CLOCKS,
                 ping: None,
@@ -76,7 +76,7 @@ const PONDERED: [Turn; 6] = [
     Turn {
         name: "ponderhit has it leave the analysis",
         call: DriverCall::PonderHit,
-        deed: DriverDeed {
+        action: DriverAction {
             down: ToEngine::Leave { ping: 1 },
             ..QUIET
         },
@@ -85,13 +85,13 @@ const PONDERED: [Turn; 6] = [
     Turn {
         name: "a move before its pong is passed over",
         call: DriverCall::Moved(Some(A1B1)),
-        deed: QUIET,
+        action: QUIET,
         is_free: false,
     },
     Turn {
         name: "its pong has it think",
         call: DriverCall::Pong(1),
-        deed: DriverDeed {
+        action: DriverAction {
             down: ToEngine::Resume { clocks: CLOCKS },
             ..QUIET
         },
@@ -100,7 +100,7 @@ const PONDERED: [Turn; 6] = [
     Turn {
         name: "its move is the best one",
         call: DriverCall::Moved(Some(A1B1)),
-        deed: DriverDeed {
+        action: DriverAction {
             up: ToIface::Best(Some(A1B1)),
             board: BoardChange::Moved(A1B1),
             ..QUIET
@@ -113,7 +113,7 @@ const RESIGNED: [Turn; 6] = [
     Turn {
         name: "uci greets an engine that will resign",
         call: DriverCall::Uci,
-        deed: DriverDeed {
+        action: DriverAction {
             down: ToEngine::Greeting,
             ..QUIET
         },
@@ -122,10 +122,10 @@ const RESIGNED: [Turn; 6] = [
     Turn {
         name: "go has it play",
         call: DriverCall::Go(GO),
-        deed: DriverDeed {
+        action: DriverAction {
             down: ToEngine::Play {
                 clocks: CLOCKS,
-                hurried: false,
+                at_once: false,
             },
             ..QUIET
         },
@@ -134,7 +134,7 @@ const RESIGNED: [Turn; 6] = [
     Turn {
         name: "it resigns: there is no best move, and it retreats",
         call: DriverCall::Resigned,
-        deed: DriverDeed {
+        action: DriverAction {
             up: ToIface::Best(None),
             down: ToEngine::Retreat { ping: 1 },
             board: BoardChange::Lost,
@@ -144,22 +144,22 @@ const RESIGNED: [Turn; 6] = [
     Turn {
         name: "go before its pong waits",
         call: DriverCall::Go(GO),
-        deed: QUIET,
+        action: QUIET,
         is_free: false,
     },
     Turn {
         name: "stop before its pong waits too",
         call: DriverCall::Stop,
-        deed: QUIET,
+        action: QUIET,
         is_free: false,
     },
     Turn {
         name: "its pong has it play in a hurry",
         call: DriverCall::Pong(1),
-        deed: DriverDeed {
+        action: DriverAction {
             down: ToEngine::Play {
                 clocks: CLOCKS,
-                hurried: true,
+                at_once: true,
             },
             ..QUIET
         },
@@ -168,15 +168,15 @@ const RESIGNED: [Turn; 6] = [
 ];
 
 // Plays a turn, and gives what it leads to.
-fn played(rt: &impl Abort, talk: DriverTalk, turn: &Turn) -> DriverTalk {
+fn played(rt: &impl Abort, talk: DriverState, turn: &Turn) -> DriverState {
     let found = talk.step(turn.call);
-    expect_true(rt, turn.name, found.deed == turn.deed);
+    expect_true(rt, turn.name, found.action == turn.action);
     expect_true(rt, turn.name, found.talk.is_free() == turn.is_free);
     found.talk
 }
 
 fn expect_turns(rt: &impl Abort, turns: &[Turn]) {
-    let mut talk = DriverTalk::new();
+    let mut talk = DriverState::new();
     for turn in turns {
         talk = played(rt, talk, turn);
     }

@@ -2,8 +2,8 @@
 use crate::expected::{expect_bytes, expect_true};
 use engine_revival::{
     EVENT_ROOM, Revival, RevivalOrder, RevivalStep, lines_up_are_waited_for, lives_are_in_order,
-    living_engines_are_heard, no_life_idles, put_marks, read_order, searches_are_given,
-    talk_is_lawful,
+    living_engines_are_heard, no_life_idles, own_orders_are_taken, put_marks, read_order,
+    ready_is_answered, searches_are_given, talk_is_lawful,
 };
 use line_io::{Event, Out};
 use peer_words::GoKind;
@@ -59,7 +59,9 @@ fn calls_that_no_session_makes(rt: HostRuntime) {
     lines_up_are_waited_for();
     living_engines_are_heard();
     no_life_idles();
+    own_orders_are_taken();
     searches_are_given();
+    ready_is_answered();
     talk_is_lawful();
     expect_true(&rt, "ponder", is_ponder(b"go depth 3 ponder"));
     expect_true(&rt, "button", is_button(b"setoption name  Clear Hash"));

@@ -2,7 +2,7 @@
 ghost use Rattle.std.specs.Prelude.{◌≡◌, ◌≤◌, [], true, false};
 ghost use Rattle.engine_revival.specs.Steps.{is_alive};
 ghost use Rattle.engine_revival.specs.declared.script.TheConstants.{EVENT_ROOM};
-ghost use Rattle.event_pipe.specs.Ends.{IsSender, IsTaker, KeepsSender, KeepsTaker, events_sent};
+ghost use Rattle.event_pipe.specs.Ends.{IsSender, IsReceiver, KeepsSender, KeepsReceiver, events_sent};
 ghost use Rattle.event_pipe.specs.Rule.{has_last_event};
 ghost use Rattle.event_pipe.specs.declared.message.Peer.TheVariants as peers;
 ghost use Rattle.reviver_runner.specs.Looped.{IsReadyLoop, KeepsLoop};
@@ -11,18 +11,18 @@ use crate::expected::{expect_bytes, expect_true};
 use crate::streams::{letters_before, sink, source};
 use engine_revival::{EVENT_ROOM, Revival};
 use event_pipe::{Pipe, PipeSend, PipeTake, ReadEnd, read_pipe};
-use host_run::LoopEnd;
 use line_io::{Event, MemSink, MemSource, Out};
+use program_lifecycle::LoopEnd;
 use reviver_runner::{LifeRun, MarkedLog, RevivalLoop, one_life, read_life};
 use std::alloc::Global;
 use std::process::Abort;
 use std::sync::Wait;
 use std::thread::Threads;
 
-// Whether this event is the next in the channel.
+// Expects that this event is the next in the channel.
 fn expect_event<R: Wait + Abort>(rt: &R, from: &mut PipeTake, wanted: &Event)
-    requires { IsTaker from.old }
-    ensures { KeepsTaker from.old from.new }
+    requires { IsReceiver from.old }
+    ensures { KeepsReceiver from.old from.new }
 {
     let sent = from.take(rt);
     expect_true(rt, "an event", sent.event() == *wanted);
@@ -44,12 +44,15 @@ fn expect_lines<R: Wait + Abort>(rt: &R, alloc: Global, to: &mut PipeSend)
 #[test]
 fn a_life_is_read_to_its_end(rt: HostRuntime) {
     let alloc = rt.alloc();
-    let (iface, mut child, mut taker) = Pipe::make(alloc).expect(&rt, "memory for the channel");
+    let (iface, mut child, mut receiving_end) = Pipe::make(alloc).expect(
+        &rt,
+        "memory for the channel",
+    );
     expect_lines(&rt, alloc, &mut child);
-    expect_event(&rt, &mut taker, &Event::Engine(b"uciok"));
-    expect_event(&rt, &mut taker, &Event::Engine(b"best"));
-    expect_event(&rt, &mut taker, &Event::EngineLong);
-    Pipe::finish(iface, child, taker);
+    expect_event(&rt, &mut receiving_end, &Event::Engine(b"uciok"));
+    expect_event(&rt, &mut receiving_end, &Event::Engine(b"best"));
+    expect_event(&rt, &mut receiving_end, &Event::EngineLong);
+    Pipe::finish(iface, child, receiving_end);
 }
 
 // A log, and the room for the marks of an event.

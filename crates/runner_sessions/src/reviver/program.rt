@@ -4,7 +4,7 @@ use crate::programs::Program;
 use crate::runs::{Peers, WholeLog, expect_log, expect_runs};
 use crate::streams::{sink, words_of};
 use paced_host::DueText;
-use reviver_runner::{logs_are_whole, read_words, refuse_for_memory};
+use reviver_runner::{logs_are_whole, read_arguments, refuse_for_memory};
 use std::alloc::Global;
 use std::process::Abort;
 
@@ -88,10 +88,10 @@ const LOG: WholeLog = WholeLog {
         x quit\n",
 };
 
-// Whether the words that are taken are read as what they ask for.
+// True if the words that are taken are read as what they ask for.
 fn are_read(rt: &impl Abort, alloc: Global) -> bool {
-    let words = words_of(rt, alloc, "9,-,toy,--deep");
-    match read_words(alloc, words.as_slice()) {
+    let arguments = words_of(rt, alloc, "9,-,toy,--deep");
+    match read_arguments(alloc, arguments.as_slice()) {
         Ok(request) => {
             request.lives == 9 && request.log_name.as_str() == "-" && request.engine.len() == 2
         }

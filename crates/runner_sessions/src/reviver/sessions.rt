@@ -16,7 +16,7 @@ fn is_line(line: &[u8]) -> bool
     line.len() <= MOST_LINE && !line.contains(&b'\n')
 }
 
-// What an order gives, if it may come.
+// The output of an order, if it may come.
 fn order<'a>(revival: &'a mut Revival, line: &[u8]) -> Option<RevivalStep<'a>> {
     if revival.awaits_next() || !is_line(line) {
         return None;
@@ -31,7 +31,7 @@ fn heard<'a>(revival: &'a mut Revival, line: &[u8]) -> Option<RevivalStep<'a>> {
     Some(revival.heard(line))
 }
 
-// What the end of the life gives, if another one follows just if one is wanted.
+// The output of the end of the life, if another one follows just if one is wanted.
 fn ended(revival: &mut Revival, next: bool) -> Option<RevivalStep<'_>> {
     if !revival.is_alive() {
         return None;
@@ -43,7 +43,7 @@ fn ended(revival: &mut Revival, next: bool) -> Option<RevivalStep<'_>> {
     }
 }
 
-// What this gives, if it may come.
+// The output of this, if it may come.
 fn answer<'a>(revival: &'a mut Revival, comes: &[u8]) -> Option<RevivalStep<'a>> {
     match comes {
         [b'x', b' ', line @ ..] => order(revival, line),
@@ -54,7 +54,7 @@ fn answer<'a>(revival: &'a mut Revival, comes: &[u8]) -> Option<RevivalStep<'a>>
     }
 }
 
-// Whether what comes gives these lines up, and these to the engine. An order comes after `x`, a
+// True if what comes gives these lines up, and these to the engine. An order comes after `x`, a
 // line of the engine after `u`; at `u!` the life ends and another one begins, and at `u.` it ends
 // and none follows.
 fn gives(revival: &mut Revival, comes: &str, up: &str, child: &str) -> bool {
@@ -96,6 +96,26 @@ const NO_LIFE: &str = "\
     u.|uciok\n|;\
     x isready|readyok\n|";
 
+// `isready` between a `position`, another one and `go`, and in the search in which a life ends.
+const READY: &str = "\
+    x uci||uci\n;\
+    x isready||;\
+    u uciok|uciok\n|isready\n;\
+    u readyok|readyok\n|;\
+    x position startpos||;\
+    x isready||isready\n;\
+    u readyok|readyok\n|;\
+    x position startpos moves e2e4||;\
+    x go infinite||position startpos moves e2e4\ngo infinite\n;\
+    x isready||isready\n;\
+    u!||uci\n;\
+    x isready||;\
+    u uciok||isready\nisready\nposition startpos moves e2e4\ngo infinite\n;\
+    u readyok|readyok\n|;\
+    x stop||stop\n;\
+    u.|readyok\nbestmove 0000\n|;\
+    x isready|readyok\n|";
+
 const ONE_NAME: &str = "\
     x \tuci ||uci\n;\
     u uciok|uciok\n|;\
@@ -127,6 +147,7 @@ const NO_ORDERS: &str = "\
 fn sessions(rt: HostRuntime) {
     expect_session(&rt, rt.alloc(), 2, SECOND_LIFE);
     expect_session(&rt, rt.alloc(), 1, NO_LIFE);
+    expect_session(&rt, rt.alloc(), 2, READY);
     expect_session(&rt, rt.alloc(), 2, ONE_NAME);
     expect_session(&rt, rt.alloc(), 1, NO_ORDERS);
 }

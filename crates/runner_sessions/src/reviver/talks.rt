@@ -7,7 +7,7 @@ use paced_host::DueText;
 const SECOND_LIFE: Talk = Talk {
     name: "a search goes on in the second life",
     program: Program::Reviver,
-    words: "2,a.log,toy",
+    arguments: "2,a.log,toy",
     iface: &[
         DueText {
             lines: 0,

@@ -1,16 +1,16 @@
 // Both directions and the log, over sources and sinks in memory.
 ghost use Rattle.std.specs.Prelude.{◌≡◌, ◌<◌, [], vec_len};
-ghost use Rattle.event_pipe.specs.Ends.{IsSender, IsFreshSender, IsFreshTaker, events_sent};
+ghost use Rattle.event_pipe.specs.Ends.{IsSender, IsFreshSender, IsFreshReceiver, events_sent};
 ghost use Rattle.event_pipe.specs.declared.message.Peer.TheVariants as peers;
-ghost use Rattle.tap_runner.specs.Hearing.{fresh};
-ghost use Rattle.tap_runner.specs.Parts.{AreReady};
+ghost use Rattle.tap_runner.specs.Hearing.{no_open_line};
+ghost use Rattle.tap_runner.specs.Parts.{TapPartsAreReady};
 
 use crate::expected::{expect_bytes, expect_true};
 use crate::streams::{letters_before, sink, source};
-use child_engine::LetGo;
+use child_engine::ClosableSink;
 use event_pipe::{Peer, Pipe, PipeSend, PipeTake};
-use host_run::{HandedStreams, Interface};
 use line_io::{MemSink, MemSource, Out, Sink, Source};
+use program_lifecycle::{HandedStreams, Interface};
 use std::alloc::Global;
 use std::process::Abort;
 use std::sync::Wait;
@@ -19,7 +19,7 @@ use tap_runner::{
     Direction, LOG_ROOM, OpenLine, PassEnd, TapEnd, TapParts, hand_on, keep_log, run_tap,
 };
 
-/// What both peers say; which writes of the engine's bytes fail; what the bridge gets, and the log.
+/// The texts of both peers; the writes of the engine's bytes that fail; what the bridge gets, and the log.
 #[derive(Clone, Copy)]
 struct Row {
     name: &'static str,
@@ -65,10 +65,10 @@ const ROWS: [Row; 2] = [
     },
 ];
 
-// What a direction needs.
+// The parts that a direction needs.
 fn make_way(rt: &impl Abort, alloc: Global, peer: Peer, to: PipeSend) -> Direction
     ensures to { result.to ≡ to }
-    ensures part { result.part ≡ fresh peer }
+    ensures part { result.part ≡ no_open_line peer }
     ensures room { 0 < vec_len result.buf }
 {
     Direction {
@@ -97,27 +97,32 @@ fn pass<R: Wait + Abort>(
 }
 
 // Keeps a log of what is in the channel.
-fn keep_all<R: Wait + Abort>(rt: &R, alloc: Global, taker: PipeTake, log: &mut Option<MemSink>)
-    requires { IsFreshTaker taker }
+fn keep_all<R: Wait + Abort>(
+    rt: &R,
+    alloc: Global,
+    receiving_end: PipeTake,
+    log: &mut Option<MemSink>,
+)
+    requires { IsFreshReceiver receiving_end }
 {
-    let mut taker = taker;
+    let mut receiving_end = receiving_end;
     let mut text = Out::make(alloc, LOG_ROOM).expect(rt, "memory for a mark");
-    let _failed = keep_log(rt, &mut taker, log, &mut text);
+    let _failed = keep_log(rt, &mut receiving_end, log, &mut text);
 }
 
 // Compares what a log is made of what is in the channel.
-fn expect_log<R: Wait + Abort>(rt: &R, alloc: Global, row: &Row, taker: PipeTake)
-    requires { IsFreshTaker taker }
+fn expect_log<R: Wait + Abort>(rt: &R, alloc: Global, row: &Row, receiving_end: PipeTake)
+    requires { IsFreshReceiver receiving_end }
 {
     let mut log = Some(sink(rt, alloc, 1_000, &[]));
-    keep_all(rt, alloc, taker, &mut log);
+    keep_all(rt, alloc, receiving_end, &mut log);
     match &log {
         Some(log) => expect_bytes(rt, row.name, log.taken(), row.log),
         None => expect_true(rt, row.name, false),
     }
 }
 
-/// Whether no read and no memory was refused, and no write, or one.
+/// True if no read and no memory was refused, and no write, or one.
 pub fn is_end(end: &PassEnd, write_failed: bool) -> bool {
     !end.read_failed && end.write_failed == write_failed && !end.has_lacked_memory
 }
@@ -144,10 +149,10 @@ fn expect_up<R: Wait + Abort>(rt: &R, alloc: Global, row: &Row, to: PipeSend)
 }
 
 fn expect_passed<R: Wait + Abort>(rt: &R, alloc: Global, row: &Row) {
-    let (bridge, child, taker) = Pipe::make(alloc).expect(rt, "memory for the channel");
+    let (bridge, child, receiving_end) = Pipe::make(alloc).expect(rt, "memory for the channel");
     expect_down(rt, alloc, row, bridge);
     expect_up(rt, alloc, row, child);
-    expect_log(rt, alloc, row, taker);
+    expect_log(rt, alloc, row, receiving_end);
 }
 
 #[test]
@@ -157,15 +162,15 @@ fn bytes_are_handed_on_and_lines_are_logged(rt: HostRuntime) {
     }
 }
 
-// What a run of both directions needs.
+// The parts that a run of both directions needs.
 fn make_parts(rt: &impl Abort, alloc: Global) -> TapParts
-    ensures { AreReady result }
+    ensures { TapPartsAreReady result }
 {
-    let (bridge, child, taker) = Pipe::make(alloc).expect(rt, "memory for the channel");
+    let (bridge, child, receiving_end) = Pipe::make(alloc).expect(rt, "memory for the channel");
     TapParts {
         down: make_way(rt, alloc, Peer::Iface, bridge),
         up: make_way(rt, alloc, Peer::Engine, child),
-        taker,
+        receiving_end,
         text: Out::make(alloc, LOG_ROOM).expect(rt, "memory for a mark"),
     }
 }
@@ -174,8 +179,8 @@ fn make_parts(rt: &impl Abort, alloc: Global) -> TapParts
 pub fn run_both<
     I: Source + Send,
     S: Source + Send,
-    O: LetGo + Send,
-    E: LetGo + Send,
+    O: ClosableSink + Send,
+    E: ClosableSink + Send,
     L: Sink + Send,
     R: Threads + Wait + Sync + Abort,
 >(

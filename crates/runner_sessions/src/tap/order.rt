@@ -1,12 +1,12 @@
 // The mark of a line is sent to the log before its bytes are handed on, and the mark of an end
-// before the sink is let go. A sink waits here until the log has the mark: were the mark sent after
+// before the sink is closed. A sink waits here until the log has the mark: were the mark sent after
 // that, it would wait in vain, and say so in what it took.
 use crate::expected::{expect_bytes, expect_true};
 use crate::paced_sink::PacedSink;
 use crate::tap::directions::{is_end, run_both};
-use host_run::{HandedStreams, Interface};
 use line_io::MemSink;
 use paced_host::{DueText, PacedLog, PacedTexts};
+use program_lifecycle::{HandedStreams, Interface};
 use std::alloc::Global;
 use std::process::Abort;
 use std::sync::Wait;
@@ -82,7 +82,7 @@ const LOG: &[u8] = b"\
     x.\n\
     u.\n";
 
-/// How many lines the log took, and how many calls of the engine's input and of the output are
+/// The numbers of lines that the log took, and of calls of the engine's input and of the output that are
 /// over.
 #[derive(Drop)]
 struct Counts {

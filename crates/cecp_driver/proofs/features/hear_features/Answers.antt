@@ -1,7 +1,7 @@
 use Rattle.std.proofs.Common.{◌≡◌, ◌∙◌, ap, arith, length}
 use Rattle.line_io.specs.Out.{Text}
-use Rattle.driver_talk.specs.Parts.{parts, cut_seen}
-use Rattle.cecp_driver.specs.Features.{weight}
+use Rattle.driver_state_machine.specs.Parts.{feature_parts, cut_seen}
+use Rattle.cecp_driver.specs.Features.{feature_weight}
 use Rattle.cecp_driver.proofs.Heard.{has_step, name_step, up_step, down_step, value_within, down_within, weighs}
 use Rattle.cecp_driver.proofs.features.hear_features.Goals as goal
 
@@ -26,10 +26,10 @@ loop-cut-preserved c =
     let e = c.hear_cut-has.ensures in
     let all = c.in-Some.ensures.parts in
     record {
-      has = has_step p c.loop-cut.has c.hear_cut-has.result (parts rest) _ _ all e.has i.has;
-      name = name_step p c.loop-cut.name.text c.hear_cut-has.new.name.text (parts rest) _ _ all e.name i.name;
-      up = up_step p c.loop-cut.has c.hear_cut-has.result c.loop-cut.name.text c.hear_cut-has.new.name.text c.loop-cut.up c.hear_cut-has.new.up (parts rest) _ _ all e.has e.name e.up i.up;
-      down = down_step p c.loop-cut.down c.hear_cut-has.new.down (parts rest) _ _ all e.down i.down;
+      has = has_step p c.loop-cut.has c.hear_cut-has.result (feature_parts rest) _ _ all e.has i.has;
+      name = name_step p c.loop-cut.name.text c.hear_cut-has.new.name.text (feature_parts rest) _ _ all e.name i.name;
+      up = up_step p c.loop-cut.has c.hear_cut-has.result c.loop-cut.name.text c.hear_cut-has.new.name.text c.loop-cut.up c.hear_cut-has.new.up (feature_parts rest) _ _ all e.has e.name e.up i.up;
+      down = down_step p c.loop-cut.down c.hear_cut-has.new.down (feature_parts rest) _ _ all e.down i.down;
       name_room = e.name_room ∙ i.name_room;
       up_room = ap (λ (t : Text). t.room) e.up ∙ i.up_room;
       down_room = ap (λ (t : Text). t.room) e.down ∙ i.down_room;

@@ -1,16 +1,16 @@
--- What is left of the features completes what all change and say.
+-- The rest of the features completes what all change and say.
 use Rattle.std.proofs.Common.{◌≡◌, ◌≤◌, ◌+◌, ◌*◌, ◌++◌, length, false}
-use Rattle.driver_talk.specs.Parts.{parts}
-use Rattle.driver_talk.specs.Lines.{lines_text}
-use Rattle.cecp_driver.specs.Features.{has_all, name_all, answers, greetings}
+use Rattle.driver_state_machine.specs.Parts.{feature_parts}
+use Rattle.driver_state_machine.specs.Lines.{lines_text}
+use Rattle.cecp_driver.specs.Features.{has_all, name_all, feature_answers, greetings}
 use Rattle.cecp_driver.proofs.features.hear_features.Given as goal
 
 abbrev pub invariant-loop-cut : goal.invariant-loop-cut
 invariant-loop-cut l = record {
-  has : has_all l.has (parts l.others) ≡ has_all l.fn.before (parts l.fn.text);
-  name : name_all l.name.text (parts l.others) ≡ name_all l.initial.name.text (parts l.fn.text);
-  up : l.up.text ++ greetings l.has l.name.text (parts l.others) ≡ l.initial.up.text ++ greetings l.fn.before l.initial.name.text (parts l.fn.text);
-  down : l.down.text ++ lines_text (answers (parts l.others)) ≡ l.initial.down.text ++ lines_text (answers (parts l.fn.text));
+  has : has_all l.has (feature_parts l.others) ≡ has_all l.fn.before (feature_parts l.fn.text);
+  name : name_all l.name.text (feature_parts l.others) ≡ name_all l.initial.name.text (feature_parts l.fn.text);
+  up : l.up.text ++ greetings l.has l.name.text (feature_parts l.others) ≡ l.initial.up.text ++ greetings l.fn.before l.initial.name.text (feature_parts l.fn.text);
+  down : l.down.text ++ lines_text (feature_answers (feature_parts l.others)) ≡ l.initial.down.text ++ lines_text (feature_answers (feature_parts l.fn.text));
   name_room : l.name.room ≡ l.initial.name.room;
   up_room : l.up.room ≡ l.initial.up.room;
   down_room : l.down.room ≡ l.initial.down.room;

@@ -1,4 +1,4 @@
--- What is left of both goes on as all did.
+-- The rest of both goes on as all did.
 use Rattle.std.proofs.Common.{◌≡◌, ◌≤◌, length}
 use Rattle.std.specs.List.{AllByRecursion}
 use Rattle.chess_board.specs.Text.{IsOfficer}

@@ -1,4 +1,4 @@
--- What is left of the moves leads as far as all do.
+-- The rest of the moves leads as far as all do.
 use Rattle.std.proofs.Common.{◌≡◌, length, Some}
 use Rattle.peer_words.specs.Tokens.{tokens}
 use Rattle.cecp_driver.specs.Ordered.{game_after_texts}

@@ -1,9 +1,9 @@
--- What is left of the moves completes the text.
+-- The rest of the moves completes the text.
 use Rattle.std.proofs.Common.{◌≡◌, ◌≤◌, ◌+◌, ◌*◌, ◌++◌, length}
 use Rattle.std.specs.List.{AllByRecursion}
 use Rattle.chess_board.specs.Text.{IsOfficer}
 use Rattle.game_record.specs.Game.{plies_of}
-use Rattle.driver_talk.specs.Lines.{lines_text}
+use Rattle.driver_state_machine.specs.Lines.{lines_text}
 use Rattle.cecp_driver.specs.SetUp.{ply_lines}
 use Rattle.cecp_driver.proofs.played.write_played.Given as goal
 

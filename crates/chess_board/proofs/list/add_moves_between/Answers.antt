@@ -17,7 +17,7 @@ push-requires c =
     let at : IsMoveAt m n = is_move_at m f t q c.requires.places.0 c.requires.places.1 low5 c.square_in_order-from.ensures c.square_in_order-to.ensures c.promotion_at-promotion.ensures in
     let legal' : legal_at p n ≡ true = sym (legal_is p m n at) ∙ (sym c.is_legal_reach.ensures ∙ c.if-is_legal_reach.true) in
     let places = c.requires.places in let low = places.0 in let low' = places.1 in
-    let few = few_moves p n c.requires.men (omega arith) legal' in
+    let few = few_moves p n c.requires.pieces (omega arith) legal' in
     let done : IsDone p c.loop-choice.moves.items n = c.loop-choice.invariant in
     let size = done.few in
     let room : length c.loop-choice.moves.items < 512 = omega arith in

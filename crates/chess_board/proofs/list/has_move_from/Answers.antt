@@ -4,8 +4,8 @@ use Rattle.chess_board.proofs.Below.{some_square-hit, some_square-none}
 use Rattle.chess_board.proofs.Ways.{no_way_from}
 use Rattle.chess_board.proofs.list.has_move_from.Goals as goal
 
-pub returns-then-not-has_own_man : goal.returns-then-not-has_own_man
-returns-then-not-has_own_man c = sym (no_way_from c.args.setup.now c.args.from.index (sym c.has_own_man.ensures ∙ c.if-not-has_own_man.true))
+pub returns-then-not-has_own_piece : goal.returns-then-not-has_own_piece
+returns-then-not-has_own_piece c = sym (no_way_from c.args.setup.now c.args.from.index (sym c.has_own_piece.ensures ∙ c.if-not-has_own_piece.true))
 
 pub returns-then-has_move_between : goal.returns-then-has_move_between
 unfolding has_way_from

@@ -1,4 +1,4 @@
--- Each row of the tables is the set of the man's ways.
+-- Each row of the tables is the set of the piece's ways.
 use Rattle.std.proofs.Common.{ℕ, sym, ap, ◌∙◌}
 use Rattle.chess_board.specs.declared.board.Kind.{Kind}
 use Rattle.chess_board.specs.declared.board.Kind.TheVariants.{Pawn}

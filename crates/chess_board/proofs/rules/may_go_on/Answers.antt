@@ -8,7 +8,7 @@ use Rattle.chess_board.proofs.rules.may_go_on.Goals as goal
 pub returns-then-slides : goal.returns-then-slides
 returns-then-slides c =
     let is : is_slider c.args.kind ≡ true = sym c.slides.ensures ∙ c.if-slides.true in
-    c.is_clear_between.ensures ∙ ap (λ (p : Position). is_clear p.men c.args.from.index c.args.to.index) c.setup.view_is ∙ slider_goes c.args.setup.now c.args.kind c.args.from.index c.args.to.index is c.requires
+    c.is_clear_between.ensures ∙ ap (λ (p : Position). is_clear p.pieces c.args.from.index c.args.to.index) c.setup.view_is ∙ slider_goes c.args.setup.now c.args.kind c.args.from.index c.args.to.index is c.requires
 
 pub is_clear_between-requires : goal.is_clear_between-requires
 is_clear_between-requires c = slider_line c.args.setup.now.side c.args.kind c.args.from.index c.args.to.index (sym c.slides.ensures ∙ c.if-slides.true) c.requires

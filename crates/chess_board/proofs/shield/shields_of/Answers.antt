@@ -12,18 +12,18 @@ loop-index-init c from less =
 
 pub loop-index-preserved : goal.loop-index-preserved
 loop-index-preserved c from less =
-    let men = c.args.board.now in
+    let pieces = c.args.board.now in
     let side = c.args.side in
     let at = c.args.at.index in
     let here = c.loop-index.index in
     let a = c.loop-index.shields in
     let b = c.shield_from-shields.result in
-    ⊎_elim (λ (h : from < here). shields_left men side from at a b (c.loop-index.invariant from h))
+    ⊎_elim (λ (h : from < here). shields_left pieces side from at a b (c.loop-index.invariant from h))
     (λ (h : here ≤ from).
-    ⊎_elim (λ (e : from ≡ here). subst (λ (i : ℕ). Shields men side i at (bit_or a b)) (sym e) (shields_right men side here at a b (c.shield_from-shields.ensures side)))
+    ⊎_elim (λ (e : from ≡ here). subst (λ (i : ℕ). Shields pieces side i at (bit_or a b)) (sym e) (shields_right pieces side here at a b (c.shield_from-shields.ensures side)))
     (λ (n : from ≢ here).
     let low : from < 64 = omega (arith, c.next_in-index-in-loop-index.ensures.on.1) in
-    shields_far men side from at c.near_of-near.result (bit_or a b) c.near_of-near.ensures low (c.next_in-index-in-loop-index.ensures.passed from (omega arith) less))
+    shields_far pieces side from at c.near_of-near.result (bit_or a b) c.near_of-near.ensures low (c.next_in-index-in-loop-index.ensures.passed from (omega arith) less))
     (cases_eq from here))
     (cases_lt from here)
 

@@ -1,11 +1,11 @@
 use Rattle.std.proofs.Common.{◌≡◌, ◌+◌, ◌≤◌, length}
-use Rattle.line_io.specs.Lines.{parts}
+use Rattle.line_io.specs.Lines.{parts_by_feed}
 use Rattle.drill.proofs.tally.count_lines.Given as goal
 
 -- the lines that were counted and those to come are all lines
 abbrev pub invariant-loop-rest : goal.invariant-loop-rest
 invariant-loop-rest l = record {
-  lines : l.count + length (parts l.rest) ≡ length (parts l.text);
+  lines : l.count + length (parts_by_feed l.rest) ≡ length (parts_by_feed l.text);
   few : l.count + length l.rest ≤ length l.text;
 }
 

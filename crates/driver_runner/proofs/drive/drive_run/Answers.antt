@@ -1,4 +1,4 @@
-use Rattle.host_run.proofs.Asked.{asks_none}
+use Rattle.program_lifecycle.proofs.Asked.{asks_none}
 use Rattle.driver_runner.proofs.Records.{leaves_by, leaves_nothing}
 use Rattle.driver_runner.proofs.drive.drive_run.Goals as goal
 

@@ -1,18 +1,18 @@
 use Rattle.std.proofs.Common.{ap, map, string_bytes}
-use Rattle.host_run.proofs.Asked.{asks_by, asks_refused, asks_told}
-use Rattle.host_run.proofs.Causes as causes
+use Rattle.program_lifecycle.proofs.Asked.{asks_by, asks_refused, asks_reported}
+use Rattle.program_lifecycle.proofs.Causes as causes
 use Rattle.driver_runner.proofs.main_call.end_of.Goals as goal
 
 pub returns-in-Ok-clause-ends : goal.returns-in-Ok-clause-ends
 returns-in-Ok-clause-ends g c =
     causes.ran _ _ _ _ _ c.in-Ok.ensures.taken
-    (record { failures = c.drive_run.result; first = c.of.ensures; told = c.drive_run.ensures.leaves.told; left = c.drive_run.ensures.leaves })
+    (record { failures = c.drive_run.result; first = c.of.ensures; reported = c.drive_run.ensures.leaves.reported; left = c.drive_run.ensures.leaves })
 
 pub returns-in-Ok-clause-asked : goal.returns-in-Ok-clause-asked
 returns-in-Ok-clause-asked g c =
     asks_by _ _ _ _ _ _ _ _ c.in-Ok.ensures.asked.words_are
-    (asks_told _ _ _ _ _ _ _ _ _ _ (ap (map string_bytes) c.as_slice.ensures.value) c.as_str.ensures.value
-    c.drive_run.ensures.leaves.told.engine_start c.drive_run.ensures.leaves.told.log c.drive_run.ensures.asked)
+    (asks_reported _ _ _ _ _ _ _ _ _ _ (ap (map string_bytes) c.as_slice.ensures.value) c.as_str.ensures.value
+    c.drive_run.ensures.leaves.reported.engine_start c.drive_run.ensures.leaves.reported.log c.drive_run.ensures.asked)
 
 pub returns-in-Err-clause-asked : goal.returns-in-Err-clause-asked
 returns-in-Err-clause-asked g c = asks_refused _ _ _ _ _ c.requires

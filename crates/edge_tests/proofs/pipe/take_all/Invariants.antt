@@ -1,6 +1,6 @@
-use Rattle.event_pipe.specs.Ends.{KeepsTaker}
+use Rattle.event_pipe.specs.Ends.{KeepsReceiver}
 use Rattle.edge_tests.proofs.pipe.take_all.Given as goal
 
--- it stays the taker of the channel
+-- it stays the receiving end of the channel
 abbrev pub invariant-loop-event : goal.invariant-loop-event
-invariant-loop-event g l = KeepsTaker l.fn.taker l.taker
+invariant-loop-event g l = KeepsReceiver l.fn.receiving_end l.receiving_end

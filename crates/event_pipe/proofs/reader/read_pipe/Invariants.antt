@@ -1,7 +1,7 @@
 use Rattle.std.proofs.Common.{◌≡◌}
 use Rattle.crossbeam_channel.specs.Ends.{sends_on}
 use Rattle.event_pipe.specs.Ends.{IsSender, events_sent}
-use Rattle.event_pipe.specs.Arrivals.{Heard}
+use Rattle.event_pipe.specs.Arrivals.{LinesSentSoFar}
 use Rattle.event_pipe.proofs.reader.read_pipe.Given as goal
 
 abbrev pub invariant-loop : goal.invariant-loop
@@ -9,5 +9,5 @@ invariant-loop g l = record {
   sender : IsSender l.to;
   peer : l.to.peer ≡ l.fn.to.peer;
   channel : sends_on l.to.sender ≡ sends_on l.fn.to.sender;
-  heard : Heard l.fn.to.peer l.lines (g.S.Source.state l.fn.source) (g.S.Source.state l.source) (events_sent l.to);
+  heard : LinesSentSoFar l.fn.to.peer l.lines (g.S.Source.state l.fn.source) (g.S.Source.state l.source) (events_sent l.to);
 }

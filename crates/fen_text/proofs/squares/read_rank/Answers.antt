@@ -1,12 +1,12 @@
 -- Each byte puts its squares after the others.
 use Rattle.std.proofs.Common.{ap, sym, ◌∙◌, Some}
-use Rattle.chess_board.specs.Board.{Men}
-use Rattle.fen_text.specs.Squares.{men_if_both, squares_in}
+use Rattle.chess_board.specs.Board.{Pieces}
+use Rattle.fen_text.specs.Squares.{pieces_if_both, squares_in}
 use Rattle.fen_text.proofs.Joined.{joined-first, row_more, row_lost, row_done, full_row}
 use Rattle.fen_text.proofs.squares.read_rank.Goals as goal
 
 pub loop-byte-init : goal.loop-byte-init
-loop-byte-init c = ap (λ (row : Men). men_if_both (Some row) (squares_in c.args.rank.now)) c.new-row.ensures ∙ joined-first (squares_in c.args.rank.now)
+loop-byte-init c = ap (λ (row : Pieces). pieces_if_both (Some row) (squares_in c.args.rank.now)) c.new-row.ensures ∙ joined-first (squares_in c.args.rank.now)
 
 pub loop-byte-preserved : goal.loop-byte-preserved
 loop-byte-preserved c =

@@ -5,6 +5,6 @@ use Rattle.fen_text.proofs.write.write_board.Given as goal
 
 abbrev pub invariant-loop-rank : goal.invariant-loop-rank
 invariant-loop-rank l = record {
-  text : l.text.items ++ lower_ranks l.p.men l.rank ≡ l.initial.text.items ++ lower_ranks l.p.men top_rank;
+  text : l.text.items ++ lower_ranks l.p.pieces l.rank ≡ l.initial.text.items ++ lower_ranks l.p.pieces top_rank;
   short : length l.text.items + 9 * l.rank ≤ length l.initial.text.items + 63;
 }

@@ -2,7 +2,7 @@
 use Rattle.std.proofs.Common.{◌≡◌, List, ℕ, Option, decimal, ◌++◌, ◌∷◌, [], ap, ◌∙◌, append_assoc}
 use Rattle.chess_board.specs.declared.board.Rights.{Rights}
 use Rattle.fen_text.specs.Fen.{position_of}
-use Rattle.fen_text.specs.Written.{position_fen, side_text, rights_text, passant_text}
+use Rattle.fen_text.specs.Written.{position_fen, side_text, rights_text, en_passant_text}
 use Rattle.fen_text.proofs.Back.{reads_back}
 use Rattle.fen_text.proofs.write.write_fen.Goals as goal
 
@@ -17,7 +17,7 @@ returns-clause-text c =
     assembled _ _ _ _ _ _ _ _ _ _ _ _ _ _ _ _ _ _ c.new-text.ensures c.write_board.ensures.text c.push.ensures.items
     (c.push-2.ensures.items ∙ ap (λ (s : List ℕ). c.push.new.self.items ++ s) (c.side_letter.ensures ∙ ap side_text c.side.ensures)) c.push-3.ensures.items
     (c.write_rights.ensures.text ∙ ap (λ (r : Rights). c.push-3.new.self.items ++ rights_text r) c.rights.ensures) c.push-4.ensures.items
-    (c.write_passant.ensures.text ∙ ap (λ (q : Option ℕ). c.push-4.new.self.items ++ passant_text q) c.passant.ensures) c.push-5.ensures.items
+    (c.write_en_passant.ensures.text ∙ ap (λ (q : Option ℕ). c.push-4.new.self.items ++ en_passant_text q) c.passant.ensures) c.push-5.ensures.items
     (c.write_count.ensures.text ∙ ap (λ n. c.push-5.new.self.items ++ decimal n) c.half.ensures) c.push-6.ensures.items
     (c.write_count-2.ensures.text ∙ ap (λ n. c.push-6.new.self.items ++ decimal n) c.full.ensures)
 

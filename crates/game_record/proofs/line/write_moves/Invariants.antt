@@ -1,4 +1,4 @@
--- What is left of the moves completes the text.
+-- The rest of the moves completes the text.
 use Rattle.std.proofs.Common.{◌≡◌, ◌++◌, drop}
 use Rattle.game_record.specs.Game.{plies_of}
 use Rattle.game_record.specs.Line.{spaced_plies}

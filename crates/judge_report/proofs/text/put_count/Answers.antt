@@ -5,6 +5,6 @@ use Rattle.judge_report.proofs.text.put_count.Goals as goal
 pub returns-clause-text : goal.returns-clause-text
 returns-clause-text c =
     let held : Text = c.args.out.now in
-    let told : List ℕ = codes "crossings: " ++ decimal c.args.crossings in
+    let announced : List ℕ = codes "crossings: " ++ decimal c.args.crossings in
     c.put.ensures ∙ ap (λ (t : Text). with t (10 ∷ [])) c.put_number.ensures.text
-    ∙ ap (λ (xs : List ℕ). let t : Text = record { text = xs; room = held.room } in t) (append_assoc held.text told (10 ∷ []))
+    ∙ ap (λ (xs : List ℕ). let t : Text = record { text = xs; room = held.room } in t) (append_assoc held.text announced (10 ∷ []))

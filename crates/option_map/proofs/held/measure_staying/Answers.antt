@@ -1,9 +1,9 @@
 use Rattle.std.proofs.Common.{◌≡◌, length, List, true, false, ap, sym, ◌∙◌, subst, arith}
-use Rattle.uci_lines.specs.Orders.{Order, order_text}
+use Rattle.uci_lines.specs.Orders.{Order, uci_order_text}
 use Rattle.option_map.specs.declared.keeping.KeptOrder.{KeptOrder}
 use Rattle.option_map.specs.Data.{setup_seen}
-use Rattle.option_map.specs.Held.{are_for_same, staying_beside, batch_text}
-use Rattle.option_map.specs.KeptOrders.{order_in, orders_in, AreIn}
+use Rattle.option_map.specs.Held.{held_for_same, held_orders_staying, held_batch_text}
+use Rattle.option_map.specs.KeptOrders.{kept_order_in, orders_in, KeptOrdersAreIn}
 use Rattle.option_map.proofs.KeptOrders.{stays_here, gives_way, batch_first}
 use Rattle.option_map.proofs.held.measure_staying.Goals as goal
 
@@ -11,15 +11,15 @@ pub loop-order-preserved-then-is_for_same : goal.loop-order-preserved-then-is_fo
 loop-order-preserved-then-is_for_same c =
     let asked = setup_seen c.args.asked.now in
     let texts = c.args.texts.now in
-    let same : are_for_same asked (order_in texts c.in-Some.order) ≡ true = ap (are_for_same asked) (sym c.setup_in-setup.ensures) ∙ sym c.is_for_same.ensures ∙ c.if-is_for_same.true in
+    let same : held_for_same asked (kept_order_in texts c.in-Some.order) ≡ true = ap (held_for_same asked) (sym c.setup_in-setup.ensures) ∙ sym c.is_for_same.ensures ∙ c.if-is_for_same.true in
     let gone = gives_way asked texts c.loop-order.others.now c.in-Some.after.now c.in-Some.order c.in-Some.ensures same in
-    let all = ap (λ (l : List KeptOrder). length (batch_text (orders_in texts l))) c.in-Some.ensures in
+    let all = ap (λ (l : List KeptOrder). length (held_batch_text (orders_in texts l))) c.in-Some.ensures in
     record {
-      within = (subst (λ (os : List KeptOrder). AreIn (length texts) os) c.in-Some.ensures c.loop-order.invariant.within).1;
+      within = (subst (λ (os : List KeptOrder). KeptOrdersAreIn (length texts) os) c.in-Some.ensures c.loop-order.invariant.within).1;
       count = omega (arith, ap (λ (l : List Order). length l) gone, c.loop-order.invariant.count);
       few = omega (arith, ap (λ (l : List KeptOrder). length l) c.in-Some.ensures, c.loop-order.invariant.few);
-      size = omega (arith, ap (λ (l : List Order). length (batch_text l)) gone, c.loop-order.invariant.size);
-      fits = omega (arith, all, batch_first (order_in texts c.in-Some.order) (orders_in texts c.in-Some.after.now), c.loop-order.invariant.fits);
+      size = omega (arith, ap (λ (l : List Order). length (held_batch_text l)) gone, c.loop-order.invariant.size);
+      fits = omega (arith, all, batch_first (kept_order_in texts c.in-Some.order) (orders_in texts c.in-Some.after.now), c.loop-order.invariant.fits);
     }
 
 pub size-requires : goal.size-requires
@@ -27,9 +27,9 @@ size-requires c =
     let texts = c.args.texts.now in
     omega (
       arith,
-      ap (λ (l : List KeptOrder). length (batch_text (orders_in texts l))) c.in-Some.ensures,
-      batch_first (order_in texts c.in-Some.order) (orders_in texts c.in-Some.after.now),
-      ap (λ (x : Order). length (order_text x)) c.setup_in-setup.ensures,
+      ap (λ (l : List KeptOrder). length (held_batch_text (orders_in texts l))) c.in-Some.ensures,
+      batch_first (kept_order_in texts c.in-Some.order) (orders_in texts c.in-Some.after.now),
+      ap (λ (x : Order). length (uci_order_text x)) c.setup_in-setup.ensures,
       c.loop-order.invariant.fits,
     )
 
@@ -39,9 +39,9 @@ overflow_add-extent-in-Some c =
     omega (
       arith,
       c.size.ensures,
-      ap (λ (l : List KeptOrder). length (batch_text (orders_in texts l))) c.in-Some.ensures,
-      batch_first (order_in texts c.in-Some.order) (orders_in texts c.in-Some.after.now),
-      ap (λ (x : Order). length (order_text x)) c.setup_in-setup.ensures,
+      ap (λ (l : List KeptOrder). length (held_batch_text (orders_in texts l))) c.in-Some.ensures,
+      batch_first (kept_order_in texts c.in-Some.order) (orders_in texts c.in-Some.after.now),
+      ap (λ (x : Order). length (uci_order_text x)) c.setup_in-setup.ensures,
       c.loop-order.invariant.fits,
     )
 
@@ -51,9 +51,9 @@ overflow_add-extent-in-Some-2 c =
     omega (
       arith,
       c.size.ensures,
-      ap (λ (l : List KeptOrder). length (batch_text (orders_in texts l))) c.in-Some.ensures,
-      batch_first (order_in texts c.in-Some.order) (orders_in texts c.in-Some.after.now),
-      ap (λ (x : Order). length (order_text x)) c.setup_in-setup.ensures,
+      ap (λ (l : List KeptOrder). length (held_batch_text (orders_in texts l))) c.in-Some.ensures,
+      batch_first (kept_order_in texts c.in-Some.order) (orders_in texts c.in-Some.after.now),
+      ap (λ (x : Order). length (uci_order_text x)) c.setup_in-setup.ensures,
       c.loop-order.invariant.fits,
     )
 
@@ -61,12 +61,12 @@ pub loop-order-preserved : goal.loop-order-preserved
 loop-order-preserved c =
     let asked = setup_seen c.args.asked.now in
     let texts = c.args.texts.now in
-    let same : are_for_same asked (order_in texts c.in-Some.order) ≡ false = ap (are_for_same asked) (sym c.setup_in-setup.ensures) ∙ sym c.is_for_same.ensures ∙ c.if-is_for_same.false in
+    let same : held_for_same asked (kept_order_in texts c.in-Some.order) ≡ false = ap (held_for_same asked) (sym c.setup_in-setup.ensures) ∙ sym c.is_for_same.ensures ∙ c.if-is_for_same.false in
     let here = stays_here asked texts c.loop-order.others.now c.in-Some.after.now c.in-Some.order c.in-Some.ensures same in
-    let all = ap (λ (l : List KeptOrder). length (batch_text (orders_in texts l))) c.in-Some.ensures in
-    let line = ap (λ (x : Order). length (order_text x)) c.setup_in-setup.ensures in
+    let all = ap (λ (l : List KeptOrder). length (held_batch_text (orders_in texts l))) c.in-Some.ensures in
+    let line = ap (λ (x : Order). length (uci_order_text x)) c.setup_in-setup.ensures in
     record {
-      within = (subst (λ (os : List KeptOrder). AreIn (length texts) os) c.in-Some.ensures c.loop-order.invariant.within).1;
+      within = (subst (λ (os : List KeptOrder). KeptOrdersAreIn (length texts) os) c.in-Some.ensures c.loop-order.invariant.within).1;
       count = omega (arith, ap (λ (l : List Order). length l) here, c.loop-order.invariant.count);
       few = omega (arith, ap (λ (l : List KeptOrder). length l) c.in-Some.ensures, c.loop-order.invariant.few);
       size =
@@ -74,9 +74,9 @@ loop-order-preserved c =
             arith,
             c.size.ensures,
             line,
-            ap (λ (l : List Order). length (batch_text l)) here,
-            batch_first (order_in texts c.in-Some.order) (staying_beside asked (orders_in texts c.in-Some.after.now)),
+            ap (λ (l : List Order). length (held_batch_text l)) here,
+            batch_first (kept_order_in texts c.in-Some.order) (held_orders_staying asked (orders_in texts c.in-Some.after.now)),
             c.loop-order.invariant.size,
           );
-      fits = omega (arith, c.size.ensures, line, all, batch_first (order_in texts c.in-Some.order) (orders_in texts c.in-Some.after.now), c.loop-order.invariant.fits);
+      fits = omega (arith, c.size.ensures, line, all, batch_first (kept_order_in texts c.in-Some.order) (orders_in texts c.in-Some.after.now), c.loop-order.invariant.fits);
     }

@@ -1,17 +1,17 @@
 use Rattle.std.proofs.Common.{◌≡◌, ◌+◌, ◌≤◌, length}
 use Rattle.option_map.specs.Data.{setup_seen}
-use Rattle.option_map.specs.Held.{staying_beside, batch_text}
-use Rattle.option_map.specs.KeptOrders.{orders_in, AreIn}
+use Rattle.option_map.specs.Held.{held_orders_staying, held_batch_text}
+use Rattle.option_map.specs.KeptOrders.{orders_in, KeptOrdersAreIn}
 use Rattle.option_map.specs.declared.held.TheConstants.{MOST_ORDERS, MOST_BYTES}
 use Rattle.option_map.proofs.held.measure_staying.Given as goal
 
 abbrev pub invariant-loop-order : goal.invariant-loop-order
 invariant-loop-order l = record {
-  within : AreIn (length l.texts) l.others;
-  count : l.extent.count + length (staying_beside (setup_seen l.asked) (orders_in l.texts l.others)) ≡ length (staying_beside (setup_seen l.asked) (orders_in l.texts l.fn.held));
+  within : KeptOrdersAreIn (length l.texts) l.others;
+  count : l.extent.count + length (held_orders_staying (setup_seen l.asked) (orders_in l.texts l.others)) ≡ length (held_orders_staying (setup_seen l.asked) (orders_in l.texts l.fn.held));
   few : l.extent.count + length l.others ≤ MOST_ORDERS;
-  size : l.extent.size + length (batch_text (staying_beside (setup_seen l.asked) (orders_in l.texts l.others))) ≡ length (batch_text (staying_beside (setup_seen l.asked) (orders_in l.texts l.fn.held)));
-  fits : l.extent.size + length (batch_text (orders_in l.texts l.others)) ≤ MOST_BYTES;
+  size : l.extent.size + length (held_batch_text (held_orders_staying (setup_seen l.asked) (orders_in l.texts l.others))) ≡ length (held_batch_text (held_orders_staying (setup_seen l.asked) (orders_in l.texts l.fn.held)));
+  fits : l.extent.size + length (held_batch_text (orders_in l.texts l.others)) ≤ MOST_BYTES;
 }
 
 abbrev pub decreases-loop-order : goal.decreases-loop-order

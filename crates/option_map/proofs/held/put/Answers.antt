@@ -2,7 +2,7 @@ use Rattle.std.proofs.Common.{◌≤◌, length, List, ap, sym, subst, arith, le
 use Rattle.line_io.specs.Out.{Text}
 use Rattle.option_map.specs.declared.keeping.KeptOrder.{KeptOrder}
 use Rattle.option_map.specs.Data.{setup_seen}
-use Rattle.option_map.specs.KeptOrders.{AreIn, setup_bytes}
+use Rattle.option_map.specs.KeptOrders.{KeptOrdersAreIn, setup_bytes}
 use Rattle.option_map.proofs.KeptOrders.{bytes_less, one_more_order, in_more}
 use Rattle.option_map.proofs.held.put.Goals as goal
 
@@ -19,7 +19,7 @@ returns-clause-within c =
     let n = length c.args.texts.now.text in
     let m = length c.keep-order.new.texts.text in
     let longer : n ≤ m = omega (arith, ap (λ (t : Text). length t.text) c.keep-order.ensures.texts, length-append c.args.texts.now.text (setup_bytes c.args.setup)) in
-    subst (λ (os : List KeptOrder). AreIn m os) (sym c.push.ensures.items) (in_more n m c.args.orders.now.items c.keep-order.result longer c.requires.within c.keep-order.ensures.within)
+    subst (λ (os : List KeptOrder). KeptOrdersAreIn m os) (sym c.push.ensures.items) (in_more n m c.args.orders.now.items c.keep-order.result longer c.requires.within c.keep-order.ensures.within)
 
 pub returns-clause-length : goal.returns-clause-length
 returns-clause-length c =

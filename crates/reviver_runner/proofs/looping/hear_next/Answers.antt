@@ -16,6 +16,6 @@ returns-then-is_heard-clause-alive g c = alive_still c.args.looping.now.revival.
 
 pub returns-then-is_heard-clause-next : goal.returns-then-is_heard-clause-next
 returns-then-is_heard-clause-next g c first sink x =
-    going_same _ _ _ _ _ c.let_go_at_quit.ensures.shown
+    going_same _ _ _ _ _ c.close_sink_at_quit.ensures.shown
     (going_heard _ _ _ _ _ _ (event_of c.event-event.result) x (c.take-sent.ensures.gets ∙ ap (λ (e : Event). events_taken c.args.looping.now.from ++ e ∷ []) (sym c.event-event.ensures)) (sym c.is_heard.ensures ∙ c.if-is_heard.true) c.requires.alive
     c.hear.ensures.state c.hear.ensures.offers)

@@ -1,6 +1,6 @@
 use Rattle.std.proofs.Common.{◌∙◌, ℕ, List, ap, drop, map, refl, string_bytes, sym, subst}
-use Rattle.host_run.proofs.Asked.{asks_by, asks_refused, asks_told}
-use Rattle.host_run.proofs.Causes as causes
+use Rattle.program_lifecycle.proofs.Asked.{asks_by, asks_refused, asks_reported}
+use Rattle.program_lifecycle.proofs.Causes as causes
 use Rattle.reviver_runner.specs.Program.{GivesLives}
 use Rattle.reviver_runner.proofs.main_call.end_of.Goals as goal
 
@@ -10,11 +10,11 @@ returns-in-Ok-clause-ends g c =
     (record {
       failures = c.revive_run.result;
       first = c.of.ensures;
-      told = c.revive_run.ensures.leaves.told;
+      reported = c.revive_run.ensures.leaves.reported;
       left =
           record {
             lives = c.in-Ok.request.lives;
-            given = subst (λ (words : List (List ℕ)). GivesLives words c.in-Ok.request.lives) (sym c.in-Ok.ensures.asked.words_are) refl;
+            given = subst (λ (arguments : List (List ℕ)). GivesLives arguments c.in-Ok.request.lives) (sym c.in-Ok.ensures.asked.words_are) refl;
             few = c.in-Ok.ensures.few;
             left = c.revive_run.ensures.leaves;
           };
@@ -23,8 +23,8 @@ returns-in-Ok-clause-ends g c =
 pub returns-in-Ok-clause-asked : goal.returns-in-Ok-clause-asked
 returns-in-Ok-clause-asked g c =
     asks_by _ _ _ _ _ _ _ _ (ap (λ (w : List (List ℕ)). drop 1 w) c.in-Ok.ensures.asked.words_are)
-    (asks_told _ _ _ _ _ _ _ _ _ _ refl refl
-    c.revive_run.ensures.leaves.told.engine_start c.revive_run.ensures.leaves.told.log c.revive_run.ensures.asked)
+    (asks_reported _ _ _ _ _ _ _ _ _ _ refl refl
+    c.revive_run.ensures.leaves.reported.engine_start c.revive_run.ensures.leaves.reported.log c.revive_run.ensures.asked)
 
 pub returns-in-Err-clause-asked : goal.returns-in-Err-clause-asked
 returns-in-Err-clause-asked g c = asks_refused _ _ _ _ _ c.requires

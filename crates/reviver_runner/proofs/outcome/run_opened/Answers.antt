@@ -9,7 +9,7 @@ returns-clause-ran g c =
     let beside = c.run_beside-upper.ensures in
     let ran = beside.ran in
     let lived = lived_from _ _ _ _ _ _ _ _ _ c.requires.made.begins ran.lived.so_far in
-    let many = lives_count g.H.EngineSource.Source.state g.H.EngineSink.Sink.state _ ran.lived.lives _ refl ran.lived.told in
+    let many = lives_count g.H.EngineSource.Source.state g.H.EngineSink.Sink.state _ ran.lived.lives _ refl ran.lived.reported in
     record {
       runs = ran.lived.lives;
       events = lived.events;
@@ -18,7 +18,7 @@ returns-clause-ran g c =
       logged = took _ _ _ _ lived.played.marks;
       refusal = lived.refusal;
       each = lived.lived;
-      told = ran.lived.told;
+      reported = ran.lived.reported;
       tallies = ran.lived.tallies;
       tallied = ran.lived.tallied;
       handed = ran.handed;

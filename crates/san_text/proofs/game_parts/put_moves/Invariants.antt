@@ -1,4 +1,4 @@
--- What is left of the moves completes the text.
+-- The rest of the moves completes the text.
 use Rattle.std.proofs.Common.{◌≡◌, ◌≤◌, ◌+◌, ◌*◌, ◌++◌, drop, length}
 use Rattle.game_record.specs.Game.{plies_of, AreLegal}
 use Rattle.san_text.specs.GameText.{move_parts, spaced_parts}

@@ -3,8 +3,8 @@ use Rattle.std.specs.List.{Contains, AllPairs}
 use Rattle.chess_board.specs.declared.board.Move.{Move}
 use Rattle.chess_board.specs.Laws.{IsLegal}
 use Rattle.chess_board.specs.Text.{ComesBefore}
-use Rattle.san_text.specs.Fit.{agrees, IsRead}
-use Rattle.san_text.specs.Spelling.{plain, plains}
+use Rattle.san_text.specs.Fit.{agrees, SanReads}
+use Rattle.san_text.specs.Spelling.{plain_spelling, plains}
 use Rattle.san_text.specs.declared.fault.SanFault.{SanFault}
 use Rattle.san_text.specs.declared.fault.SanFault.TheVariants.{BadSan, Ambiguous}
 use Rattle.san_text.proofs.Written.{read_written}
@@ -17,7 +17,7 @@ returns-then-is_some-clause-read c =
     let is = c.as_slice-m-items.ensures.value in
     let each = subst (λ (ys : List Move). (m : Move) → Contains ys m ↔ IsLegal c.args.at.now m.from.index m.to.index m.promotion) (sym is) c.moves.ensures.each in
     let ordered = subst (λ (ys : List Move). AllPairs ComesBefore ys) (sym is) c.moves.ensures.ordered in
-    read_two c.args.at.now c.args.text.now (plain c.in-Some.spelling) xs c.loop-m.m-index c.m-item.result c.loop-m.found (sym c.read_spelling.ensures ∙ ap plains c.in-Some.is) each ordered c.loop-m-test.true c.m-item.is
+    read_two c.args.at.now c.args.text.now (plain_spelling c.in-Some.spelling) xs c.loop-m.m-index c.m-item.result c.loop-m.found (sym c.read_spelling.ensures ∙ ap plains c.in-Some.is) each ordered c.loop-m-test.true c.m-item.is
     (sym c.agrees.ensures ∙ c.if-agrees.true) c.loop-m.invariant (sym c.is_some.ensures ∙ c.if-is_some.true)
 
 pub returns-clause-read : goal.returns-clause-read
@@ -25,9 +25,9 @@ returns-clause-read c =
     let xs = c.as_slice-m-items.result.now in
     let is = c.as_slice-m-items.ensures.value in
     let each = subst (λ (ys : List Move). (m : Move) → Contains ys m ↔ IsLegal c.args.at.now m.from.index m.to.index m.promotion) (sym is) c.moves.ensures.each in
-    subst (λ (r : Result Move SanFault). IsRead c.args.at.now c.args.text.now r) (sym c.ok_or.ensures.value)
-    (read_end c.args.at.now c.args.text.now (plain c.in-Some.spelling) xs c.loop-m.found (sym c.read_spelling.ensures ∙ ap plains c.in-Some.is) each
-    (all_found (agrees c.args.at.now (plain c.in-Some.spelling)) xs c.loop-m.m-index c.loop-m.found c.loop-m-test.false c.loop-m.invariant))
+    subst (λ (r : Result Move SanFault). SanReads c.args.at.now c.args.text.now r) (sym c.ok_or.ensures.value)
+    (read_end c.args.at.now c.args.text.now (plain_spelling c.in-Some.spelling) xs c.loop-m.found (sym c.read_spelling.ensures ∙ ap plains c.in-Some.is) each
+    (all_found (agrees c.args.at.now (plain_spelling c.in-Some.spelling)) xs c.loop-m.m-index c.loop-m.found c.loop-m-test.false c.loop-m.invariant))
 
 pub returns-then-is_some-clause-written : goal.returns-then-is_some-clause-written
 returns-then-is_some-clause-written c = λ m h w. read_written c.args.at.now m c.args.text.now (Err Ambiguous) h w (returns-then-is_some-clause-read c)

@@ -1,6 +1,6 @@
 use Rattle.std.proofs.Common.{◌≤◌, List, ℕ, subst, ◌∙◌, ◌++◌, take, length, ap, sym, arith, length-append}
-use Rattle.line_io.specs.Lines.{Reads}
-use Rattle.scripted_engine.proofs.Reading.{gave_none, gave_taken, gave_kept, none_taken, front_taken, no_memory}
+use Rattle.line_io.specs.Lines.{SourceGave}
+use Rattle.scripted_engine.proofs.Reading.{gave_none, gave_taken, gave_kept, none_taken, prefix_taken, no_memory}
 use Rattle.scripted_engine.proofs.Hearing.{rose_later}
 use Rattle.scripted_engine.proofs.run.read_script.Goals as goal
 
@@ -58,10 +58,10 @@ loop-script-preserved g c =
     let i = c.loop-script.invariant in
     let got = take c.in-Ok.count c.read.new.buf in
     let fits : length (c.loop-script.script.items ++ got) ≤ 16777216 = omega (arith, length-append c.loop-script.script.items got, c.in-Ok.ensures.bound.1, c.len.ensures, c.if-count-len.false, i.fits) in
-    let front = ap (λ l. take c.in-Ok.count l) c.deref.ensures.value ∙ front_taken c.in-Ok.count c.loop-script.chunk.len c.read.new.buf _ c.in-Ok.ensures.bound.0 (omega (arith, c.in-Ok.ensures.bound.0, c.deref_mut.ensures.len, c.read.auto.buf)) in
-    let items = c.in_ok-extend_from_slice-in-Ok.ensures.items ∙ ap (λ l. c.loop-script.script.items ++ l) front in
+    let prefix = ap (λ l. take c.in-Ok.count l) c.deref.ensures.value ∙ prefix_taken c.in-Ok.count c.loop-script.chunk.len c.read.new.buf _ c.in-Ok.ensures.bound.0 (omega (arith, c.in-Ok.ensures.bound.0, c.deref_mut.ensures.len, c.read.auto.buf)) in
+    let items = c.in_ok-extend_from_slice-in-Ok.ensures.items ∙ ap (λ l. c.loop-script.script.items ++ l) prefix in
     record {
-      gave = subst (λ (l : List ℕ). Reads old new l) (sym items) (gave_taken old now new c.loop-script.script.items got i.gave c.in-Ok.ensures.gives c.in-Ok.ensures.takes.0);
+      gave = subst (λ (l : List ℕ). SourceGave old new l) (sym items) (gave_taken old now new c.loop-script.script.items got i.gave c.in-Ok.ensures.gives c.in-Ok.ensures.takes.0);
       fits = omega (arith, ap length items, fits);
       chunk = i.chunk;
       later = omega (arith, i.later, c.in-Ok.ensures.cause.later);

@@ -6,10 +6,10 @@ use Rattle.tap_runner.proofs.logging.keep_log.Goals as goal
 
 pub loop-init : goal.loop-init
 loop-init g c = record {
-  taker = (c.requires.taker.0, refl);
+  receiving_end = (c.requires.receiving_end.0, refl);
   room = refl;
   kept = refl;
-  logging = logging_first _ _ c.requires.taker.1;
+  logging = logging_first _ _ c.requires.receiving_end.1;
 }
 
 pub log_event-failed-requires-clause-short : goal.log_event-failed-requires-clause-short
@@ -18,7 +18,7 @@ log_event-failed-requires-clause-short g c =
 
 pub loop-preserved-else-have_both_come : goal.loop-preserved-else-have_both_come
 loop-preserved-else-have_both_come g c = record {
-  taker = (c.take-sent.ensures.keeps.0, c.take-sent.ensures.keeps.1 ∙ c.loop.invariant.taker.1);
+  receiving_end = (c.take-sent.ensures.keeps.0, c.take-sent.ensures.keeps.1 ∙ c.loop.invariant.receiving_end.1);
   room = c.log_event-failed.ensures.room ∙ c.loop.invariant.room;
   kept = c.log_event-failed.ensures.kept ∙ c.loop.invariant.kept;
   logging = logging_next _ _ _ _ _ _ _ _ _ _ _ c.loop.invariant.logging c.take-sent.ensures.gets c.event-event.ensures c.after-ends.ensures c.log_event-failed.ensures.offered;
@@ -26,7 +26,7 @@ loop-preserved-else-have_both_come g c = record {
 
 pub loop-preserved : goal.loop-preserved
 loop-preserved g c = record {
-  taker = (c.take-sent.ensures.keeps.0, c.take-sent.ensures.keeps.1 ∙ c.loop.invariant.taker.1);
+  receiving_end = (c.take-sent.ensures.keeps.0, c.take-sent.ensures.keeps.1 ∙ c.loop.invariant.receiving_end.1);
   room = c.log_event-failed.ensures.room ∙ c.loop.invariant.room;
   kept = c.log_event-failed.ensures.kept ∙ c.loop.invariant.kept;
   logging = logging_next _ _ _ _ _ _ _ _ _ _ _ c.loop.invariant.logging c.take-sent.ensures.gets c.event-event.ensures c.after-ends.ensures c.log_event-failed.ensures.offered;

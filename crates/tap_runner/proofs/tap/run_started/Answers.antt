@@ -1,27 +1,27 @@
 use Rattle.std.proofs.Common.{◌∙◌, ap, refl, sym, ◌||◌, Bool, false, ℕ}
 use Rattle.line_io.specs.Source.{Supplied, Received}
-use Rattle.host_run.specs.Streams.{log_state}
-use Rattle.host_run.specs.Logs.{closed_logs}
-use Rattle.host_run.proofs.Telling.{fresh_faults}
-use Rattle.host_run.specs.declared.failures.Failures.{Failures}
-use Rattle.tap_runner.specs.Tapped.{TellsRun}
+use Rattle.program_lifecycle.specs.Streams.{log_state}
+use Rattle.program_lifecycle.specs.Logs.{closed_logs}
+use Rattle.program_lifecycle.proofs.Reporting.{fresh_faults}
+use Rattle.program_lifecycle.specs.declared.failures.Failures.{Failures}
+use Rattle.tap_runner.specs.Tapped.{TapReportsRun}
 use Rattle.tap_runner.proofs.Records.{recorded_by, leaves_by}
 use Rattle.tap_runner.proofs.Starts.{ran_from}
-use Rattle.child_engine.specs.Hosts.{Books}
-use Rattle.host_run.proofs.Counts.{retold, told_by, log_told, reads_kept, writes_kept, waits_kept, starts_kept}
-use Rattle.host_run.proofs.Asked.{asked_logs, opens_logs, no_log_for_memory}
-use Rattle.host_run.proofs.Closes.{all_closed, is_closed, few_logs, same_count, length_told, told_as, some_run, never, log_opened, left_of, right_of, lacked}
+use Rattle.child_engine.specs.Hosts.{Ledger}
+use Rattle.program_lifecycle.proofs.Counts.{retold, told_by, log_reported, reads_kept, writes_kept, waits_kept, starts_kept}
+use Rattle.program_lifecycle.proofs.Asked.{asked_logs, opens_logs, no_log_for_memory}
+use Rattle.program_lifecycle.proofs.Closes.{all_closed, is_closed, few_logs, same_count, length_reported, reported_as, some_run, never, log_opened, left_of, right_of, lacked}
 use Rattle.tap_runner.proofs.tap.run_started.Goals as goal
 
 pub returns-clause-asked : goal.returns-clause-asked
 returns-clause-asked g c =
-    let all = all_closed (g.H.Host.books c.args.host.now) (g.H.Host.books c.open_log-log.new.host) (g.H.Host.books c.close-waited.new.self) (g.H.Host.books c.close_log.new.host)
-    (g.H.EngineSource.Source.state c.run_tap-end.new.handed.source) (g.H.EngineSink.Sink.state c.run_tap-end.new.handed.engine) _ _ c.requires.books c.open_log-log.ensures.books c.close-waited.ensures.books c.close_log.ensures.books in
-    opens_logs _ _ _ _ _ _ _ _ _ c.requires.books c.open_log-log.ensures.asked c.close-waited.ensures.asked c.close_log.ensures.asked
-    (ap (λ (b : Books). b.runs_out) all)
+    let all = all_closed (g.H.Host.ledger c.args.host.now) (g.H.Host.ledger c.open_log-log.new.host) (g.H.Host.ledger c.close-waited.new.self) (g.H.Host.ledger c.close_log.new.host)
+    (g.H.EngineSource.Source.state c.run_tap-end.new.handed.source) (g.H.EngineSink.Sink.state c.run_tap-end.new.handed.engine) _ _ c.requires.ledger c.open_log-log.ensures.ledger c.close-waited.ensures.ledger c.close_log.ensures.ledger in
+    opens_logs _ _ _ _ _ _ _ _ _ c.requires.ledger c.open_log-log.ensures.asked c.close-waited.ensures.asked c.close_log.ensures.asked
+    (ap (λ (b : Ledger). b.runs_out) all)
     (asked_logs g.H.Log.Sink.state c.open_log-log.result.log c.run_tap-end.new.handed.log c.open_log-log.result.fault c.is_open_failure.result _ _ _
     c.open_log-log.ensures.some c.open_log-log.ensures.none c.run_tap-end.ensures.kept c.run_tap-end.ensures.ran.to_log.count
-    c.is_open_failure.ensures c.either-3.ensures (ap (λ (b : Books). b.logs_out) all))
+    c.is_open_failure.ensures c.either-3.ensures (ap (λ (b : Ledger). b.logs_out) all))
     refl
 
 pub returns-clause-leaves : goal.returns-clause-leaves
@@ -30,16 +30,16 @@ returns-clause-leaves g c =
     let h1 = g.H.Host.faults c.open_log-log.new.host in
     let h2 = g.H.Host.faults c.close-waited.new.self in
     let h3 = g.H.Host.faults c.close_log.new.host in
-    let b0 = g.H.Host.books c.args.host.now in
+    let b0 = g.H.Host.ledger c.args.host.now in
     let ran = c.run_tap-end.ensures.ran in
     let closed = c.close-waited.ensures.cause in
-    let all = all_closed b0 (g.H.Host.books c.open_log-log.new.host) (g.H.Host.books c.close-waited.new.self) (g.H.Host.books c.close_log.new.host)
-    (g.H.EngineSource.Source.state c.run_tap-end.new.handed.source) (g.H.EngineSink.Sink.state c.run_tap-end.new.handed.engine) _ _ c.requires.books c.open_log-log.ensures.books c.close-waited.ensures.books c.close_log.ensures.books in
-    let runs = ap (λ (b : Books). b.runs) all in
-    let logs_out = ap (λ (b : Books). b.logs_out) all in
+    let all = all_closed b0 (g.H.Host.ledger c.open_log-log.new.host) (g.H.Host.ledger c.close-waited.new.self) (g.H.Host.ledger c.close_log.new.host)
+    (g.H.EngineSource.Source.state c.run_tap-end.new.handed.source) (g.H.EngineSink.Sink.state c.run_tap-end.new.handed.engine) _ _ c.requires.ledger c.open_log-log.ensures.ledger c.close-waited.ensures.ledger c.close_log.ensures.ledger in
+    let runs = ap (λ (b : Ledger). b.runs) all in
+    let logs_out = ap (λ (b : Ledger). b.logs_out) all in
     let same = same_count c.open_log-log.result.log c.run_tap-end.new.handed.log c.run_tap-end.ensures.kept in
     let logs =
-    ap (λ (b : Books). b.logs) all ∙ told_as g.H.Log.Sink.state c.run_tap-end.new.handed.log
+    ap (λ (b : Ledger). b.logs) all ∙ reported_as g.H.Log.Sink.state c.run_tap-end.new.handed.log
     ∙ ap (λ (n : ℕ). closed_logs n (log_state g.H.Log.Sink.state c.run_tap-end.new.handed.log)) (same ∙ sym logs_out) in
     let begun = ran_from _ _ _ _ _ _ _ _ _ _ _ c.requires.source c.requires.sink c.open_log-log.ensures.fresh logs_out ran in
     let failures : Failures = record {
@@ -52,7 +52,7 @@ returns-clause-leaves g c =
       log = c.either-3.result;
       engine_wait = c.is_err.result;
     } in
-    let told : TellsRun c.run_tap-end.result failures = record {
+    let reported : TapReportsRun c.run_tap-end.result failures = record {
       iface_read = refl;
       iface_write = refl;
       engine_read = refl;
@@ -71,11 +71,11 @@ returns-clause-leaves g c =
           (told_by _ _ _ _ _ (ap (λ (x : Received). x.faults) c.requires.sink) ran.from_bridge.handed.count closed.writes);
       engine_start = starts_kept h0 h1 h2 h3 _ _ c.open_log-log.ensures.others c.close_log.ensures.others closed.starts;
       log = retold _ _ _ _ (c.either-3.ensures ∙ ap (λ (b : Bool). b || c.run_tap-end.result.log_failed) c.is_open_failure.ensures)
-          (log_told _ _ _ _ _ _ _ _ (fresh_faults _ _ _ c.open_log-log.ensures.fresh) c.open_log-log.ensures.cause closed.logs ran.to_log.count c.close_log.ensures.cause);
+          (log_reported _ _ _ _ _ _ _ _ (fresh_faults _ _ _ c.open_log-log.ensures.fresh) c.open_log-log.ensures.cause closed.logs ran.to_log.count c.close_log.ensures.cause);
       engine_wait = waits_kept h0 h1 h2 h3 _ _ c.open_log-log.ensures.others c.close_log.ensures.others _ c.close-waited.result c.is_err.ensures.value closed.waits;
     })
     (is_closed _ b0 _ _ _ _ all
-    (length_told g.H.Log.Sink.state c.run_tap-end.new.handed.log ∙ same_count c.open_log-log.result.log c.run_tap-end.new.handed.log c.run_tap-end.ensures.kept)
+    (length_reported g.H.Log.Sink.state c.run_tap-end.new.handed.log ∙ same_count c.open_log-log.result.log c.run_tap-end.new.handed.log c.run_tap-end.ensures.kept)
     (few_logs c.open_log-log.result.log)
     (λ m l. log_opened c.open_log-log.result.log c.open_log-log.result.fault c.open_log-log.ensures.some
     (left_of _ _ _ _ c.either-3.ensures c.is_open_failure.ensures l) (left_of _ _ _ _ c.either-2.ensures c.is_open_memory.ensures m)))
@@ -85,7 +85,7 @@ returns-clause-leaves g c =
       last = _;
       end = c.run_tap-end.result;
       ran = begun;
-      told = told;
+      reported = reported;
       memory =
           lacked _ _ _ _ _ _ _ _ c.either-2.ensures c.is_open_memory.ensures c.either.ensures refl refl
           (λ m. no_log_for_memory c.open_log-log.result.fault c.either-3.result _ (λ z. logs_out ∙ c.open_log-log.ensures.none z)
@@ -94,9 +94,9 @@ returns-clause-leaves g c =
           c.is_open_failure.ensures c.either-3.ensures logs_out) m);
       input = refl;
       output = refl;
-      run_told = runs;
-      logs_told = logs;
-      recorded = recorded_by _ _ b0 (g.H.Host.books c.close_log.new.host) _ _ _ begun told runs logs;
+      run_reported = runs;
+      shown_logs = logs;
+      recorded = recorded_by _ _ b0 (g.H.Host.ledger c.close_log.new.host) _ _ _ begun reported runs logs;
       output_gone = c.run_tap-end.ensures.output_gone;
       engine_gone = (c.run_tap-end.new.handed.engine, refl, c.run_tap-end.ensures.engine_gone);
     })

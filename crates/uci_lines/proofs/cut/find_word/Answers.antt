@@ -2,7 +2,7 @@ use Rattle.std.proofs.Common.{◌≡◌, ◌&&◌, ◌∙◌, Bool, true, false,
 use Rattle.std.proofs.lemmas.List.{take_rest}
 use Rattle.std.specs.List.{before_first}
 use Rattle.peer_words.specs.Tokens.{is_white, token_end}
-use Rattle.uci_lines.specs.Cuts.{found_token, stops}
+use Rattle.uci_lines.specs.Cuts.{found_token, delimits}
 use Rattle.uci_lines.proofs.Cutting.{shifted, passed, found}
 use Rattle.uci_lines.proofs.cut.find_word.Goals as goal
 use Rattle.uci_lines.proofs.cut.find_word.Goals.{then-is_fresh+else-has, else-is_fresh}
@@ -11,7 +11,7 @@ pub loop-i-preserved : goal.loop-i-preserved
 loop-i-preserved c =
     let text = c.args.text.now in
     let i = c.loop-i.i in
-    let p = stops c.args.stop in
+    let p = delimits c.args.stop in
     let next = ap (λ (f : Bool). shifted (take (i + 1) text) (found_token p f (drop (i + 1) text))) (sym c.is_white-is_fresh.ensures) in
     elim c.if-is_fresh.branch [
       | then-is_fresh+else-has w ↦
@@ -27,7 +27,7 @@ pub returns-then-has : goal.returns-then-has
 returns-then-has c =
     let text = c.args.text.now in
     let i = c.loop-i.i in
-    let p = stops c.args.stop in
+    let p = delimits c.args.stop in
     let part = take_rest text i in
     let word : c.split_at_white.result.0.now ≡ before_first is_white (drop i text) = c.split_at_white.ensures.token ∙ ap (before_first is_white) part in
     let after : c.split_at_white.result.1.now ≡ drop (token_end (drop i text)) (drop i text) = c.split_at_white.ensures.rest ∙ ap (λ (t : List ℕ). drop (token_end t) t) part in

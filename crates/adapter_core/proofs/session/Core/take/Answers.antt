@@ -2,9 +2,9 @@ use Rattle.std.proofs.Common.{◌≡◌, true, refl, sym, subst}
 use Rattle.line_io.specs.Event.{event_of}
 use Rattle.adapter_core.specs.Ends.{may}
 use Rattle.adapter_core.specs.Parts.{CoreParts}
-use Rattle.adapter_core.specs.Stands.{Keeps, Extends}
-use Rattle.adapter_core.proofs.Holds.{extends_to}
-use Rattle.adapter_core.proofs.Keeps.{is_ready, keeps}
+use Rattle.adapter_core.specs.Represents.{CoreInvariant, Extends}
+use Rattle.adapter_core.proofs.StateInvariants.{extends_to}
+use Rattle.adapter_core.proofs.CoreInvariants.{is_ready, keeps}
 use Rattle.adapter_core.proofs.session.Core.take.Goals as goal
 
 pub take-requires : goal.take-requires
@@ -15,7 +15,7 @@ take-requires c =
 pub invariant_of-self : goal.invariant_of-self
 invariant_of-self c =
     let m = subst (λ (v : CoreParts). may v.ends (event_of c.args.event.now) ≡ true) (sym c.self.view_is) c.requires in
-    subst Keeps (sym c.take.ensures.after) (keeps c.self.inside.parts (event_of c.args.event.now) c.self.invariant m)
+    subst CoreInvariant (sym c.take.ensures.after) (keeps c.self.inside.parts (event_of c.args.event.now) c.self.invariant m)
 
 pub returns-clause-extends : goal.returns-clause-extends
 returns-clause-extends c =

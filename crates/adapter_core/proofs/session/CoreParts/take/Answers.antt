@@ -5,7 +5,7 @@ use Rattle.desk_rules.specs.Desk.{Situation, at}
 use Rattle.desk_rules.specs.Steps.{Effect, classify}
 use Rattle.desk_rules.specs.Orders.{asked_by_effect, AllJoin}
 use Rattle.desk_rules.proofs.Joins.{asked_join}
-use Rattle.adapter_core.specs.Parts.{CanFollow}
+use Rattle.adapter_core.specs.Parts.{CoreCanFollow}
 use Rattle.adapter_core.proofs.session.CoreParts.take.Goals as goal
 
 pub hold-requires : goal.hold-requires
@@ -23,5 +23,5 @@ go_on-requires-clause-follow c =
     let held = c.args.self.now.held in
     let e = event_of c.args.event.now in
     let h = at c.context-context.result c.args.self.now.desk in
-    let seen = subst (λ (x : Situation). CanFollow x (classify x held e)) (sym c.context-context.ensures) c.requires.ready.follow in
-    subst (λ (d : Effect). CanFollow h d) (sym c.decide-decision.ensures.effect) seen
+    let search_info = subst (λ (x : Situation). CoreCanFollow x (classify x held e)) (sym c.context-context.ensures) c.requires.ready.follow in
+    subst (λ (d : Effect). CoreCanFollow h d) (sym c.decide-decision.ensures.effect) search_info

@@ -1,7 +1,7 @@
 use Rattle.std.proofs.Common.{◌≡◌, ◌∙◌, ap, sym, length, arith}
-use Rattle.driver_talk.specs.Says.{engine_message_of}
+use Rattle.driver_state_machine.specs.Says.{engine_message_seen}
 use Rattle.cecp_driver.specs.declared.driver.DriverParts.{DriverParts}
-use Rattle.driver_talk.proofs.FeatureText.{feature_short}
+use Rattle.driver_state_machine.proofs.FeatureText.{feature_short}
 use Rattle.cecp_driver.proofs.Acting.{from_cleared, heard_at, features_done, features_keeps}
 use Rattle.cecp_driver.proofs.driver.DriverParts.hear.Goals as goal
 
@@ -28,4 +28,4 @@ pub hear_plain-requires-clause-keeps : goal.hear_plain-requires-clause-keeps
 hear_plain-requires-clause-keeps c = from_cleared c.args.self.now c.clear.new.self c.requires.keeps c.clear.ensures
 
 pub returns-in-None-clause-hears : goal.returns-in-None-clause-hears
-returns-in-None-clause-hears c = heard_at c.args.self.now c.clear.new.self c.hear_plain.new.self c.args.line.now (engine_message_of c.read_said-said.result) c.read_said-said.ensures c.clear.ensures c.hear_plain.ensures.heard
+returns-in-None-clause-hears c = heard_at c.args.self.now c.clear.new.self c.hear_plain.new.self c.args.line.now (engine_message_seen c.read_said-said.result) c.read_said-said.ensures c.clear.ensures c.hear_plain.ensures.heard

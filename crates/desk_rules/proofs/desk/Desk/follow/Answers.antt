@@ -2,7 +2,7 @@ use Rattle.std.proofs.Common.{subst}
 use Rattle.chess_board.proofs.LegalMoves.{is_legal}
 use Rattle.peer_words.specs.declared.kinds.GoKind.TheVariants as kinds
 use Rattle.cecp_lines.specs.Messages.{message_of}
-use Rattle.game_record.specs.Game.{now_of}
+use Rattle.game_record.specs.Game.{current_position}
 use Rattle.desk_rules.specs.declared.effect.Effect as code
 use Rattle.desk_rules.specs.Desk.{at}
 use Rattle.desk_rules.specs.Steps.{effect_of}
@@ -30,7 +30,7 @@ think-requires-clause-heard c =
 pub show-requires-clause-legal : goal.show-requires-clause-legal
 show-requires-clause-legal c =
     let f = subst (λ (d : code.Effect). IsFit (at c.args.context c.args.self.now) (effect_of d)) c.in-Shows.is c.requires.fits in
-    is_legal (now_of c.args.self.now.game) c.in-Shows.best f.1.2
+    is_legal (current_position c.args.self.now.game) c.in-Shows.best f.1.2
 
 pub show-requires-clause-moves : goal.show-requires-clause-moves
 show-requires-clause-moves c =

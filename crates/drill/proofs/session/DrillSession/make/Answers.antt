@@ -1,13 +1,13 @@
 use Rattle.std.proofs.Common.{[], sym, subst, arith}
 use Rattle.policy_rules.specs.declared.settings.Settings.{Settings}
-use Rattle.adapter_core.specs.Stands.{Stands}
-use Rattle.drill.specs.Sent.{AreFew}
+use Rattle.adapter_core.specs.Represents.{Represents}
+use Rattle.drill.specs.Sent.{CountsAreFew}
 use Rattle.drill.proofs.session.DrillSession.make.Goals as goal
 
 pub invariant_of-result : goal.invariant_of-result
 invariant_of-result c = record {
   trace = [];
   lawful = tt;
-  stands = subst (λ (o : Settings). Stands o c.in_ok-make.field-0 []) c.usual.ensures.usual c.in_ok-make.ensures.stands;
-  few = subst AreFew (sym c.nothing.ensures) (record { to_iface = omega arith; to_engine = omega arith; shown = omega arith });
+  stands = subst (λ (o : Settings). Represents o c.in_ok-make.field-0 []) c.usual.ensures.usual c.in_ok-make.ensures.stands;
+  few = subst CountsAreFew (sym c.nothing.ensures) (record { to_iface = omega arith; to_engine = omega arith; shown = omega arith });
 }

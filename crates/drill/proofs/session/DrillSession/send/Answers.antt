@@ -1,7 +1,7 @@
 use Rattle.std.proofs.Common.{◌≡◌, true, sym, subst}
 use Rattle.line_io.specs.Event.{event_of}
 use Rattle.adapter_core.specs.Ends.{may, ends_after}
-use Rattle.drill.specs.Sent.{DrillSession, Sends}
+use Rattle.drill.specs.Sent.{DrillSession, DrillSends}
 use Rattle.drill.proofs.Stepping.{steady_on, sends_on, ends_on}
 use Rattle.drill.proofs.session.DrillSession.send.Goals as goal
 
@@ -14,7 +14,7 @@ invariant_of-self c = steady_on c.self.inside.core c.step.new.core (event_of c.a
 pub returns-clause-sends : goal.returns-clause-sends
 returns-clause-sends c =
     let e = event_of c.args.event.now in
-    subst (λ (p : DrillSession). Sends p (record { core = c.step.new.core; tally = c.step.new.tally }) e) c.self.view_is (sends_on c.self.inside.core c.step.new.core e c.self.inside.tally c.step.new.tally c.self.invariant c.step.ensures)
+    subst (λ (p : DrillSession). DrillSends p (record { core = c.step.new.core; tally = c.step.new.tally }) e) c.self.view_is (sends_on c.self.inside.core c.step.new.core e c.self.inside.tally c.step.new.tally c.self.invariant c.step.ensures)
 
 pub returns-clause-ends : goal.returns-clause-ends
 returns-clause-ends c =

@@ -1,5 +1,5 @@
 use Rattle.driver_runner.proofs.Drives.{steps}
-use Rattle.driver_runner.proofs.Told.{good_line}
+use Rattle.driver_runner.proofs.HeardEvents.{good_line}
 use Rattle.driver_runner.proofs.driving.DrivingMediator.step.Goals as goal
 
 pub play-requires-clause-line : goal.play-requires-clause-line

@@ -2,12 +2,12 @@ use Rattle.std.proofs.Common.{◌++◌, ◌≡◌, ◌≤◌, ◌+◌, length, a
 use Rattle.line_io.specs.Out.{Text}
 use Rattle.engine_revival.specs.declared.revival.TheConstants.{UP_ROOM}
 use Rattle.engine_revival.specs.declared.state.TheConstants.{MOST_LINE}
-use Rattle.engine_revival.specs.Lists.{batch_text}
+use Rattle.engine_revival.specs.Lists.{revival_batch_text}
 use Rattle.engine_revival.specs.Rooms.{IsRoomy}
-use Rattle.engine_revival.specs.Steps.{answer_of, answer_text, first_order, settled_orders}
+use Rattle.engine_revival.specs.Steps.{first_order, settled_answers, settled_orders}
 use Rattle.engine_revival.specs.View.{View}
 use Rattle.engine_revival.proofs.Rooms.{beginning_roomy, settled_roomy}
-use Rattle.engine_revival.proofs.Marks.{answer_short, call_marks, first_lines}
+use Rattle.engine_revival.proofs.Marks.{answers_short, call_marks, first_lines}
 use Rattle.engine_revival.proofs.revival.RevivalParts.begin.Goals as goal
 
 pub settle-requires-clause-roomy : goal.settle-requires-clause-roomy
@@ -24,19 +24,19 @@ returns-clause-keeps c =
     let up : length c.settle.new.up.text ≤ UP_ROOM = omega (
       arith,
       ap (λ (t : Text). length t.text) c.settle.ensures.up,
-      length-append was.up.text (answer_text (answer_of c.begin.new.self)),
-      answer_short (answer_of c.begin.new.self),
+      length-append was.up.text (settled_answers c.begin.new.self),
+      answers_short c.begin.new.self k,
       ap (λ (v : View). length v.up.text) c.clear.ensures,
     ) in
-    let child : c.settle.new.child.text ≡ batch_text (first_order was.state.upper) ++ batch_text (settled_orders c.begin.new.self) =
+    let child : c.settle.new.child.text ≡ revival_batch_text (first_order was.state.upper) ++ revival_batch_text (settled_orders c.begin.new.self) =
     ap (λ (t : Text). t.text) c.settle.ensures.child
-    ∙ ap (λ (t : Text). t.text ++ batch_text (settled_orders c.begin.new.self)) c.begin.ensures.child
-    ∙ ap (λ (v : View). (v.child.text ++ batch_text (first_order was.state.upper)) ++ batch_text (settled_orders c.begin.new.self)) c.clear.ensures in
-    let short : length (batch_text (first_order was.state.upper)) ≤ MOST_LINE + 1 = omega (
+    ∙ ap (λ (t : Text). t.text ++ revival_batch_text (settled_orders c.begin.new.self)) c.begin.ensures.child
+    ∙ ap (λ (v : View). (v.child.text ++ revival_batch_text (first_order was.state.upper)) ++ revival_batch_text (settled_orders c.begin.new.self)) c.clear.ensures in
+    let short : length (revival_batch_text (first_order was.state.upper)) ≤ MOST_LINE + 1 = omega (
       arith,
       c.begin.ensures.short,
       ap (λ (t : Text). length t.text) c.begin.ensures.child,
-      length-append was.child.text (batch_text (first_order was.state.upper)),
+      length-append was.child.text (revival_batch_text (first_order was.state.upper)),
     ) in
     record {
       roomy = subst IsRoomy (sym c.settle.ensures.state) (settled_roomy c.begin.new.self k);

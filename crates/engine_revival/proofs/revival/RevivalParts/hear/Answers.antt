@@ -1,13 +1,13 @@
 use Rattle.std.proofs.Common.{[], ◌++◌, ◌≡◌, ◌≤◌, length, ap, sym, subst, ◌∙◌, arith, length-append}
 use Rattle.line_io.specs.Out.{Text}
 use Rattle.engine_revival.specs.declared.revival.TheConstants.{UP_ROOM}
-use Rattle.engine_revival.specs.Lists.{batch_text}
+use Rattle.engine_revival.specs.Lists.{revival_batch_text}
 use Rattle.engine_revival.specs.Dialogue.{said_in}
 use Rattle.engine_revival.specs.Rooms.{IsRoomy}
-use Rattle.engine_revival.specs.Steps.{answer_of, answer_text, line_passed_up, settled_orders}
+use Rattle.engine_revival.specs.Steps.{line_passed_up, settled_answers, settled_orders}
 use Rattle.engine_revival.specs.View.{View}
 use Rattle.engine_revival.proofs.Rooms.{hearing_roomy, settled_roomy, given_short}
-use Rattle.engine_revival.proofs.Marks.{answer_short, call_marks, no_lines}
+use Rattle.engine_revival.proofs.Marks.{answers_short, call_marks, no_lines}
 use Rattle.engine_revival.proofs.revival.RevivalParts.hear.Goals as goal
 
 pub settle-requires-clause-roomy : goal.settle-requires-clause-roomy
@@ -41,16 +41,16 @@ returns-clause-keeps c =
       arith,
       ap (λ (t : Text). length t.text) c.settle.ensures.up,
       ap (λ (t : Text). length t.text) c.hear.ensures.up,
-      length-append c.hear.new.up.text (answer_text (answer_of c.hear.new.self)),
+      length-append c.hear.new.up.text (settled_answers c.hear.new.self),
       length-append was.up.text (line_passed_up was.state c.args.line.now),
       given_short was.state c.args.line.now,
-      answer_short (answer_of c.hear.new.self),
+      answers_short c.hear.new.self k,
       ap (λ (v : View). length v.up.text) c.clear.ensures,
       c.requires.short,
     ) in
-    let child : c.settle.new.child.text ≡ batch_text [] ++ batch_text (settled_orders c.hear.new.self) =
+    let child : c.settle.new.child.text ≡ revival_batch_text [] ++ revival_batch_text (settled_orders c.hear.new.self) =
     ap (λ (t : Text). t.text) c.settle.ensures.child
-    ∙ ap (λ (v : View). v.child.text ++ batch_text (settled_orders c.hear.new.self)) c.clear.ensures in
+    ∙ ap (λ (v : View). v.child.text ++ revival_batch_text (settled_orders c.hear.new.self)) c.clear.ensures in
     record {
       roomy = subst IsRoomy (sym c.settle.ensures.state) (settled_roomy c.hear.new.self k);
       up = ap (λ (t : Text). t.room) c.settle.ensures.up ∙ ap (λ (t : Text). t.room) c.hear.ensures.up ∙ ap (λ (v : View). v.up.room) c.clear.ensures ∙ c.requires.keeps.up;

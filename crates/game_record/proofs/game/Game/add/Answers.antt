@@ -2,7 +2,7 @@
 use Rattle.std.proofs.Common.{◌≡◌, ℕ, ◌+◌, ◌<◌, length, refl, sym, ap, subst, ◌∙◌, arith, [], ◌∷◌}
 use Rattle.std.proofs.lemmas.List.{length-map}
 use Rattle.chess_board.specs.Position.{Position}
-use Rattle.game_record.specs.Game.{Game, ply_of, plies_of, position_after_ply, IsPlayable, now_of, now_after, positions_of}
+use Rattle.game_record.specs.Game.{Game, ply_of, plies_of, position_after_ply, IsPlayablePly, current_position, now_after, positions_of}
 use Rattle.game_record.specs.Ending.{stood_in}
 use Rattle.game_record.specs.Keeps.{most_plies}
 use Rattle.game_record.proofs.Courses.{keeps_push}
@@ -31,8 +31,8 @@ push_reserved-requires-3 c =
 
 pub invariant_of-self : goal.invariant_of-self
 invariant_of-self c =
-    let now : now_of c.args.self.now ≡ now_after c.self.inside.start (plies_of c.self.inside.moves.items) = sym (ap now_of c.self.view_is) in
-    let legal = subst (λ (p : Position). IsPlayable p (ply_of c.args.m)) now c.requires.legal in
+    let now : current_position c.args.self.now ≡ now_after c.self.inside.start (plies_of c.self.inside.moves.items) = sym (ap current_position c.self.view_is) in
+    let legal = subst (λ (p : Position). IsPlayablePly p (ply_of c.args.m)) now c.requires.legal in
     let few : length (plies_of c.self.inside.moves.items) < most_plies = subst (λ (g : Game). length g.moves < most_plies) (sym c.self.view_is) c.requires.room in
     let stood = ap (λ (n : ℕ). n + 1) (c.stood-times.ensures.value ∙ ap (λ (g : Game). stood_in c.args.after (positions_of g)) (sym c.self.view_is)) in
     let end = c.ended_by-ended.ensures ∙ ended_same _ _ _ _ _ _ c.state_of.ensures refl c.half.ensures in

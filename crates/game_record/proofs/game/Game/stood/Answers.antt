@@ -2,7 +2,7 @@
 use Rattle.std.proofs.Common.{◌≡◌, ◌∷◌, List, length, sym, subst, ap, ◌∙◌, arith}
 use Rattle.std.proofs.lemmas.List.{length-map}
 use Rattle.chess_board.specs.Position.{Position}
-use Rattle.game_record.specs.Game.{Game, ply_of, plies_of, position_after_ply, IsPlayable, now_of, now_after, positions_of}
+use Rattle.game_record.specs.Game.{Game, ply_of, plies_of, position_after_ply, IsPlayablePly, current_position, now_after, positions_of}
 use Rattle.game_record.specs.Ending.{stood_in}
 use Rattle.game_record.specs.Keeps.{left_behind}
 use Rattle.game_record.proofs.Replays.{length-later}
@@ -18,10 +18,10 @@ pub last_stood-requires-clause-behind : goal.last_stood-requires-clause-behind
 last_stood-requires-clause-behind c =
     let start = c.self.inside.start in
     let moves = c.self.inside.moves.items in
-    let now : now_of c.args.self.now ≡ now_after start (plies_of moves) = sym (ap now_of c.self.view_is) in
+    let now : current_position c.args.self.now ≡ now_after start (plies_of moves) = sym (ap current_position c.self.view_is) in
     let few = c.self.invariant.few in
     let plies = length-map moves ply_of in
-    let playable = subst (λ (p : Position). IsPlayable p (ply_of c.args.m)) now c.requires.legal in
+    let playable = subst (λ (p : Position). IsPlayablePly p (ply_of c.args.m)) now c.requires.legal in
     let after = c.requires.after ∙ ap (λ (p : Position). position_after_ply p (ply_of c.args.m)) now in
     let none = new_behind start moves c.args.m c.args.after.now c.facts.ensures.position c.self.invariant.legal (omega arith) playable after in
     ap (λ (xs : List Position). stood_in c.args.after.now (left_behind c.args.after.now (start ∷ xs))) (c.as_slice.ensures.value ∙ c.self.invariant.positions_are) ∙ none

@@ -1,0 +1,126 @@
+-- The request that the arguments make.
+use Rattle.std.specs.Prelude.{◌≡◌, ◌≢◌, ◌<◌, ⊤, Bool, true, false, ◌||◌, string_bytes}
+use Rattle.std.specs.Prelude.{List, [], ◌∷◌, ◌++◌, map, drop, length, codes}
+use Rattle.std.specs.List.{list_any, flat_map}
+use Rattle.clap.specs.Words.{Kinds, Row, Text, fault_of, matches_of, first_of, all_of}
+use Rattle.clap.specs.declared.error.kind.ErrorKind.{ErrorKind}
+use Rattle.clap.specs.declared.error.kind.ErrorKind.TheVariants as kinds
+use Rattle.line_io.specs.Event.{has_feed}
+use Rattle.line_io.specs.Lines.{line_feed}
+use Rattle.policy_rules.specs.Policy.{IsProper}
+use Rattle.policy_rules.specs.declared.settings.Settings.{Settings}
+use Rattle.program_command_line.specs.Arguments.{AreUtf8}
+use Rattle.bridge_command_line.specs.Values.{AsksPolicy, all_values, is_true_text, argument_or_empty}
+use Rattle.bridge_command_line.specs.WineravineCommand.{wineravine}
+use Rattle.bridge_command_line.specs.declared.wineravine_request.AskedProgram.{AskedProgram}
+use Rattle.bridge_command_line.specs.declared.wineravine_request.AskedProgram.TheVariants as asked
+use Rattle.bridge_command_line.specs.declared.wineravine_request.WineravineRequest.{WineravineRequest}
+use Rattle.bridge_command_line.specs.declared.wineravine_request.WrongArguments.{WrongArguments}
+use Rattle.bridge_command_line.specs.declared.wineravine_request.WrongArguments.TheVariants as wrong
+
+-- the faults that the command finds in the arguments, and the values that it finds for its arguments
+unfoldable pub wineravine_argument_faults : List Text → Kinds
+wineravine_argument_faults arguments = fault_of wineravine arguments
+
+unfoldable pub wineravine_argument_values : List Text → List Row
+wineravine_argument_values arguments = matches_of wineravine arguments
+
+-- the options of the engine that are set, in the order given
+abbrev pub options_set : List Row → List Text
+options_set rows = all_values (all_of (codes "Option") rows)
+
+abbrev pub wineravine_log_name : List Row → Text
+wineravine_log_name rows = argument_or_empty (first_of (codes "LogFile") rows)
+
+-- whether a value that may be any text has a line feed
+abbrev pub has_feed_within : List Row → Bool
+has_feed_within rows = has_feed (wineravine_log_name rows) || list_any has_feed (options_set rows)
+
+-- Each word is UTF-8, the command finds no fault in them, and no value has a line feed.
+pub record WineravineArgumentsAreTaken (arguments : List Text) : Type 0 where
+  pub utf8 : AreUtf8 arguments
+  pub no_fault : wineravine_argument_faults arguments ≡ []
+  pub no_feed : has_feed_within (wineravine_argument_values arguments) ≡ false
+
+-- Each word is UTF-8, and the command finds that they ask for this text in place of a run.
+pub record AskFor (text : ErrorKind) (arguments : List Text) : Type 0 where
+  pub utf8 : AreUtf8 arguments
+  pub request : wineravine_argument_faults arguments ≡ text ∷ []
+
+-- `-h` or `--help`
+abbrev pub AskForHelp : List Text → Type 0
+AskForHelp arguments = AskFor kinds.DisplayHelp arguments
+
+-- `-V` or `--version`
+abbrev pub AskForVersion : List Text → Type 0
+AskForVersion arguments = AskFor kinds.DisplayVersion arguments
+
+-- the arguments fit nothing
+pub record AreWrong (arguments : List Text) : Type 0 where
+  pub no_run : WineravineArgumentsAreTaken arguments → ⊥
+  pub no_help : AskForHelp arguments → ⊥
+  pub no_version : AskForVersion arguments → ⊥
+
+-- the settings have the values that were found
+pub record WineravineSettingsAreAsked (rows : List Row) (s : Settings) : Type 0 where
+  pub policy : AsksPolicy rows s
+  pub early_settings : s.early_settings ≡ is_true_text (first_of (codes "EarlySettings") rows)
+  pub resign_when_gone : s.resign_when_gone ≡ is_true_text (first_of (codes "ResignWhenGone") rows)
+  pub handle_draws : s.handle_draws ≡ is_true_text (first_of (codes "HandleDraws") rows)
+  pub show_san : s.show_san ≡ is_true_text (first_of (codes "ShowSan") rows)
+  pub strength_options : s.strength_options ≡ is_true_text (first_of (codes "StrengthOptions") rows)
+
+-- the interface's line that sets an option of the engine, with its line feed
+abbrev pub cecp_option_line : Text → Text
+cecp_option_line option = codes "option " ++ option ++ line_feed ∷ []
+
+-- the interface's lines that come before all others
+abbrev pub first_lines : List Row → Text
+first_lines rows = flat_map cecp_option_line (options_set rows)
+
+-- the words of the engine: its program and its arguments
+abbrev pub wineravine_engine_command : List Row → List Text
+wineravine_engine_command rows =
+    argument_or_empty (first_of (codes "ENGINE") rows)
+    ∷ drop 1 (all_values (all_of (codes "ENGINE") rows))
+
+pub record WineravineRequestIs (rows : List Row) (request : WineravineRequest) : Type 0 where
+  pub settings : WineravineSettingsAreAsked rows request.settings
+  pub log : string_bytes request.log_name ≡ wineravine_log_name rows
+  pub first : request.first.items ≡ first_lines rows
+  pub engine : map string_bytes request.engine.items ≡ wineravine_engine_command rows
+
+-- a run that can be made
+pub record IsRunnable (arguments : List Text) (request : WineravineRequest) : Type 0 where
+  pub taken : WineravineArgumentsAreTaken arguments
+  pub asked : WineravineRequestIs (wineravine_argument_values arguments) request
+  pub proper : IsProper request.settings
+  pub engine : 0 < length request.engine.items
+
+-- what the arguments ask for
+abbrev pub Ask : List Text → AskedProgram → Type 0
+Ask arguments (asked.Run request) = IsRunnable arguments request
+Ask arguments asked.Help = AskForHelp arguments
+Ask arguments asked.Version = AskForVersion arguments
+
+-- why they ask for nothing
+abbrev pub Fail : List Text → WrongArguments → Type 0
+Fail arguments (wrong.Words text) = AreWrong arguments
+Fail arguments wrong.NoMemory = ⊤
+
+-- what an error of this kind asks for
+abbrev pub ErrorAsksFor : ErrorKind → AskedProgram → Type 0
+ErrorAsksFor kind (asked.Run request) = ⊥
+ErrorAsksFor kind asked.Help = kind ≡ kinds.DisplayHelp
+ErrorAsksFor kind asked.Version = kind ≡ kinds.DisplayVersion
+
+-- an error of this kind is a mistake
+abbrev pub Blames : ErrorKind → WrongArguments → Type 0
+Blames kind (wrong.Words text) =
+    (kind ≢ kinds.DisplayHelp) × ((kind ≢ kinds.DisplayVersion) × (kind ≢ kinds.OutOfMemory))
+Blames kind wrong.NoMemory = ⊤
+
+-- the arguments are wrong only if a value has a line feed
+abbrev pub BlamesFeed : List Row → WrongArguments → Type 0
+BlamesFeed rows (wrong.Words text) = has_feed_within rows ≡ true
+BlamesFeed rows wrong.NoMemory = ⊤

@@ -1,0 +1,61 @@
+-- The command of the program, as clap sees it. It has clap's flags `-h`,
+-- `--help`, `-V` and `--version`.
+use Rattle.std.specs.Prelude.{true, Some, codes}
+use Rattle.clap.specs.Words.{App, Rule, new_app, new_rule, with_rule}
+use Rattle.clap.specs.Simple.{on_top}
+use Rattle.clap.specs.Lexer.{usize_max}
+use Rattle.clap.specs.declared.builder.action.ArgAction.TheVariants.{Append}
+use Rattle.bridge_command_line.specs.Arguments.{flag_rule, log_file_rule, with_policy_rules}
+
+abbrev pub early_settings_rule : Rule
+early_settings_rule = flag_rule (codes "EarlySettings") (codes "true")
+
+abbrev pub resign_when_gone_rule : Rule
+resign_when_gone_rule = flag_rule (codes "ResignWhenGone") (codes "true")
+
+abbrev pub handle_draws_rule : Rule
+handle_draws_rule = flag_rule (codes "HandleDraws") (codes "true")
+
+abbrev pub show_san_rule : Rule
+show_san_rule = flag_rule (codes "ShowSan") (codes "true")
+
+abbrev pub strength_options_rule : Rule
+strength_options_rule = flag_rule (codes "StrengthOptions") (codes "true")
+
+-- an option of the engine, any number of times
+abbrev pub set_option_rule : Rule
+set_option_rule =
+    record (new_rule (codes "Option")) {
+      long = Some (codes "Option");
+      action = Some Append;
+      value_names = 1;
+    }
+
+-- the engine's program, and after it all arguments, whatever these are
+abbrev pub wineravine_engine_rule : Rule
+wineravine_engine_rule =
+    record (new_rule (codes "ENGINE")) {
+      required = true;
+      action = Some Append;
+      range = Some (record { start_inclusive = 1; end_inclusive = usize_max });
+      trailing_var_arg = true;
+    }
+
+abbrev pub bare_wineravine : App
+bare_wineravine =
+    on_top (λ s. record s { no_binary_name = true; has_version = true })
+    (new_app (codes "wineravine"))
+
+abbrev pub with_new_settings : App → App
+with_new_settings a =
+    with_rule (with_rule (with_rule
+    (with_rule (with_rule a early_settings_rule) resign_when_gone_rule)
+    handle_draws_rule) show_san_rule) strength_options_rule
+
+abbrev pub with_names : App → App
+with_names a =
+    with_rule (with_rule (with_rule a (log_file_rule (codes "wineravine.log"))) set_option_rule)
+    wineravine_engine_rule
+
+abbrev pub wineravine : App
+wineravine = with_names (with_new_settings (with_policy_rules bare_wineravine))

@@ -1,0 +1,10 @@
+pub mod Prefixes
+pub mod Plain
+pub mod Hears
+pub mod Tellings
+pub mod Rereads
+pub mod Sans
+pub mod Lists
+pub mod Exact
+pub mod Spoken
+pub mod Again

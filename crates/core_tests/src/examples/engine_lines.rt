@@ -1,0 +1,29 @@
+// Lines of the Universal Chess Interface, from both of its sides.
+use chess_board::Side;
+use line_io::Out;
+use peer_words::GoKind;
+use uci_as_engine::{go_kind, spoken, write_engine};
+use uci_lines::{EngineMsg, Score, read_engine};
+
+/// uci_lines: a report of an engine is read.
+#[test]
+fn an_engine_reports(rt: HostRuntime) {
+    let is_read = match read_engine(b"info depth 9 score cp 25 pv e2e4 e7e5") {
+        EngineMsg::Info(info) => info.depth == Some(9) && info.score == Some(Score::Cp(25)),
+        _ => false,
+    };
+    assert!(rt; is_read);
+}
+
+/// uci_as_engine: orders are read, and a line is written for an interface.
+#[test]
+#[tactic(auto, unfolding(uci_as_engine::specs::Said::said_text))]
+fn an_engine_is_asked(rt: HostRuntime) {
+    let said = spoken(b"position startpos moves e2e4").expect(&rt, "a position");
+    assert!(rt; said.end.side() == Side::Black && said.moves == b"e2e4".as_slice());
+    assert!(rt; spoken(b"position startpos moves e2e5").is_none());
+    assert!(rt; go_kind(b"go wtime 60000 ponder") == GoKind::Ponder);
+    let mut line = Out::make(rt.alloc(), 200).expect(&rt, "memory for a line");
+    write_engine(&EngineMsg::ReadyOk, &mut line);
+    assert!(rt; line.bytes() == b"readyok".as_slice());
+}

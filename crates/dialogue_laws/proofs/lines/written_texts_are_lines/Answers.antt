@@ -1,5 +1,0 @@
-use Rattle.dialogue_laws.proofs.OneLine.{write_lines}
-use Rattle.dialogue_laws.proofs.lines.written_texts_are_lines.Goals as goal
-
-pub returns : goal.returns
-returns c = write_lines c.args.settings

@@ -1,5 +1,0 @@
-use Rattle.dialogue_laws.proofs.Steadily as steadily
-use Rattle.dialogue_laws.proofs.searches.searches_serve.Goals as goal
-
-pub returns : goal.returns
-returns c = record { serve = steadily.serve c.args.settings }

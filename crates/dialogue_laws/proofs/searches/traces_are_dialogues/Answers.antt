@@ -1,6 +1,0 @@
-use Rattle.dialogue_laws.proofs.Dialogues.{dialogues}
-use Rattle.dialogue_laws.proofs.Steadily.{steadily}
-use Rattle.dialogue_laws.proofs.searches.traces_are_dialogues.Goals as goal
-
-pub returns : goal.returns
-returns c = record { dialogues = dialogues c.args.settings; steady = steadily c.args.settings }

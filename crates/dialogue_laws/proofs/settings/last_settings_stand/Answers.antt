@@ -1,5 +1,0 @@
-use Rattle.dialogue_laws.proofs.Asked.{last_stands, searches_have}
-use Rattle.dialogue_laws.proofs.settings.last_settings_stand.Goals as goal
-
-pub returns : goal.returns
-returns c = record { stand = last_stands c.args.settings; searches = searches_have c.args.settings }

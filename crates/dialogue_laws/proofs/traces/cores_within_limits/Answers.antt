@@ -1,5 +1,0 @@
-use Rattle.dialogue_laws.proofs.Reached.{within_limits}
-use Rattle.dialogue_laws.proofs.traces.cores_within_limits.Goals as goal
-
-pub returns : goal.returns
-returns c = record { limits = within_limits c.args.settings }

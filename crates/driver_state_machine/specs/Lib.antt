@@ -1,0 +1,9 @@
+pub mod DriverState
+pub mod Laws
+pub mod Words
+pub mod Numbers
+pub mod Says
+pub mod Lines
+pub mod Clocks
+pub mod Parts
+pub mod Moves

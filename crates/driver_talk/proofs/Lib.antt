@@ -1,9 +1,0 @@
-pub mod Counts
-pub mod Busy
-pub mod Silent
-mod Pings
-mod Cuts
-mod Named
-mod First
-mod Puts
-pub mod FeatureText

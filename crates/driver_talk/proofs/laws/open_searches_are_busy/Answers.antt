@@ -1,5 +1,0 @@
-use Rattle.driver_talk.proofs.Busy.{open_is_busy}
-use Rattle.driver_talk.proofs.laws.open_searches_are_busy.Goals as goal
-
-pub returns : goal.returns
-returns c = open_is_busy

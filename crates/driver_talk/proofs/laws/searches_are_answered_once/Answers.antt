@@ -1,5 +1,0 @@
-use Rattle.driver_talk.proofs.Counts.{answered_once}
-use Rattle.driver_talk.proofs.laws.searches_are_answered_once.Goals as goal
-
-pub returns : goal.returns
-returns c = answered_once

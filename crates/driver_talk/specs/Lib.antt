@@ -1,9 +1,0 @@
-pub mod Talk
-pub mod Laws
-pub mod Words
-pub mod Numbers
-pub mod Says
-pub mod Lines
-pub mod Clocks
-pub mod Parts
-pub mod Moves

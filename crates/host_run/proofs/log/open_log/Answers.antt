@@ -1,5 +1,0 @@
-use Rattle.host_run.proofs.Asked.{log_asked}
-use Rattle.host_run.proofs.log.open_log.Goals as goal
-
-pub returns-in-Err-clause-asked : goal.returns-in-Err-clause-asked
-returns-in-Err-clause-asked g c = log_asked _ _ _ _ c.in-Err.ensures.asked.failed c.in-Err.ensures.asked.memory

@@ -1,0 +1,7 @@
+mod Scribing
+mod Endings
+pub mod Outcomes
+pub mod Prefixes
+mod Pieces
+pub mod Readings
+pub mod Announcing

@@ -1,0 +1,9 @@
+pub mod Outcomes
+pub mod Putting
+pub mod Filtered
+pub mod Writing
+pub mod Diagnostics
+pub mod Ran
+pub mod Reads
+pub mod Streams
+pub mod DiagnosticWritten

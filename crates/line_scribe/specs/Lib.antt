@@ -1,9 +1,0 @@
-pub mod Outcomes
-pub mod Putting
-pub mod Scribed
-pub mod Writing
-pub mod Diagnostics
-pub mod Ran
-pub mod Reads
-pub mod Streams
-pub mod Told

@@ -1,0 +1,4 @@
+pub mod Arguments
+pub mod About
+pub mod Room
+pub mod Streams

@@ -1,4 +1,0 @@
-pub mod Words
-pub mod About
-pub mod Room
-pub mod Streams

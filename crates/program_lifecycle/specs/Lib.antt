@@ -1,0 +1,11 @@
+pub mod Streams
+pub mod Took
+pub mod Asked
+pub mod Early
+pub mod Endings
+pub mod Logs
+pub mod Outside
+pub mod Program
+pub mod ByArguments
+pub mod Readers
+pub mod Reporting

@@ -1,6 +1,0 @@
-use Rattle.replay_commands.specs.Drilled.{Plays}
-use Rattle.line_scribe.proofs.Telling.{writes_as}
-use Rattle.replay_commands.proofs.play.play_drill.Goals as goal
-
-pub returns-in-Ok : goal.returns-in-Ok
-returns-in-Ok g c = Plays c.in-Ok.line.text c.in-Ok.ensures (writes_as _ _ _ _ _ _ _ _ c.bytes.ensures.text c.write_lines.ensures)

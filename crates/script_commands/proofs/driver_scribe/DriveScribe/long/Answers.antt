@@ -1,7 +1,0 @@
-use Rattle.std.proofs.Common.{refl}
-use Rattle.line_io.specs.Lines.{TooLong}
-use Rattle.script_commands.proofs.Reading.{puts_unmarked}
-use Rattle.script_commands.proofs.driver_scribe.DriveScribe.long.Goals as goal
-
-pub returns-clause-puts : goal.returns-clause-puts
-returns-clause-puts c = puts_unmarked c.args.number TooLong c.args.self.now c.args._text.now refl

@@ -1,6 +1,0 @@
-use Rattle.std.proofs.Common.{refl}
-use Rattle.script_commands.proofs.Playing.{closes_by}
-use Rattle.script_commands.proofs.reviver.ReviverScribe.finish.Goals as goal
-
-pub returns : goal.returns
-returns c = closes_by c.args._ending c.args.self.now c.args._text.now c.args._text.now c.requires.ends refl

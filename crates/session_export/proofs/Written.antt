@@ -1,0 +1,119 @@
+-- The meaning of the status of the command `games`.
+use Rattle.std.proofs.Common.{◌≡◌, ◌⊎◌, inl, inr, ℕ, ◌^◌, List, take, refl, subst, ◌∙◌}
+use Rattle.std.specs.Io.KnownBytes.{Appends}
+use Rattle.line_io.specs.Lines.{Piece, items}
+use Rattle.line_io.specs.Runs.{whole}
+use Rattle.line_io.specs.Source.{TakesPrefix}
+use Rattle.policy_rules.specs.Policy.{IsProper}
+use Rattle.policy_rules.specs.declared.settings.Settings.{Settings}
+use Rattle.adapter_core.specs.Trace.{Step}
+use Rattle.trace_scripts.specs.Script.{events}
+use Rattle.line_command.specs.declared.ending.Ending.TheVariants as endings
+use Rattle.line_command.specs.Diagnostics.{tail_of}
+use Rattle.line_command.specs.Ran.{FilterRan}
+use Rattle.line_command.specs.Streams.{FilterStreams, AreSame}
+use Rattle.line_command.specs.DiagnosticWritten.{DiagnosticWritten}
+use Rattle.line_command.proofs.Outcomes.{memory_ran}
+use Rattle.line_command.specs.Filtered.{FilterEndsBy}
+use Rattle.script_replay.specs.Versions.{script_events, settings_by, version_in}
+use Rattle.session_export.specs.Outcomes.{AllExported, ExportedToFault, PrefixExported, IsExportedOrEnded, SessionOutcome, WholeExported, WritesText}
+use Rattle.session_export.specs.Writing.{WriterIsUnused}
+use Rattle.session_export.proofs.Outcomes.{session_outcome, unused_fresh}
+use Rattle.session_export.specs.GameExports.{GameWriter, new_game_writer, exports_games, text_all, text_over, writes_games}
+use Rattle.session_export.specs.GamesWritten.{AllGamesWritten, AreWhole, GamesFaultReported, GamesPrefixWritten, GamesWritten, GamesOfLongInput, WholeGamesWritten, WritesGames}
+use Rattle.session_export.proofs.Stays.{first_games_stay}
+use Rattle.session_export.proofs.Texts.{all_announced, cut_announced, over_announced}
+
+module _ (o : Settings) (w0 : GameWriter) (is_new : w0 ≡ new_game_writer o) (unused : WriterIsUnused exports_games o w0) (Unread Kept : Type 0) (start now : FilterStreams) (code : ℕ) (ran : FilterRan (λ e. FilterEndsBy writes_games w0 (Unread × Kept) e start now) start now code) where
+  out : SessionOutcome exports_games o (Unread × Kept) start now code
+  out = session_outcome exports_games o w0 unused (Unread × Kept) start now code ran
+
+  abbrev Wrote : List ℕ → Type 0
+  Wrote text = Appends start.output.taken now.output.taken text
+
+  -- the text that was written is that of games
+  games_by : (text_of : Settings → List Piece → List Step → List ℕ) (games_of : Settings → List Step → List ℕ) (lines : List Piece)
+      → ((trace : List Step) → events trace ≡ script_events lines → text_of o lines trace ≡ games_of (settings_by (version_in lines) o) trace)
+      → WritesText text_of o start now lines → WritesGames games_of o start now lines
+  games_by text_of games_of lines same w = record { trace = w.trace; session = w.session; written = subst Wrote (same w.trace w.session.events_are) w.written }
+
+  all_by : AllExported exports_games o start now → AreSame start now → AllGamesWritten o start now
+  all_by w s = record {
+    got = w.got;
+    reads = w.reads;
+    all_read = w.all_read;
+    faultless = w.faultless;
+    games = games_by _ text_all (items 131072 w.got) (all_announced o (items 131072 w.got)) w.text;
+    no_failure = s;
+  }
+
+  reported : ExportedToFault exports_games o start now → GamesFaultReported o start now
+  reported w = record {
+    fault = w.fault;
+    announced = w.announced;
+    lines = w.lines;
+    read = w.read;
+    is_fault = w.is_fault;
+    games = games_by _ text_over w.lines (over_announced o w.lines) w.text;
+  }
+
+  broken_by : WholeExported exports_games endings.ReadingFailed 0 o start now → WholeGamesWritten o start now
+  broken_by w = record {
+    got = w.got;
+    reads = w.reads;
+    first = w.first;
+    faultless = w.faultless;
+    games = games_by _ text_over (whole 131072 w.got) (cut_announced o (whole 131072 w.got)) w.text;
+  }
+
+  much_by : WholeExported exports_games endings.TooLong (2 ^ 32) o start now → GamesOfLongInput o start now
+  much_by w = record {
+    games = record {
+      got = w.got;
+      reads = w.reads;
+      first = w.first;
+      faultless = w.faultless;
+      games = games_by _ text_over (whole 131072 w.got) (cut_announced o (whole 131072 w.got)) w.text;
+    };
+    least = w.least_is;
+  }
+
+  prefix_by : PrefixExported exports_games o start now → GamesPrefixWritten o start now
+  prefix_by w = record { lines = w.lines; read = w.read; trace = w.trace; session = w.session; written = by w.text_is } where
+    over : w.text ≡ text_over (settings_by (version_in w.lines) o) w.trace → TakesPrefix start.output.taken now.output.taken (text_over (settings_by (version_in w.lines) o) w.trace)
+    over e = (w.prefix, subst (λ (t : List ℕ). Wrote (take w.prefix t)) e w.written)
+
+    by : IsExportedOrEnded exports_games o start.input.left w.lines w.trace w.text → TakesPrefix start.output.taken now.output.taken (text_over (settings_by (version_in w.lines) o) w.trace)
+        ⊎ (AreWhole start w.lines × TakesPrefix start.output.taken now.output.taken (text_all (settings_by (version_in w.lines) o) w.trace))
+    by (inl e) = inl (over (e ∙ over_announced o w.lines w.trace w.session.events_are))
+    by (inr (endings.Done, i, r, f, e)) =
+        inr ((r, f), (w.prefix, subst (λ (t : List ℕ). Wrote (take w.prefix t)) (e ∙ all_announced o w.lines w.trace w.session.events_are) w.written))
+    by (inr (endings.ReadingFailed, i, r, f, e)) = inl (over (e ∙ cut_announced o w.lines w.trace w.session.events_are))
+    by (inr (endings.TooLong, i, r, f, e)) = inl (over (e ∙ cut_announced o w.lines w.trace w.session.events_are))
+    by (inr (ending, i, r, f, e)) = absurd i
+
+  part : (Unread × Kept) ⊎ PrefixExported exports_games o start now → (Unread × Kept) ⊎ GamesPrefixWritten o start now
+  part (inl u) = inl u
+  part (inr w) = inr (prefix_by w)
+
+  pub games_written : GamesWritten o Unread Kept start now code
+  games_written = record {
+    ended = subst (λ (w : GameWriter). FilterRan (λ e. FilterEndsBy writes_games w (Unread × Kept) e start now) start now code) is_new ran;
+    all_written = λ z. let w = out.all_announced z in all_by w.0 w.1;
+    no_other = out.no_other;
+    fault_reported = λ z. reported (out.fault_announced z);
+    memory = out.memory;
+    reading_failed = λ z. let w = out.reading_failed z in (w.0, broken_by w.1);
+    writing_failed = λ z. let w = out.writing_failed z in (w.0, part w.1);
+    first_stay = first_games_stay o;
+    too_long = λ z. much_by (out.too_long z);
+    complete = out.complete;
+    faults_announced = out.faults_announced;
+  }
+
+-- WANT OF MEMORY
+
+pub want_of_memory : (o : Settings) → IsProper o → (Unread Kept : Type 0) (start now : FilterStreams) (code : ℕ) → Unread → Kept → now.input ≡ start.input → now.output ≡ start.output
+    → DiagnosticWritten code 3 (tail_of endings.NoMemory) start.diag now.diag → GamesWritten o Unread Kept start now code
+want_of_memory o proper Unread Kept start now code unread kept i u t =
+    games_written o (new_game_writer o) refl (unused_fresh exports_games o proper refl) Unread Kept start now code (memory_ran writes_games (new_game_writer o) (Unread × Kept) start now code (unread, kept) i u t)

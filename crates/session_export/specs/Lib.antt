@@ -1,0 +1,10 @@
+pub mod Following
+pub mod Exporting
+pub mod Writing
+pub mod Outcomes
+pub mod Games
+pub mod GameExports
+pub mod GamesWritten
+pub mod Positions
+pub mod PositionExports
+pub mod PositionsWritten

@@ -1,0 +1,36 @@
+// The command `games`.
+ghost use Rattle.std.specs.Prelude.{◌≡◌};
+ghost use Rattle.line_command.specs.Diagnostics.{command_status};
+ghost use Rattle.line_command.specs.Streams.{filter_streams};
+ghost use Rattle.policy_rules.specs.Policy.{IsProper};
+ghost use Rattle.session_export.specs.GamesWritten.{GamesWritten};
+
+use crate::game_exporter::GameWriter;
+use line_command::{Ending, report_without_buffer, run_filter};
+use line_io::{Sink, Source};
+use policy_rules::Settings;
+use std::alloc::Global;
+
+/// Writes the games of the session whose script is the input, and reports how that ended.
+///
+/// The settings are those of the script's header, and these if it has none. Each game is a movetext
+/// (PGN standard, section 8.2) on a line of its own, after its `FEN` tag if it does not begin with
+/// the usual position.
+pub fn write_games<I: Source, O: Sink, D: Sink>(
+    alloc: Global,
+    settings: &Settings,
+    input: &mut I,
+    output: &mut O,
+    diag: &mut D,
+) -> Ending
+    requires { IsProper settings.now }
+    ensures { GamesWritten settings.now (input.new ≡ input.old) (output.new ≡ output.old)
+        (filter_streams (I.state input.old) (O.state output.old) (D.state diag.old))
+        (filter_streams (I.state input.new) (O.state output.new) (D.state diag.new))
+        (command_status result) }
+{
+    let Ok(writer) = GameWriter::make(alloc, settings) else {
+        return report_without_buffer(Ending::NoMemory, diag);
+    };
+    run_filter(alloc, writer, input, output, diag)
+}

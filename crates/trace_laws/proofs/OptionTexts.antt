@@ -1,0 +1,115 @@
+-- The texts of the options that lines of an engine declare have no line feed.
+use Rattle.std.proofs.Common.{◌≡◌, ℕ, List, [], ◌∷◌, ◌++◌, Bool, true, false, cond, codes, inl, inr, refl, sym, subst}
+use Rattle.std.specs.Prelude.{ℤ}
+use Rattle.std.specs.List.{AllByRecursion, flat_map}
+use Rattle.std.specs.Fmt.{signed_decimal}
+use Rattle.peer_words.specs.Tokens.{rest_after_token, trimmed}
+use Rattle.uci_lines.specs.Cuts.{Found, is_word, is_known}
+use Rattle.uci_lines.specs.Messages as says
+use Rattle.uci_lines.specs.Messages.{EngineMsg, OptionKind}
+use Rattle.uci_lines.specs.Options.{option_text_shown}
+use Rattle.uci_lines.specs.Engine.{engine_message}
+use Rattle.uci_lines.specs.Spells.{FirstTokenPasses, FirstKnownWordIs, Behind, HasForm}
+use Rattle.uci_lines.proofs.Rows.{read_spells}
+use Rattle.option_map.specs.Names.{same_text, is_hidden}
+use Rattle.option_map.specs.Choices.{with_star, with_bars, choices_text}
+use Rattle.option_map.specs.Settings.{OptionSetting, SettingKind, Spin, bit_text, setting_kind_text, shown_kind, hidden_kind}
+use Rattle.option_map.specs.Spelled.{IsDeclared}
+use Rattle.option_map.proofs.Values.{no_feed, IsPart, IsPiece, back_part, trimmed_part, rest_part, line_part}
+use Rattle.option_map.proofs.HeardOptions.{IsHeardShape, IsHeardOption, message_heard}
+use Rattle.option_map.proofs.Usable.{usable}
+use Rattle.trace_laws.proofs.Pieces.{both_bare, either_part, none_part, signed_part}
+
+-- PARTS OF A LINE
+
+after_part : {n : ℕ} (p : List ℕ → Bool) (text : List ℕ) (part : Found) → FirstTokenPasses p text part → IsPart n text → IsPart n part.after
+after_part p text part f h = back_part part.word part.after (part.word ++ part.after) refl (back_part part.before (part.word ++ part.after) text f.whole h)
+
+pub begun_part : {n : ℕ} (line word text : List ℕ) → FirstKnownWordIs line word text → IsPart n line → IsPart n text
+begun_part {n} line word text b h = subst (λ (t : List ℕ). IsPart n t) b.3 (after_part is_known line b.0 b.1 h)
+
+behind_part : {n : ℕ} (word text others : List ℕ) → Behind word text others → IsPart n text → IsPart n others
+behind_part {n} word text others (inl b) h = subst (λ (t : List ℕ). IsPart n t) (sym b.1) (none_part n)
+behind_part {n} word text others (inr b) h = subst (λ (t : List ℕ). IsPart n t) (sym b.2) (after_part (is_word word) text b.0 b.1 h)
+
+shown_part : {n : ℕ} (text : List ℕ) → IsPart n text → IsPart n (option_text_shown text)
+shown_part {n} text h = either_part (is_word (codes "<empty>") text) [] text (none_part n) h
+
+-- the default of a text option
+default_part : (line name default : List ℕ) → engine_message line ≡ says.OptionLine name (says.Text default) → IsPart 65536 line → IsPart 65536 default
+default_part line name default e h =
+    let form : HasForm line (says.OptionLine name (says.Text default)) = read_spells line (says.OptionLine name (says.Text default)) e in
+    let text = begun_part line (codes "option") form.0 form.1 h in
+    let part = form.2.1 in
+    let after = rest_part part.after (after_part (is_word (codes "type")) (rest_after_token form.0) part form.2.2 (rest_part form.0 text)) in
+    let shape = form.2.4 in
+    let others = behind_part (codes "default") (rest_after_token part.after) shape.1 shape.2 after in
+    subst (λ (t : List ℕ). IsPart 65536 t) (sym shape.3) (shown_part (trimmed shape.1) (trimmed_part shape.1 others))
+
+-- KINDS
+
+choices_bare : (cs : List (List ℕ)) → AllByRecursion (λ c. no_feed c ≡ true) cs → no_feed (flat_map with_bars cs) ≡ true
+choices_bare [] h = refl
+choices_bare (c ∷ cs) h = both_bare (with_bars c) (flat_map with_bars cs) h.0 (choices_bare cs h.1)
+
+combo_bare : (cs : List (List ℕ)) → AllByRecursion (λ c. no_feed c ≡ true) cs → no_feed (choices_text cs) ≡ true
+combo_bare [] h = refl
+combo_bare (c ∷ cs) h = both_bare c (flat_map with_bars cs) h.0 (choices_bare cs h.1)
+
+pieces_bare : (vs : List (List ℕ)) → AllByRecursion (IsPiece 65536) vs → AllByRecursion (λ c. no_feed c ≡ true) vs
+pieces_bare [] h = tt
+pieces_bare (v ∷ vs) h = (h.0.part.line, pieces_bare vs h.1)
+
+star_bare : (w : Bool) (v : List ℕ) (vs others : List (List ℕ)) → no_feed v ≡ true → AllByRecursion (λ c. no_feed c ≡ true) vs → AllByRecursion (λ c. no_feed c ≡ true) others
+    → AllByRecursion (λ c. no_feed c ≡ true) (cond w ((42 ∷ v) ∷ vs) (v ∷ others))
+star_bare true v vs others h k l = (h, k)
+star_bare false v vs others h k l = (h, l)
+
+starred_bare : (default : List ℕ) (vs : List (List ℕ)) → AllByRecursion (λ c. no_feed c ≡ true) vs → AllByRecursion (λ c. no_feed c ≡ true) (with_star default vs)
+starred_bare default [] h = tt
+starred_bare default (v ∷ vs) h = star_bare (same_text default v) v vs (with_star default vs) h.0 h.1 (starred_bare default vs h.1)
+
+bit_bare : (b : Bool) → no_feed (codes " -check " ++ bit_text b) ≡ true
+bit_bare true = refl
+bit_bare false = refl
+
+IsBare : SettingKind → Type 0
+IsBare k = no_feed (setting_kind_text k) ≡ true
+
+spin_bare : (default min max : ℤ) → IsBare (Spin default min max)
+unfolding IsBare
+spin_bare default min max =
+    let one = both_bare (codes " -spin ") (signed_decimal default) refl (signed_part default).line in
+    let two = both_bare (codes " -spin " ++ signed_decimal default) (codes " ") one refl in
+    let three = both_bare (codes " -spin " ++ signed_decimal default ++ codes " ") (signed_decimal min) two (signed_part min).line in
+    let four = both_bare (codes " -spin " ++ signed_decimal default ++ codes " " ++ signed_decimal min) (codes " ") three refl in
+    both_bare (codes " -spin " ++ signed_decimal default ++ codes " " ++ signed_decimal min ++ codes " ") (signed_decimal max) four (signed_part max).line
+
+shown_bare : (line name : List ℕ) (shape : OptionKind) → engine_message line ≡ says.OptionLine name shape → IsPart 65536 line → IsHeardShape shape → IsBare (shown_kind shape)
+unfolding IsBare
+shown_bare line name (says.Check on) e l h = bit_bare on
+shown_bare line name (says.Spin default min max) e l h = spin_bare default min max
+shown_bare line name (says.Combo default vs) e l h = both_bare (codes " -combo ") (choices_text (with_star default vs)) refl (combo_bare (with_star default vs) (starred_bare default vs (pieces_bare vs h)))
+shown_bare line name says.Button e l h = refl
+shown_bare line name (says.Text default) e l h = both_bare (codes " -string ") default refl (default_part line name default e l).line
+
+hidden_bare : (shape : OptionKind) → IsBare (hidden_kind shape)
+unfolding IsBare
+hidden_bare (says.Check on) = bit_bare on
+hidden_bare (says.Spin default min max) = spin_bare default min max
+hidden_bare (says.Combo default vs) = refl
+hidden_bare says.Button = refl
+hidden_bare (says.Text default) = refl
+
+kind_by : (w : Bool) (a b : SettingKind) → IsBare a → IsBare b → IsBare (cond w a b)
+kind_by true a b h k = h
+kind_by false a b h k = k
+
+-- the name and the kind of an option
+pub declared_bare : (o : OptionSetting) → IsDeclared o → no_feed (o.name ++ setting_kind_text o.kind) ≡ true
+unfolding IsBare
+declared_bare o d =
+    let part = line_part d.line d.is_line in
+    let heard : IsPiece 65536 d.name × IsHeardShape d.shape = subst (λ (m : EngineMsg). IsHeardOption m) d.says (message_heard d.line part) in
+    let kind = kind_by (is_hidden d.strength d.name) (hidden_kind d.shape) (shown_kind d.shape) (hidden_bare d.shape) (shown_bare d.line d.name d.shape d.says part heard.1) in
+    both_bare o.name (setting_kind_text o.kind) (usable o d).name.part.line (subst (λ (x : OptionSetting). IsBare x.kind) (sym d.kept_is) kind)

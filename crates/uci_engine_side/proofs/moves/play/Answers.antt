@@ -1,5 +1,0 @@
-use Rattle.chess_board.proofs.LegalMoves.{is_legal}
-use Rattle.uci_engine_side.proofs.moves.play.Goals as goal
-
-pub play-requires : goal.play-requires
-play-requires c = is_legal c.args.at.now c.args.m c.requires

@@ -1,0 +1,174 @@
+// The program over any host.
+ghost use Rattle.std.specs.Prelude.{◌≡◌, ◌≢◌, true, IfSome};
+ghost use Rattle.child_engine.specs.Hosts.{HostIsUnused};
+ghost use Rattle.program_command_line.specs.Arguments.{argument_bytes_of};
+ghost use Rattle.program_lifecycle.specs.Endings.{program_status, program_diagnostic};
+ghost use Rattle.program_lifecycle.specs.Asked.{AsksAsReported};
+ghost use Rattle.program_lifecycle.specs.Outside.{outside_of};
+ghost use Rattle.program_lifecycle.specs.Program.{IsReportedTo, StatusSays};
+ghost use Rattle.program_lifecycle.specs.declared.ending.ProgramEnding.TheVariants as endings;
+ghost use Rattle.bridge_runner.specs.Program.{RunsAsAsked, BridgeRunsWhole};
+ghost use Rattle.bridge_command_line.specs.WineravineArguments.{WineravineSettingsAreAsked, WineravineArgumentsAreTaken, IsRunnable, wineravine_engine_command, first_lines, wineravine_log_name, wineravine_argument_values};
+ghost use Rattle.wineravine_runner.specs.Program.{Did, WineravineDoes, ArgumentsFitCase, engine_named, not_started, program};
+
+use crate::reporting::{not_started_line, refuse, show, write_once};
+use bridge_command_line::{
+    AskedProgram, HELP, WineravineRequest, WrongArguments, read_wineravine_arguments,
+};
+use bridge_runner::run_bridge;
+use child_engine::Host;
+use line_io::{Sink, Source, Status};
+use mediator::RunRequest;
+use program_command_line::version_line;
+use program_lifecycle::{Failures, Interface, ProgramEnding, finish};
+use std::alloc::Global;
+use std::sync::Wait;
+use std::thread::Threads;
+
+/// The end of a program that has no memory for its arguments.
+pub fn refuse_for_memory<D: Sink>(diag: &mut D) -> Status
+    ensures status { result.code ≡ program_status endings.NoMemory }
+    ensures reported { IsReportedTo (D.state diag.old) (D.state diag.new)
+        (program_diagnostic program endings.NoMemory) }
+{
+    finish(b"wineravine", ProgramEnding::NoMemory, diag)
+}
+
+// Reports how a run ended. If its engine was not started, the interface shows that to its user.
+fn report<O: Sink, D: Sink>(
+    ending: ProgramEnding,
+    line: &[u8],
+    output: &mut O,
+    diag: &mut D,
+) -> Status
+    ensures code { result.code ≡ program_status ending }
+    ensures reported { IsReportedTo (D.state diag.old) (D.state diag.new) (program_diagnostic
+        program ending) }
+    ensures unstarted { result.code ≡ 8
+        → IsReportedTo (O.state output.old) (O.state output.new) line.now }
+    ensures quiet { result.code ≢ 8 → output.new ≡ output.old }
+{
+    let status = finish(b"wineravine", ending, diag);
+    if status.code == 8 {
+        write_once(line, output);
+    }
+    status
+}
+
+// Makes the run that the arguments ask for.
+fn run_asked<I: Source + Send, O: Sink + Send, H: Host, R: Threads + Wait + Sync>(
+    rt: &R,
+    alloc: Global,
+    arguments: &[Vec<u8>],
+    request: &WineravineRequest,
+    interface: &mut Interface<I, O>,
+    host: &mut H,
+) -> Failures
+    requires runnable { IsRunnable (argument_bytes_of arguments.now) request.now }
+    requires unused { HostIsUnused (H.ledger host.old) }
+    ensures runs { RunsAsAsked (WineravineSettingsAreAsked (wineravine_argument_values
+        (argument_bytes_of arguments.now)))
+        (first_lines (wineravine_argument_values (argument_bytes_of arguments.now)))
+        (outside_of I.state O.state H.faults H.ledger interface.old host.old)
+        (outside_of I.state O.state H.faults H.ledger interface.new host.new)
+        result }
+    ensures asked { AsksAsReported (wineravine_engine_command (wineravine_argument_values
+        (argument_bytes_of arguments.now)))
+        (wineravine_log_name (wineravine_argument_values (argument_bytes_of arguments.now)))
+        (H.asked host.old) (H.asked host.new)
+        (H.faults host.old) (H.faults host.new) (H.ledger host.new) }
+{
+    let run = RunRequest {
+        first: request.first.as_slice(),
+        log_name: request.log_name.as_str(),
+        engine: request.engine.as_slice(),
+    };
+    run_bridge(rt, alloc, &request.settings, &run, interface, host)
+}
+
+// Does what the arguments ask for.
+#[tactic(auto, using(program_lifecycle::proofs::Asked::asks_refused))]
+fn answer<I: Source + Send, O: Sink + Send, H: Host, D: Sink, R: Threads + Wait + Sync>(
+    rt: &R,
+    alloc: Global,
+    arguments: &[Vec<u8>],
+    interface: &mut Interface<I, O>,
+    host: &mut H,
+    diag: &mut D,
+) -> Status
+    requires unused { HostIsUnused (H.ledger host.old) }
+    ensures did { Did (argument_bytes_of arguments.now)
+        (outside_of I.state O.state H.faults H.ledger interface.old host.old)
+        (outside_of I.state O.state H.faults H.ledger interface.new host.new)
+        (D.state diag.old) (D.state diag.new) result.code }
+    ensures asked { AsksAsReported (wineravine_engine_command (wineravine_argument_values
+        (argument_bytes_of arguments.now)))
+        (wineravine_log_name (wineravine_argument_values (argument_bytes_of arguments.now)))
+        (H.asked host.old) (H.asked host.new)
+        (H.faults host.old) (H.faults host.new) (H.ledger host.new) }
+{
+    match read_wineravine_arguments(alloc, arguments) {
+        Ok(AskedProgram::Run(request)) => {
+            let Ok(line) = not_started_line(alloc, request.engine[0].as_str()) else {
+                return refuse_for_memory(diag);
+            };
+            let failures = run_asked(rt, alloc, arguments, &request, interface, host);
+            let ending = ProgramEnding::of(failures);
+            report(ending, line.as_slice(), &mut interface.output, diag)
+        }
+        Ok(AskedProgram::Help) => show(HELP.as_bytes(), &mut interface.output, diag),
+        Ok(AskedProgram::Version) => match version_line(alloc, "wineravine") {
+            Ok(line) => show(line.as_slice(), &mut interface.output, diag),
+            Err(_) => refuse_for_memory(diag),
+        },
+        Err(WrongArguments::Words(reason)) => refuse(reason.as_str(), &mut interface.output, diag),
+        Err(WrongArguments::NoMemory) => refuse_for_memory(diag),
+    }
+}
+
+/// The program: a bridge between an interface, whose lines come from `input` and go to `output`,
+/// and the engine that the host starts; or a text that the arguments ask for. The arguments do not have
+/// the program's name. What cannot be written of a diagnostic, or of a line that the interface is to
+/// show its user, changes no status.
+pub fn wineravine_main<
+    I: Source + Send,
+    O: Sink + Send,
+    H: Host,
+    D: Sink,
+    R: Threads + Wait + Sync,
+>(
+    rt: &R,
+    alloc: Global,
+    arguments: &[Vec<u8>],
+    interface: &mut Interface<I, O>,
+    host: &mut H,
+    diag: &mut D,
+) -> Status
+    requires { HostIsUnused (H.ledger host.old) }
+    ensures does { WineravineDoes (argument_bytes_of arguments.now)
+        (outside_of I.state O.state H.faults H.ledger interface.old host.old)
+        (outside_of I.state O.state H.faults H.ledger interface.new host.new)
+        (D.state diag.old) (D.state diag.new) result.code }
+    ensures status { StatusSays (ArgumentsFitCase (argument_bytes_of arguments.now))
+        (outside_of I.state O.state H.faults H.ledger interface.old host.old)
+        (outside_of I.state O.state H.faults H.ledger interface.new host.new)
+        result.code }
+    ensures unstarted { result.code ≡ 8
+        → (I.state interface.new.input ≡ I.state interface.old.input)
+        × IsReportedTo (O.state interface.old.output) (O.state interface.new.output)
+        (not_started (engine_named (argument_bytes_of arguments.now))) }
+    ensures whole { result.code ≡ 0 → WineravineArgumentsAreTaken (argument_bytes_of arguments.now)
+        → (H.ledger host.old).sinks_report ≡ true
+        → IfSome (H.ledger host.old).says (λ bytes. BridgeRunsWhole
+        (WineravineSettingsAreAsked (wineravine_argument_values (argument_bytes_of arguments.now)))
+        (first_lines (wineravine_argument_values (argument_bytes_of arguments.now))) bytes
+        (outside_of I.state O.state H.faults H.ledger interface.old host.old)
+        (outside_of I.state O.state H.faults H.ledger interface.new host.new)) }
+    ensures asked { AsksAsReported (wineravine_engine_command (wineravine_argument_values
+        (argument_bytes_of arguments.now)))
+        (wineravine_log_name (wineravine_argument_values (argument_bytes_of arguments.now)))
+        (H.asked host.old) (H.asked host.new)
+        (H.faults host.old) (H.faults host.new) (H.ledger host.new) }
+{
+    answer(rt, alloc, arguments, interface, host, diag)
+}
