@@ -17,7 +17,7 @@ use Rattle.desk_rules.specs.Steps.{Effect, Nothing, LongLine, Accepts, Boots, Di
 use Rattle.desk_rules.specs.Fits.{IsLineEvent}
 use Rattle.adapter_core.specs.declared.ends.Ends.{Ends}
 use Rattle.adapter_core.specs.Ends.{may, ends_after, is_open}
-use Rattle.peer_words.specs.Quit.{is_quit}
+use Rattle.protocol_tokens.specs.Quit.{is_quit}
 use Rattle.cecp_lines.specs.Quit.{is_quit_message}
 use Rattle.cecp_lines.proofs.Quits.{quit_first}
 

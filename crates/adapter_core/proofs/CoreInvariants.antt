@@ -1,7 +1,7 @@
 -- The invariant of the core itself stays.
 use Rattle.std.proofs.Common.{◌≡◌, ℕ, ◌≤◌, List, [], length, Bool, true, false, cond, ◌||◌, Some, refl, sym, ap, subst, ◌∙◌, inl, arith}
 use Rattle.line_io.specs.Event.{Event}
-use Rattle.peer_words.specs.declared.kinds.GoKind.{GoKind}
+use Rattle.protocol_tokens.specs.declared.kinds.GoKind.{GoKind}
 use Rattle.cecp_lines.specs.Messages as says
 use Rattle.uci_lines.specs.Orders.{Order}
 use Rattle.clock_map.specs.Clocks.{ClocksAreShort, first_clocks}

@@ -18,7 +18,7 @@ use Rattle.search_epochs.specs.declared.words.Said.TheVariants as said
 use Rattle.uci_lines.specs.Orders as orders
 use Rattle.adapter_core.specs.declared.ends.Ends.{Ends}
 use Rattle.adapter_core.specs.Ends.{may, ends_after, is_open}
-use Rattle.peer_words.specs.Quit.{is_quit}
+use Rattle.protocol_tokens.specs.Quit.{is_quit}
 use Rattle.adapter_core.specs.Trace.{State, Step, LawfulTrace, state, effect, turn_of_event, mid, closed_after, is_gone_after, closing_step_orders}
 use Rattle.adapter_core.specs.Represents.{IsSilentToIface, IsSilentToEngine}
 use Rattle.adapter_core.proofs.Closing.{opened_later}

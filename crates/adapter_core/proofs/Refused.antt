@@ -4,8 +4,8 @@ use Rattle.std.proofs.lemmas.Bool.Decides.{nat_tests}
 use Rattle.chess_board.specs.declared.board.Move.{Move}
 use Rattle.line_io.specs.Event.{Event}
 use Rattle.line_io.specs.Event as events
-use Rattle.peer_words.specs.declared.kinds.GoKind.{GoKind}
-use Rattle.peer_words.specs.declared.kinds.GoKind.TheVariants as kinds
+use Rattle.protocol_tokens.specs.declared.kinds.GoKind.{GoKind}
+use Rattle.protocol_tokens.specs.declared.kinds.GoKind.TheVariants as kinds
 use Rattle.cecp_lines.specs.Messages.{IfaceMsg}
 use Rattle.cecp_lines.specs.Messages as says
 use Rattle.cecp_lines.specs.Reading.{message_or_fault}
@@ -35,7 +35,7 @@ use Rattle.desk_rules.specs.Steps.{Effect, Nothing, LongLine, Refuses, Names, De
 use Rattle.desk_rules.specs.Orders.{dialogue_word_of, orders_waiting, asked_by_effect}
 use Rattle.adapter_core.specs.declared.ends.Ends.{Ends}
 use Rattle.adapter_core.specs.Ends.{ends_after, is_open}
-use Rattle.peer_words.specs.Quit.{is_quit}
+use Rattle.protocol_tokens.specs.Quit.{is_quit}
 use Rattle.cecp_lines.specs.Quit.{is_quit_message}
 use Rattle.cecp_lines.proofs.Quits.{quit_first}
 use Rattle.adapter_core.specs.Trace.{State, Step, IsLawfulStep, state, trace_state_after, situation_of_state, effect, turn_of_event, mid, owed_after, closed_after, desk_of, still_held}

@@ -3,8 +3,8 @@ use Rattle.std.proofs.Common.{◌≡◌, ℕ, ◌+◌, List, [], ◌∷◌, ◌�
 use Rattle.std.proofs.lemmas.Bool.{both_ways}
 use Rattle.line_io.specs.Event.{Event}
 use Rattle.chess_board.specs.declared.board.Move.{Move}
-use Rattle.peer_words.specs.declared.kinds.GoKind.{GoKind}
-use Rattle.peer_words.specs.declared.kinds.GoKind.TheVariants as kinds
+use Rattle.protocol_tokens.specs.declared.kinds.GoKind.{GoKind}
+use Rattle.protocol_tokens.specs.declared.kinds.GoKind.TheVariants as kinds
 use Rattle.cecp_lines.specs.Messages.{IfaceMsg}
 use Rattle.cecp_lines.specs.Messages as says
 use Rattle.uci_lines.specs.Orders.{Order}

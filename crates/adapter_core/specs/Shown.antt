@@ -3,7 +3,7 @@ use Rattle.std.specs.Prelude.{◌≡◌, ◌↔◌, ◌≤◌, ℕ, List, [], �
 use Rattle.std.specs.Prelude.{Contains, Bool, true, false, Option, Some}
 use Rattle.chess_board.specs.declared.board.Move.{Move as AnyMove}
 use Rattle.chess_board.specs.Place.{legal}
-use Rattle.peer_words.specs.declared.kinds.GoKind.TheVariants as kinds
+use Rattle.protocol_tokens.specs.declared.kinds.GoKind.TheVariants as kinds
 use Rattle.line_io.specs.Event.{Event}
 use Rattle.line_io.specs.Event as events
 use Rattle.cecp_lines.specs.Replies.{Reply, Move}

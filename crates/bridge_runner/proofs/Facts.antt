@@ -7,7 +7,7 @@ use Rattle.option_map.specs.Features.{reply_lines}
 use Rattle.desk_rules.specs.Texts.{order_lines}
 use Rattle.policy_rules.specs.declared.settings.Settings.{Settings}
 use Rattle.adapter_core.specs.declared.ends.Ends.{Ends}
-use Rattle.peer_words.specs.Quit.{is_quit}
+use Rattle.protocol_tokens.specs.Quit.{is_quit}
 use Rattle.adapter_core.specs.Ends.{may, ends_after}
 use Rattle.adapter_core.specs.Trace.{Step, LawfulTrace, state, iface_text, engine_text}
 use Rattle.adapter_core.proofs.Ended.{silent_to_iface, silent_to_engine}

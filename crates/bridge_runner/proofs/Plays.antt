@@ -17,9 +17,9 @@ use Rattle.event_pipe.specs.declared.message.Peer.TheVariants as peers
 use Rattle.event_pipe.specs.Rule.{EventMayFollow}
 use Rattle.bridge_runner.specs.Texts as texts
 use Rattle.bridge_runner.proofs.Facts.{opened, open_iface, open_engine, iface_is, engine_is, may_follow}
-use Rattle.mediator.specs.Turns.{Turn, new_turn, events_of_turns, is_own_event, loss, is_loss, turns_have_loss, stands_between, TurnGave, log_of_turn}
-use Rattle.mediator.specs.Turns as turns
-use Rattle.mediator.specs.Meaning.{Allows, Opens, MediatorSteps}
+use Rattle.event_loop.specs.Turns.{Turn, new_turn, events_of_turns, is_own_event, loss, is_loss, turns_have_loss, stands_between, TurnGave, log_of_turn}
+use Rattle.event_loop.specs.Turns as turns
+use Rattle.event_loop.specs.Meaning.{Allows, Opens, MediatorSteps}
 use Rattle.bridge_runner.specs.declared.session.Session.{Session}
 use Rattle.bridge_runner.specs.Plays.{turns_of, TurnsAreLawful, session_meaning, BridgeTookStep}
 

@@ -15,14 +15,14 @@ use Rattle.child_engine.specs.declared.host.Faults.{Faults}
 use Rattle.program_lifecycle.specs.declared.failures.Failures.{Failures}
 use Rattle.program_lifecycle.specs.Early.{no_failure, only_memory}
 use Rattle.program_lifecycle.specs.Outside.{Outside, outside}
-use Rattle.mediator.specs.Turns.{Turn, given, log_of_turn}
-use Rattle.mediator.specs.Turns as turns
-use Rattle.mediator.specs.First.{first_events, ArrivedBehind}
-use Rattle.mediator.proofs.Firsts.{by_engine, by_iface, arrived_behind}
-use Rattle.mediator.specs.Mediated.{Mediated}
-use Rattle.mediator.specs.Mediated as hosts
-use Rattle.mediator.specs.Recorded.{RecordedAs}
-use Rattle.mediator.proofs.Wholes.{recorded_as, whole_as, when_whole, nothing_left}
+use Rattle.event_loop.specs.Turns.{Turn, given, log_of_turn}
+use Rattle.event_loop.specs.Turns as turns
+use Rattle.event_loop.specs.First.{first_events, ArrivedBehind}
+use Rattle.event_loop.proofs.Firsts.{by_engine, by_iface, arrived_behind}
+use Rattle.event_loop.specs.Mediated.{Mediated}
+use Rattle.event_loop.specs.Mediated as hosts
+use Rattle.event_loop.specs.Recorded.{RecordedAs}
+use Rattle.event_loop.proofs.Wholes.{recorded_as, whole_as, when_whole, nothing_left}
 use Rattle.bridge_runner.specs.declared.session.Session.{Session}
 use Rattle.bridge_runner.specs.Texts.{events_of_steps, steps_have_loss, step_texts}
 use Rattle.bridge_runner.specs.Plays.{turns_of, IsNew, session_meaning}

@@ -5,7 +5,7 @@ use Rattle.adapter_core.specs.Trace.{Step, LawfulTrace, event_of_step}
 use Rattle.program_lifecycle.specs.declared.failures.Failures.{Failures}
 use Rattle.program_lifecycle.specs.Early.{no_failure}
 use Rattle.program_lifecycle.specs.Outside.{Outside, AreReported, HostIsClosed}
-use Rattle.mediator.specs.Mediated.{Mediated}
+use Rattle.event_loop.specs.Mediated.{Mediated}
 use Rattle.bridge_runner.specs.declared.session.Session.{Session}
 use Rattle.bridge_runner.specs.Plays.{IsNew, session_meaning}
 use Rattle.bridge_runner.specs.Recorded.{BridgeRecorded, BridgeRunIsWhole}

@@ -13,8 +13,8 @@ use Rattle.adapter_core.specs.Trace.{Step, LawfulTrace, iface_text, engine_text}
 use Rattle.adapter_core.specs.Represents.{Represents}
 use Rattle.event_pipe.specs.declared.message.Peer.{Peer}
 use Rattle.event_pipe.specs.declared.message.Peer.TheVariants as peers
-use Rattle.mediator.specs.Turns.{Turn, new_turn}
-use Rattle.mediator.specs.Meaning.{MediatorMeaning}
+use Rattle.event_loop.specs.Turns.{Turn, new_turn}
+use Rattle.event_loop.specs.Meaning.{MediatorMeaning}
 use Rattle.bridge_runner.specs.declared.session.Session.{Session}
 
 -- the turns of a trace. Before the text of the first step stands the header

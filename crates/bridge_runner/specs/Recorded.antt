@@ -14,8 +14,8 @@ use Rattle.event_pipe.specs.Arrivals.{arrivals, line_limit}
 use Rattle.child_engine.specs.Hosts.{Ledger}
 use Rattle.program_lifecycle.specs.declared.failures.Failures.{Failures}
 use Rattle.program_lifecycle.specs.Outside.{Outside}
-use Rattle.mediator.specs.First.{first_events, ArrivedBehind}
-use Rattle.mediator.specs.Recorded.{RecordedAs}
+use Rattle.event_loop.specs.First.{first_events, ArrivedBehind}
+use Rattle.event_loop.specs.Recorded.{RecordedAs}
 use Rattle.bridge_runner.specs.Texts.{events_of_steps, steps_have_loss, step_texts}
 
 -- The ledger's record of a run that made this trace, if the host reports its bytes: the log is the

@@ -4,7 +4,7 @@ use Rattle.std.specs.List.{list_any}
 use Rattle.line_io.specs.Event.{Event, Open, IfaceLost, EngineLost}
 use Rattle.adapter_core.specs.Trace.{Step}
 use Rattle.event_pipe.specs.declared.message.Peer.{Peer}
-use Rattle.mediator.specs.Turns.{is_loss}
+use Rattle.event_loop.specs.Turns.{is_loss}
 
 -- the loop's own events
 abbrev pub is_own_step : Event → Bool

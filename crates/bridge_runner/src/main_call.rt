@@ -13,8 +13,8 @@ ghost use Rattle.bridge_runner.specs.Program.{RunsAsAsked, BridgeRunsWhole, prog
 use crate::running::run_bridge;
 use bridge_command_line::read_bridge_arguments;
 use child_engine::Host;
+use event_loop::RunRequest;
 use line_io::{Sink, Source, Status};
-use mediator::RunRequest;
 use program_lifecycle::{Interface, ProgramEnding, finish};
 use std::alloc::Global;
 use std::sync::Wait;

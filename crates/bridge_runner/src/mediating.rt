@@ -8,9 +8,9 @@ ghost use Rattle.bridge_runner.specs.Plays.{IsNew, BridgeTookStep};
 
 use crate::Session;
 use adapter_core::Core;
+use event_loop::Mediator;
 use event_pipe::Peer;
 use line_io::{Event, NoMemory, Out};
-use mediator::Mediator;
 use policy_rules::Settings;
 use script_lines::{next_number, put_numbered_step, write_header};
 use std::alloc::Global;

@@ -4,13 +4,13 @@ ghost use Rattle.policy_rules.specs.Policy.{IsProper};
 ghost use Rattle.child_engine.specs.Hosts.{HostIsUnused};
 ghost use Rattle.program_lifecycle.specs.Asked.{AsksFor};
 ghost use Rattle.program_lifecycle.specs.Outside.{outside_of};
-ghost use Rattle.mediator.specs.First.{AreOpening};
+ghost use Rattle.event_loop.specs.First.{AreOpening};
 ghost use Rattle.bridge_runner.specs.Program.{BridgeRuns};
 
 use crate::bridge_run;
 use child_engine::Host;
+use event_loop::RunRequest;
 use line_io::{Sink, Source};
-use mediator::RunRequest;
 use policy_rules::Settings;
 use program_lifecycle::{Failures, Interface};
 use std::alloc::Global;

@@ -1,13 +1,13 @@
 // The output to the log and to both sides if the engine is lost.
 ghost use Rattle.std.specs.Prelude.{◌≡◌, ◌≤◌, []};
 ghost use Rattle.event_pipe.specs.Ends.{IsSender, IsFreshReceiver, events_sent};
-ghost use Rattle.mediator.specs.declared.mediator.TheConstants.{TURN_ROOM};
+ghost use Rattle.event_loop.specs.declared.mediator.TheConstants.{TURN_ROOM};
 
 use crate::expected::expect_bytes;
 use crate::fresh_session::make_session;
+use event_loop::{Mediator, TURN_ROOM, Turns, mediate};
 use event_pipe::{Pipe, PipeSend, read_pipe};
 use line_io::{MemSink, MemSource, Out};
-use mediator::{Mediator, TURN_ROOM, Turns, mediate};
 use program_lifecycle::LoopEnd;
 use std::alloc::Global;
 use std::process::Abort;

@@ -8,7 +8,7 @@ use Rattle.driver_state_machine.specs.declared.driver_state.DriverCall.TheVarian
 use Rattle.driver_state_machine.specs.DriverState.{driver_turn_of, is_free, is_free_at}
 use Rattle.driver_state_machine.specs.declared.order_words.OrderWord.{OrderWord}
 use Rattle.driver_state_machine.specs.declared.order_words.OrderWord.TheVariants as orders
-use Rattle.peer_words.specs.Tokens.{first_token}
+use Rattle.protocol_tokens.specs.Tokens.{first_token}
 use Rattle.driver_state_machine.specs.Words.{order_word_in as order_in}
 use Rattle.driver_state_machine.specs.Says.{EngineMessageSeen, Move as SaysMove, Over, Pong, Report, Feature, says_in}
 use Rattle.driver_state_machine.specs.Says as says

@@ -2,7 +2,7 @@
 use Rattle.std.proofs.Common.{◌≡◌, ◌∙◌, Bool, true, false, cond, List, [], ◌∷◌, ◌++◌, Option, Some, refl, sym, ap, subst, ℕ}
 use Rattle.std.specs.Prelude.{codes}
 use Rattle.line_io.specs.Event.{Event, Iface, IfaceEnd, Engine, EngineEnd}
-use Rattle.peer_words.specs.Tokens.{first_token}
+use Rattle.protocol_tokens.specs.Tokens.{first_token}
 use Rattle.driver_state_machine.specs.declared.words.OpenSearch.{OpenSearch}
 use Rattle.driver_state_machine.specs.declared.driver_state.DriverStage.{DriverStage}
 use Rattle.driver_state_machine.specs.declared.driver_state.DriverStage.TheVariants as stages

@@ -3,7 +3,7 @@ use Rattle.std.proofs.Common.{◌≡◌, ℕ, Bool, true, false, cond, List, [],
 use Rattle.std.specs.Prelude.{codes}
 use Rattle.std.specs.List.{AllByRecursion}
 use Rattle.line_io.specs.Event.{Event, Iface, IfaceEnd, Engine, EngineEnd}
-use Rattle.peer_words.specs.Tokens.{first_token}
+use Rattle.protocol_tokens.specs.Tokens.{first_token}
 use Rattle.driver_state_machine.specs.declared.driver_state.DriverStage.{DriverStage}
 use Rattle.driver_state_machine.specs.declared.driver_state.DriverStage.TheVariants as stages
 use Rattle.driver_state_machine.specs.declared.driver_state.DriverCall.{DriverCall}

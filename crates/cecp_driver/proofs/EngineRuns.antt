@@ -12,7 +12,7 @@ use Rattle.driver_state_machine.specs.declared.driver_state.DriverStage.TheVaria
 use Rattle.driver_state_machine.specs.declared.driver_state.DriverCall.{DriverCall}
 use Rattle.driver_state_machine.specs.declared.driver_state.DriverCall.TheVariants as calls
 use Rattle.driver_state_machine.specs.DriverState.{driver_turn_of, is_free, is_thinking}
-use Rattle.peer_words.specs.Tokens.{first_token}
+use Rattle.protocol_tokens.specs.Tokens.{first_token}
 use Rattle.driver_state_machine.specs.declared.order_words.OrderWord.{OrderWord}
 use Rattle.driver_state_machine.specs.declared.order_words.OrderWord.TheVariants as orders
 use Rattle.driver_state_machine.specs.Words.{order_word_in as order_in}

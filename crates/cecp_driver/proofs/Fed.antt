@@ -6,8 +6,8 @@ use Rattle.std.proofs.lemmas.List.{length-drop}
 use Rattle.std.proofs.lemmas.List.Folds.{length-prefix_len}
 use Rattle.line_io.specs.Event.{has_feed}
 use Rattle.line_io.specs.Lines.{line_feed}
-use Rattle.peer_words.specs.Tokens.{first_token, is_blank, is_white, rest_after_token, token_end, tokens, trim_left, trim_right, trimmed}
-use Rattle.peer_words.proofs.Lengths.{rest_length, trim_left_length}
+use Rattle.protocol_tokens.specs.Tokens.{first_token, is_blank, is_white, rest_after_token, token_end, tokens, trim_left, trim_right, trimmed}
+use Rattle.protocol_tokens.proofs.Lengths.{rest_length, trim_left_length}
 use Rattle.driver_state_machine.specs.Numbers.{next_number}
 use Rattle.driver_state_machine.specs.Says.{EngineMessageSeen, Feature, engine_gives_up, or_other, pong_by, pong_number_in, report_by, report_fourth, report_in, report_second, report_third, says_in}
 

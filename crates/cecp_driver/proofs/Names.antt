@@ -2,7 +2,7 @@
 use Rattle.std.proofs.Common.{◌≡◌, ℕ, zero, suc, ◌+◌, Bool, true, false, cond, not, ◌&&◌, ◌||◌, eqb, ltb, arith, List, [], ◌∷◌, length, take, drop, Option, Some, None, IfSome, refl, sym, ap, ◌∙◌, add_comm, add-one}
 use Rattle.std.proofs.lemmas.Bool.Decides.{nat_tests}
 use Rattle.std.specs.List.{AllByRecursion, before_first, after_first, list_all, position_or_len}
-use Rattle.peer_words.specs.Tokens.{is_token, is_white, token_end, trim_left}
+use Rattle.protocol_tokens.specs.Tokens.{is_token, is_white, token_end, trim_left}
 use Rattle.cecp_driver.specs.Said.{IsName}
 use Rattle.cecp_driver.proofs.Fed.{IsWhole, dropped, later, taken, trimmed_first}
 use Rattle.driver_state_machine.specs.Parts.{CutFeature, Feature, cut_by, cut_of, ends_name, cut_with_feature, is_quote, onto, feature_parts, parts_from, parts_within, cut_without_feature, feature_value_cut}

@@ -9,8 +9,8 @@ use Rattle.chess_board.specs.Position.{Position}
 use Rattle.chess_board.specs.Text.{ComesBefore, text_of_move}
 use Rattle.game_record.specs.Game.{current_position}
 use Rattle.line_io.specs.Event.{Event, Iface, IfaceEnd, Engine, EngineEnd}
-use Rattle.peer_words.specs.Tokens.{first_token}
-use Rattle.peer_words.specs.declared.kinds.GoKind.{GoKind}
+use Rattle.protocol_tokens.specs.Tokens.{first_token}
+use Rattle.protocol_tokens.specs.declared.kinds.GoKind.{GoKind}
 use Rattle.driver_state_machine.specs.declared.words.GoClocks.{GoClocks}
 use Rattle.driver_state_machine.specs.declared.driver_state.Reach.{Reach}
 use Rattle.driver_state_machine.specs.declared.driver_state.WantedSearch.{WantedSearch}

@@ -11,7 +11,7 @@ use Rattle.game_record.specs.Game.{Ply, Game, AreLegal, game_from, now_after, cu
 use Rattle.game_record.specs.Game as games
 use Rattle.game_record.specs.Line.{is_standard}
 use Rattle.game_record.proofs.Replays.{now_after-append}
-use Rattle.peer_words.specs.declared.kinds.GoKind.{GoKind}
+use Rattle.protocol_tokens.specs.declared.kinds.GoKind.{GoKind}
 use Rattle.driver_state_machine.specs.declared.words.GoClocks.{GoClocks}
 use Rattle.driver_state_machine.specs.declared.words.DriverAction.{DriverAction}
 use Rattle.driver_state_machine.specs.declared.words.ToEngine.{ToEngine}

@@ -16,7 +16,7 @@ use Rattle.chess_board.proofs.Start.{start-is}
 use Rattle.game_record.specs.Game.{Ply, Game, AreLegal, game_from, current_position, ply_of, with_ply}
 use Rattle.game_record.proofs.Replays.{legal-append}
 use Rattle.game_record.specs.Line.{is_standard}
-use Rattle.uci_as_engine.specs.Lines.{Line as SpokenLine, position_line_in}
+use Rattle.uci_interface_lines.specs.Lines.{Line as SpokenLine, position_line_in}
 use Rattle.driver_state_machine.specs.declared.words.GoClocks.{GoClocks}
 use Rattle.driver_state_machine.specs.declared.words.ToEngine.{ToEngine}
 use Rattle.driver_state_machine.specs.declared.words.ToEngine.TheVariants as downs

@@ -7,7 +7,7 @@ use Rattle.chess_board.specs.Position.{Position}
 use Rattle.chess_board.proofs.LegalMoves.{is_legal}
 use Rattle.game_record.specs.Game.{Game, current_position}
 use Rattle.line_io.specs.Event.{Event, Iface, IfaceEnd, Engine, EngineEnd}
-use Rattle.peer_words.specs.Tokens.{first_token}
+use Rattle.protocol_tokens.specs.Tokens.{first_token}
 use Rattle.driver_state_machine.specs.declared.words.OpenSearch.{OpenSearch}
 use Rattle.driver_state_machine.specs.declared.words.AfterAnalysis.TheVariants.{Answer}
 use Rattle.driver_state_machine.specs.declared.words.Phase.{Phase}

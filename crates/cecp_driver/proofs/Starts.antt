@@ -15,8 +15,8 @@ use Rattle.fen_text.specs.declared.fault.FenFault.{FenFault}
 use Rattle.fen_text.specs.Fen.{or_fault, position_of_fields, position_from_fields}
 use Rattle.fen_text.specs.Fields.{is_passed_square, en_passant_of, rights_of, side_of}
 use Rattle.fen_text.specs.Squares.{board_in_field, exactly, pieces_if_fitting, pieces_if_both, pieces_on_ranks, pieces_in_field, rank_in_text, ranks_in, squares_in}
-use Rattle.uci_as_engine.specs.Lines.{Line, before_moves, behind_moves, if_right, position_after_texts, line_from, line_in, position_line_in, line_to, standard_if_alone, start_position_in}
-use Rattle.peer_words.specs.Tokens.{tokens}
+use Rattle.uci_interface_lines.specs.Lines.{Line, before_moves, behind_moves, if_right, position_after_texts, line_from, line_in, position_line_in, line_to, standard_if_alone, start_position_in}
+use Rattle.protocol_tokens.specs.Tokens.{tokens}
 
 -- A BOARD HAS 64 SQUARES
 

@@ -1,7 +1,7 @@
 -- The engine's behaviour while a search is open.
 use Rattle.std.specs.Prelude.{ℕ, ◌≡◌, ◌+◌, ◌≤◌, ◌||◌, true, List, [], ◌∷◌, Some}
 use Rattle.line_io.specs.Event.{Event, Iface, IfaceEnd, Engine, EngineEnd}
-use Rattle.peer_words.specs.Tokens.{first_token}
+use Rattle.protocol_tokens.specs.Tokens.{first_token}
 use Rattle.driver_state_machine.specs.declared.words.OpenSearch.{OpenSearch}
 use Rattle.driver_state_machine.specs.declared.driver_state.DriverCall.{DriverCall}
 use Rattle.driver_state_machine.specs.declared.driver_state.DriverCall.TheVariants as calls

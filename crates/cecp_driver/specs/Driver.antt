@@ -3,11 +3,11 @@ use Rattle.std.specs.Prelude.{ℕ, ℤ, ◌≡◌, ◌+◌, ◌≤◌, nat_le, B
 use Rattle.std.specs.Prelude.{List, [], ◌++◌, length, is_some, Option, Some, None, IfSome}
 use Rattle.std.specs.Option.{unwrap_or}
 use Rattle.line_io.specs.Out.{Text, empty, with}
-use Rattle.peer_words.specs.Tokens.{tokens, first_token}
+use Rattle.protocol_tokens.specs.Tokens.{tokens, first_token}
 use Rattle.chess_board.specs.declared.board.Move.{Move}
 use Rattle.chess_board.specs.Play.{start_position}
 use Rattle.game_record.specs.Game.{Game, game_from, current_position, ply_of}
-use Rattle.uci_as_engine.specs.Kinds.{kind_asked}
+use Rattle.uci_interface_lines.specs.Kinds.{kind_asked}
 use Rattle.driver_state_machine.specs.declared.words.Thought.{Thought}
 use Rattle.driver_state_machine.specs.declared.driver_state.DriverStage.{DriverStage}
 use Rattle.driver_state_machine.specs.declared.driver_state.DriverStage.TheVariants as stages

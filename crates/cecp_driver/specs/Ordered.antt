@@ -5,7 +5,7 @@ use Rattle.chess_board.specs.declared.board.Move.{Move}
 use Rattle.chess_board.specs.Place.{legal}
 use Rattle.chess_board.specs.Spelling.{move_spelled_by}
 use Rattle.game_record.specs.Game.{Game, game_from, current_position, ply_of, with_ply}
-use Rattle.uci_as_engine.specs.Lines.{Line, position_line_in}
+use Rattle.uci_interface_lines.specs.Lines.{Line, position_line_in}
 use Rattle.game_record.specs.Keeps.{most_plies}
 
 -- a move is legal, and the game has room for it

@@ -4,7 +4,7 @@ use Rattle.std.specs.Prelude.{Bool, true, false, ◌&&◌, if◌then◌else◌, 
 use Rattle.std.specs.List.{AllByRecursion}
 use Rattle.line_io.specs.Event.{Event, Iface, Engine, EngineEnd, has_feed}
 use Rattle.line_io.specs.Lines.{line_feed}
-use Rattle.peer_words.specs.Tokens.{first_token}
+use Rattle.protocol_tokens.specs.Tokens.{first_token}
 use Rattle.chess_board.specs.declared.board.Move.{Move}
 use Rattle.chess_board.specs.Position.{Position}
 use Rattle.chess_board.specs.Laws.{IsLegal}
@@ -21,8 +21,8 @@ use Rattle.driver_state_machine.specs.Moves.{NamesNone}
 use Rattle.driver_state_machine.specs.Lines.{bestmove_line_text, info_text, id_text, up_line_with_feed}
 use Rattle.cecp_driver.specs.declared.driver.DriverParts.{DriverParts}
 use Rattle.cecp_driver.specs.declared.driver.TheConstants.{LINE_LIMIT}
-use Rattle.peer_words.specs.declared.kinds.GoKind.TheVariants as kinds
-use Rattle.uci_as_engine.specs.Kinds.{kind_asked}
+use Rattle.protocol_tokens.specs.declared.kinds.GoKind.TheVariants as kinds
+use Rattle.uci_interface_lines.specs.Kinds.{kind_asked}
 use Rattle.cecp_driver.specs.Driver.{driver_without_lines, opening_driver, reach_of}
 use Rattle.cecp_driver.specs.DriverInvariant.{IsMoveless}
 use Rattle.cecp_driver.specs.Script.{DriverTakesAll, script_text}

@@ -5,7 +5,7 @@ use Rattle.chess_board.specs.Play.{IsPosition}
 use Rattle.chess_board.specs.Text.{IsOfficer}
 use Rattle.game_record.specs.Game.{Ply, ply_of}
 use Rattle.line_io.specs.Event.{has_feed}
-use Rattle.peer_words.specs.Tokens.{is_token}
+use Rattle.protocol_tokens.specs.Tokens.{is_token}
 use Rattle.driver_state_machine.specs.Lines.{DownLine, SetBoard, Played, St, Level}
 use Rattle.driver_state_machine.specs.Lines.{Time, Otim, Sd, Ping, Accepted, Rejected}
 use Rattle.cecp_driver.specs.declared.driver.TheConstants.{LINE_LIMIT}

@@ -4,7 +4,7 @@ ghost use Rattle.std.specs.Borrow.{sem};
 ghost use Rattle.line_io.specs.Out.{empty, with};
 ghost use Rattle.driver_state_machine.specs.DriverState.{driver_turn_of, is_free};
 ghost use Rattle.driver_state_machine.specs.Says.{engine_message_seen, Report, Feature};
-ghost use Rattle.peer_words.specs.Tokens.{tokens};
+ghost use Rattle.protocol_tokens.specs.Tokens.{tokens};
 ghost use Rattle.cecp_driver.specs.Driver.{driver_without_lines, driver_after_turn, driver_after_call, opening_driver, TurnCanBeWritten, CanAct, reach_of, Wants, driver_after_position, GoIsAsked, EngineLineIsHeard, driver_after_features, HeardBy, IsPlain};
 ghost use Rattle.cecp_driver.specs.declared.driver.TheConstants.{LINE_LIMIT, UP_ROOM, DOWN_ROOM};
 
@@ -20,7 +20,7 @@ use game_record::Game;
 use line_io::{NoMemory, Out, PEER_LINE, SCRIPT_LINE};
 use std::alloc::Global;
 use std::marker::Model;
-use uci_as_engine::go_kind;
+use uci_interface_lines::go_kind;
 
 /// The most bytes of a line.
 pub const LINE_LIMIT: usize = PEER_LINE;

@@ -2,7 +2,7 @@
 ghost use Rattle.std.specs.Prelude.{◌≡◌, Some, None, is_some};
 ghost use Rattle.std.specs.Bool.{OnTrue, OnFalse};
 ghost use Rattle.std.specs.Option.{unwrap_or};
-ghost use Rattle.peer_words.specs.Tokens.{tokens};
+ghost use Rattle.protocol_tokens.specs.Tokens.{tokens};
 ghost use Rattle.chess_board.specs.Play.{start_position};
 ghost use Rattle.chess_board.specs.Spelling.{move_spelled_by};
 ghost use Rattle.game_record.specs.Game.{game_from};
@@ -10,8 +10,8 @@ ghost use Rattle.cecp_driver.specs.Ordered.{push_one, game_after_texts, game_ord
 
 use chess_board::{Position, read_move};
 use game_record::Game;
-use peer_words::next_token;
-use uci_as_engine::spoken;
+use protocol_tokens::next_token;
+use uci_interface_lines::spoken;
 
 /// Plays the move that a text names. False if it may not be played.
 fn push_text(text: &[u8], game: &mut Game) -> bool

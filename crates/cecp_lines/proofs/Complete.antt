@@ -5,8 +5,8 @@ use Rattle.std.specs.Option.{option_map, option_and_then, ok_or}
 use Rattle.std.proofs.lemmas.Bool.Decides.{nat_tests}
 use Rattle.chess_board.specs.declared.board.Move.{Move}
 use Rattle.chess_board.specs.Text.{SpellsMove as MoveSpells}
-use Rattle.peer_words.specs.Tokens.{first_token, rest_after_token, trimmed, tokens}
-use Rattle.peer_words.specs.Numbers.{digits, number, centis, seconds}
+use Rattle.protocol_tokens.specs.Tokens.{first_token, rest_after_token, trimmed, tokens}
+use Rattle.protocol_tokens.specs.Numbers.{digits, number, centis, seconds}
 use Rattle.cecp_lines.specs.declared.iface.IfaceFault.{IfaceFault}
 use Rattle.cecp_lines.specs.declared.iface.IfaceFault.TheVariants.{UnknownCommand, BadArgument}
 use Rattle.cecp_lines.specs.declared.words.Command.{Command}

@@ -1,8 +1,8 @@
 -- A line's tokens against its first token and the rest.
 use Rattle.std.proofs.Common.{◌≡◌, ℕ, List, [], ◌∷◌, Bool, true, false, cond, Some, None, drop, refl, sym, ap, ◌∙◌}
-use Rattle.peer_words.specs.Tokens.{first_token, rest_after_token, tokens, trim_left, token_end}
-use Rattle.peer_words.proofs.Trims.{trim_left_trimmed}
-use Rattle.peer_words.proofs.TokenLists.{tokens_some, tokens_none, no_first}
+use Rattle.protocol_tokens.specs.Tokens.{first_token, rest_after_token, tokens, trim_left, token_end}
+use Rattle.protocol_tokens.proofs.Trims.{trim_left_trimmed}
+use Rattle.protocol_tokens.proofs.TokenLists.{tokens_some, tokens_none, no_first}
 use Rattle.cecp_lines.specs.Reading.{is_empty_text, only_token}
 
 -- a line with a first token

@@ -4,12 +4,12 @@ use Rattle.std.specs.Prelude.{codes}
 use Rattle.std.specs.Str.{bytes_eq}
 use Rattle.std.specs.Cmp.{both_ways}
 use Rattle.std.proofs.lemmas.Slice.Eq.{bytes_eq-Decides}
-use Rattle.peer_words.specs.Tokens.{first_token}
+use Rattle.protocol_tokens.specs.Tokens.{first_token}
 use Rattle.cecp_lines.specs.declared.iface.IfaceFault.{IfaceFault}
 use Rattle.cecp_lines.specs.Messages as says
 use Rattle.cecp_lines.specs.Messages.{IfaceMsg}
 use Rattle.cecp_lines.specs.Reading.{message_or_fault}
-use Rattle.peer_words.specs.Quit.{is_quit}
+use Rattle.protocol_tokens.specs.Quit.{is_quit}
 use Rattle.cecp_lines.specs.Quit.{is_quit_message}
 use Rattle.cecp_lines.proofs.Spellings.{reading_spells}
 use Rattle.cecp_lines.proofs.Complete.{spells_reading}

@@ -5,9 +5,9 @@ use Rattle.std.specs.Option.{option_map, option_and_then, ok_or}
 use Rattle.std.proofs.lemmas.Bool.Decides.{nat_tests}
 use Rattle.std.proofs.lemmas.Option.{cond_some}
 use Rattle.chess_board.specs.declared.board.Move.{Move}
-use Rattle.peer_words.specs.Tokens.{first_token, rest_after_token, trimmed, tokens}
-use Rattle.peer_words.specs.Numbers.{digits, number, centis, seconds}
-use Rattle.peer_words.proofs.TokenLists.{tokens_none}
+use Rattle.protocol_tokens.specs.Tokens.{first_token, rest_after_token, trimmed, tokens}
+use Rattle.protocol_tokens.specs.Numbers.{digits, number, centis, seconds}
+use Rattle.protocol_tokens.proofs.TokenLists.{tokens_none}
 use Rattle.cecp_lines.specs.declared.iface.IfaceFault.TheVariants.{UnknownCommand, BadArgument}
 use Rattle.cecp_lines.specs.declared.words.Command.{Command}
 use Rattle.cecp_lines.specs.declared.words.Command.TheVariants.{Ignored, Bare, With}

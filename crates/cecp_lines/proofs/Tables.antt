@@ -8,7 +8,7 @@ use Rattle.std.proofs.lemmas.Slice.Eq.{bytes_eq-Decides}
 use Rattle.chess_board.specs.declared.board.Move.{Move}
 use Rattle.chess_board.specs.Board.{rank_of_square}
 use Rattle.chess_board.specs.Text.{SpellsMove as MoveSpells}
-use Rattle.peer_words.specs.Tokens.{first_token}
+use Rattle.protocol_tokens.specs.Tokens.{first_token}
 use Rattle.cecp_lines.specs.declared.words.Command.{Command}
 use Rattle.cecp_lines.specs.declared.words.Command.TheVariants.{Ignored, Bare, With}
 use Rattle.cecp_lines.specs.declared.words.Verb.{Verb}

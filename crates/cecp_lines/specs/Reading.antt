@@ -6,8 +6,8 @@ use Rattle.std.specs.Option.{option_map, option_and_then, ok_or}
 use Rattle.std.specs.Str.{bytes_eq}
 use Rattle.chess_board.specs.declared.board.Move.{Move}
 use Rattle.chess_board.specs.Text.{SpellsMove as MoveSpells}
-use Rattle.peer_words.specs.Tokens.{first_token, rest_after_token, trimmed, tokens}
-use Rattle.peer_words.specs.Numbers.{digits, number, centis, seconds}
+use Rattle.protocol_tokens.specs.Tokens.{first_token, rest_after_token, trimmed, tokens}
+use Rattle.protocol_tokens.specs.Numbers.{digits, number, centis, seconds}
 use Rattle.cecp_lines.specs.declared.iface.IfaceFault.{IfaceFault}
 use Rattle.cecp_lines.specs.declared.iface.IfaceFault.TheVariants.{UnknownCommand, BadArgument}
 use Rattle.cecp_lines.specs.declared.words.Command.{Command}
@@ -20,8 +20,8 @@ use Rattle.cecp_lines.specs.Messages as says
 use Rattle.cecp_lines.specs.Messages.{IfaceMsg}
 use Rattle.chess_board.specs.Spelling.{move_spelled_by}
 use Rattle.cecp_lines.specs.Words.{is_ignored, iface_command_of}
-use Rattle.peer_words.specs.Bytes.{colon, equals}
-use Rattle.peer_words.specs.declared.numbers.TheConstants.{MINUTE, SECOND}
+use Rattle.protocol_tokens.specs.Bytes.{colon, equals}
+use Rattle.protocol_tokens.specs.declared.numbers.TheConstants.{MINUTE, SECOND}
 
 abbrev pub is_empty_text : List ℕ → Bool
 is_empty_text text = bytes_eq text []

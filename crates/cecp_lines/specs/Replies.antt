@@ -9,7 +9,7 @@ use mir.Syntax.{w64}
 use Rattle.std.specs.List.{list_all, join_with_byte, AllByRecursion}
 use Rattle.chess_board.specs.declared.board.Move.{Move as AnyMove}
 use Rattle.chess_board.specs.Text.{text_of_move, IsOfficer}
-use Rattle.peer_words.specs.Tokens.{is_white, trimmed}
+use Rattle.protocol_tokens.specs.Tokens.{is_white, trimmed}
 use Rattle.cecp_lines.specs.declared.reply.Reason.{Reason}
 use Rattle.cecp_lines.specs.declared.reply.Reason.TheVariants as reasons
 use Rattle.cecp_lines.specs.declared.reply.UserError.{UserError}
@@ -21,7 +21,7 @@ use Rattle.cecp_lines.specs.declared.reply.Spelling.{Spelling}
 use Rattle.cecp_lines.specs.declared.reply.Spelling.TheVariants as spellings
 use Rattle.cecp_lines.specs.declared.reply.Reply.{Reply as CodeReply}
 use Rattle.cecp_lines.specs.declared.reply.Reply.TheVariants as replies
-use Rattle.peer_words.specs.Bytes.{blank, left_parenthesis, right_parenthesis, equals}
+use Rattle.protocol_tokens.specs.Bytes.{blank, left_parenthesis, right_parenthesis, equals}
 
 pub data Reply : Type 0 where
   Feature : (name value : List ℕ) → Reply

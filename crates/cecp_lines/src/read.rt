@@ -8,7 +8,7 @@ ghost use Rattle.cecp_lines.specs.Reading.{message_or_fault, SpellsIfaceMsg, IsU
 use crate::iface::{IfaceFault, IfaceMsg};
 use crate::words::{BareWord, Command, Verb, command_named};
 use chess_board::read_move;
-use peer_words::{
+use protocol_tokens::{
     MINUTE, SECOND, read_centis, read_digits, read_number, read_seconds, split_token, trim,
 };
 
@@ -38,7 +38,7 @@ fn read_lone_seconds(text: &[u8]) -> Option<u64>
     read_seconds(lone_token(text)?)
 }
 
-ghost use Rattle.peer_words.specs.Numbers.{digits, number, centis, seconds};
+ghost use Rattle.protocol_tokens.specs.Numbers.{digits, number, centis, seconds};
 
 fn read_protover(text: &[u8]) -> Option<IfaceMsg<'_>>
     ensures { option_map message_of result ≡ protover text.now }

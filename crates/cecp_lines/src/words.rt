@@ -2,7 +2,7 @@
 ghost use Rattle.std.specs.Prelude.{◌≡◌};
 ghost use Rattle.cecp_lines.specs.Words.{iface_command_of};
 
-use peer_words::named;
+use protocol_tokens::named;
 
 /// The meaning of a command word.
 #[derive(Clone, Copy)]

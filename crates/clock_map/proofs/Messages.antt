@@ -12,7 +12,7 @@ use Rattle.cecp_lines.specs.Messages.{IfaceMsg, message_of}
 use Rattle.cecp_lines.specs.Reading.{CanBeRead}
 use Rattle.clock_map.specs.declared.clocks.Clocks.{Clocks}
 use Rattle.clock_map.specs.Clocks.{ClocksAreShort, HasTenDigits, IsShortLimit, after_message, at_least_one, of_centis, StayShort}
-use Rattle.peer_words.proofs.Sizes.{digits_small, seconds_small, centis_small}
+use Rattle.protocol_tokens.proofs.Sizes.{digits_small, seconds_small, centis_small}
 use Rattle.clock_map.proofs.Numbers.{base_small}
 
 max_small : (n : ℕ) → n < 10 ^ 10 → max n 1 < 10 ^ 10

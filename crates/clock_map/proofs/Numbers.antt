@@ -1,8 +1,8 @@
 -- The bound of the base of a time control.
 use Rattle.std.proofs.Common.{◌≡◌, ℕ, ◌+◌, ◌*◌, ◌^◌, ◌<◌, List, Bool, true, false, cond, leb, take, drop, position, Option, Some, None, refl, arith}
 use Rattle.std.specs.Option.{option_map}
-use Rattle.peer_words.specs.Numbers.{digits}
-use Rattle.peer_words.proofs.Sizes.{digits_small}
+use Rattle.protocol_tokens.specs.Numbers.{digits}
+use Rattle.protocol_tokens.proofs.Sizes.{digits_small}
 use Rattle.cecp_lines.specs.Reading.{base_time, base_at, minutes_seconds, is_colon}
 
 whole_minutes : (d : Option ℕ) (ms : ℕ) → ((n : ℕ) → d ≡ Some n → n < 10 ^ 4) → option_map (λ m. m * 60000) d ≡ Some ms → ms < 10 ^ 10

@@ -13,7 +13,7 @@ use crate::SearchRequest;
 use cecp_lines::IfaceMsg;
 use chess_board::Side;
 use line_io::Out;
-use peer_words::{GoKind, MINUTE};
+use protocol_tokens::{GoKind, MINUTE};
 use uci_lines::{GoControl, Order, write_order};
 
 /// In milliseconds.

@@ -1,7 +1,7 @@
 // What a search is made from.
 use chess_board::Side;
-use peer_words::GoKind;
 use policy_rules::Settings;
+use protocol_tokens::GoKind;
 
 /// What a `go` order is made from, besides the clocks.
 #[derive(Clone, Copy)]

@@ -7,8 +7,8 @@ use Rattle.std.specs.List.{AllByRecursion}
 use Rattle.std.specs.Option.{option_to_list}
 use Rattle.std.proofs.lemmas.List.{take-append-drop, length-drop}
 use Rattle.line_io.specs.Event.{is_line}
-use Rattle.peer_words.specs.Tokens.{trimmed, rest_after_token}
-use Rattle.peer_words.proofs.Lengths.{trimmed_length, rest_length}
+use Rattle.protocol_tokens.specs.Tokens.{trimmed, rest_after_token}
+use Rattle.protocol_tokens.proofs.Lengths.{trimmed_length, rest_length}
 use Rattle.cecp_lines.specs.Messages.{IfaceMsg}
 use Rattle.cecp_lines.specs.Messages as says
 use Rattle.cecp_lines.specs.declared.iface.IfaceFault.{IfaceFault}

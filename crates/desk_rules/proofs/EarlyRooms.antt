@@ -1,7 +1,7 @@
 -- The lengths of the refusals of early lines.
 use Rattle.std.proofs.Common.{◌≡◌, ℕ, ◌+◌, ◌*◌, ◌≤◌, List, [], ◌∷◌, ◌++◌, length, codes, true, Result, Ok, Err, Option, ap, arith, length-append}
-use Rattle.peer_words.specs.Tokens.{trimmed}
-use Rattle.peer_words.proofs.Lengths.{trimmed_length}
+use Rattle.protocol_tokens.specs.Tokens.{trimmed}
+use Rattle.protocol_tokens.proofs.Lengths.{trimmed_length}
 use Rattle.cecp_lines.specs.Replies.{reply_text}
 use Rattle.cecp_lines.specs.Replies as cecp
 use Rattle.cecp_lines.specs.declared.reply.Reason.TheVariants as reasons

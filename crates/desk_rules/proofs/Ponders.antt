@@ -3,8 +3,8 @@ use Rattle.std.proofs.Common.{Option, Some, None}
 use Rattle.std.specs.Prelude.{IfSome}
 use Rattle.chess_board.specs.declared.board.Move.{Move}
 use Rattle.chess_board.proofs.LegalMoves.{legal_is}
-use Rattle.peer_words.specs.declared.kinds.GoKind.{GoKind}
-use Rattle.peer_words.specs.declared.kinds.GoKind.TheVariants as kinds
+use Rattle.protocol_tokens.specs.declared.kinds.GoKind.{GoKind}
+use Rattle.protocol_tokens.specs.declared.kinds.GoKind.TheVariants as kinds
 use Rattle.game_record.specs.Game.{Game, ply_of, current_position, IsPlayablePly}
 use Rattle.think_text.specs.Line.{IsPlayableAsHint as CanBePlayed}
 use Rattle.desk_rules.specs.Replies.{named_hint}

@@ -8,7 +8,7 @@ use Rattle.chess_board.specs.Board.{same_side}
 use Rattle.uci_lines.specs.Orders.{Order}
 use Rattle.game_record.specs.Game.{current_position}
 use Rattle.game_record.specs.Ending.{has_legal}
-use Rattle.peer_words.specs.declared.kinds.GoKind.{GoKind}
+use Rattle.protocol_tokens.specs.declared.kinds.GoKind.{GoKind}
 use Rattle.cecp_lines.specs.Messages.{IfaceMsg}
 use Rattle.cecp_lines.specs.Messages as says
 use Rattle.option_map.specs.Shown.{check_named}

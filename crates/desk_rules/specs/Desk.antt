@@ -7,7 +7,7 @@ use Rattle.chess_board.specs.declared.board.Side.{Side}
 use Rattle.chess_board.specs.declared.board.Side.TheVariants.{White, Black}
 use Rattle.chess_board.specs.Board.{same_side}
 use Rattle.chess_board.specs.Play.{start_position}
-use Rattle.peer_words.specs.declared.kinds.GoKind.{GoKind}
+use Rattle.protocol_tokens.specs.declared.kinds.GoKind.{GoKind}
 use Rattle.game_record.specs.declared.game.TheConstants.{MOST_PLIES}
 use Rattle.game_record.specs.declared.ending.GameEnd.{GameEnd}
 use Rattle.game_record.specs.declared.ending.GameEnd.TheVariants as ends

@@ -5,8 +5,8 @@ use Rattle.std.specs.Option.{option_to_list, option_map}
 use Rattle.std.specs.List.{AllByRecursion, flat_map, join_with_byte}
 use Rattle.chess_board.specs.declared.board.Move.{Move}
 use Rattle.chess_board.specs.Position.{Position}
-use Rattle.peer_words.specs.declared.kinds.GoKind.{GoKind}
-use Rattle.peer_words.specs.declared.kinds.GoKind.TheVariants as kinds
+use Rattle.protocol_tokens.specs.declared.kinds.GoKind.{GoKind}
+use Rattle.protocol_tokens.specs.declared.kinds.GoKind.TheVariants as kinds
 use Rattle.fen_text.specs.Written.{position_fen}
 use Rattle.uci_lines.specs.declared.orders.GoControl.{GoControl}
 use Rattle.uci_lines.specs.declared.orders.GoControl.TheVariants.{Infinite}
@@ -34,7 +34,7 @@ use Rattle.desk_rules.specs.Desk.{plies, game_played, ponder_name, analyse_name}
 use Rattle.option_map.specs.Settings.{OptionSetting}
 use Rattle.desk_rules.specs.Lines.{check_order, asks as asked_of, order_asked_by, early_answer}
 use Rattle.desk_rules.specs.Steps.{Effect, Accepts, Boots}
-use Rattle.peer_words.specs.Bytes.{blank}
+use Rattle.protocol_tokens.specs.Bytes.{blank}
 
 -- WAITING
 

@@ -6,12 +6,12 @@ use Rattle.line_io.specs.Event as events
 use Rattle.chess_board.specs.declared.board.Move.{Move}
 use Rattle.chess_board.specs.Place.{legal}
 use Rattle.chess_board.specs.Position.{Position}
-use Rattle.peer_words.specs.declared.kinds.GoKind.{GoKind}
-use Rattle.peer_words.specs.declared.kinds.GoKind.TheVariants as kinds
+use Rattle.protocol_tokens.specs.declared.kinds.GoKind.{GoKind}
+use Rattle.protocol_tokens.specs.declared.kinds.GoKind.TheVariants as kinds
 use Rattle.cecp_lines.specs.Messages.{IfaceMsg, message_of}
 use Rattle.cecp_lines.specs.Messages as says
 use Rattle.cecp_lines.specs.Reading.{message_or_fault}
-use Rattle.peer_words.specs.Quit.{is_quit}
+use Rattle.protocol_tokens.specs.Quit.{is_quit}
 use Rattle.uci_lines.specs.Orders.{Order}
 use Rattle.uci_lines.specs.Info.{Info, info_of}
 use Rattle.uci_lines.specs.Messages.{EngineMsg, OptionKind, option_kind_of}

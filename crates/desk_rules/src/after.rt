@@ -30,8 +30,8 @@ use chess_board::{Move, Position};
 use game_record::Game;
 use line_io::Out;
 use option_map::FeatureNegotiation;
-use peer_words::GoKind;
 use policy_rules::Settings;
+use protocol_tokens::GoKind;
 use think_text::SearchInfo;
 use uci_lines::Info;
 

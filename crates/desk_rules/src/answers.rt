@@ -25,8 +25,8 @@ use chess_board::{Move, Position, Side};
 use game_record::{Game, GameEnd};
 use line_io::Out;
 use option_map::{write_bare_list, write_list};
-use peer_words::{GoKind, trim};
 use policy_rules::Settings;
+use protocol_tokens::{GoKind, trim};
 use think_text::{Pondered, SearchInfo, stat01, thinking};
 use uci_lines::Info;
 

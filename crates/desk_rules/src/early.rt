@@ -18,7 +18,7 @@ use crate::orders::hold;
 use cecp_lines::{Reason, read_iface};
 use line_io::{NoMemory, Out};
 use option_map::{AskedOption, HeldOrders, OptionFault, Options};
-use peer_words::trim;
+use protocol_tokens::trim;
 use std::alloc::Global;
 use std::marker::Model;
 

@@ -9,8 +9,8 @@ use crate::change::clears_scores;
 use cecp_lines::{IfaceMsg, Reason};
 use chess_board::{Move, Position};
 use option_map::SetupOrder;
-use peer_words::GoKind;
 use policy_rules::{Scores, Settings};
+use protocol_tokens::GoKind;
 use search_epochs::{Dialogue, EngineState, Said};
 use uci_lines::{Info, OptionMsg};
 

@@ -4,7 +4,7 @@ ghost use Rattle.std.specs.Option.{option_map};
 ghost use Rattle.line_io.specs.Event.{event_of};
 ghost use Rattle.cecp_lines.specs.Messages.{message_of};
 ghost use Rattle.cecp_lines.specs.Reading.{message_or_fault};
-ghost use Rattle.peer_words.specs.Quit.{is_quit};
+ghost use Rattle.protocol_tokens.specs.Quit.{is_quit};
 ghost use Rattle.cecp_lines.specs.Quit.{is_quit_message};
 ghost use Rattle.uci_lines.specs.Engine.{engine_message};
 ghost use Rattle.uci_lines.specs.Orders.{Order};
@@ -25,7 +25,7 @@ use chess_board::Move;
 use game_record::Game;
 use line_io::Event;
 use option_map::{HeldOrders, SetupOrder};
-use peer_words::{GoKind, is_quit};
+use protocol_tokens::{GoKind, is_quit};
 use search_epochs::EngineState;
 use uci_lines::{EngineMsg, read_engine};
 

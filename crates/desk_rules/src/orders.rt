@@ -24,8 +24,8 @@ use clock_map::SearchRequest;
 use game_record::Game;
 use line_io::Out;
 use option_map::{HeldOrders, SetupOrder};
-use peer_words::GoKind;
 use policy_rules::Settings;
+use protocol_tokens::GoKind;
 use search_epochs::{Call, Orders};
 use uci_lines::{Order, write_order};
 

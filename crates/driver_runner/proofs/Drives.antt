@@ -11,8 +11,8 @@ use Rattle.cecp_driver.specs.Driver.{opening_driver}
 use Rattle.cecp_driver.specs.Script.{DriverTakes, DriverTakesAll, may_come, last_of, given_marks, script_text}
 use Rattle.cecp_driver.proofs.Sound.{runs_are_sound}
 use Rattle.cecp_driver.proofs.Scripts.{goes_more, last_more, text_more, up_more, down_more}
-use Rattle.mediator.specs.Turns.{events_of_turns, is_own_event, loss}
-use Rattle.mediator.specs.Meaning.{Allows, Opens, MediatorSteps, turn_of_mediator}
+use Rattle.event_loop.specs.Turns.{events_of_turns, is_own_event, loss}
+use Rattle.event_loop.specs.Meaning.{Allows, Opens, MediatorSteps, turn_of_mediator}
 use Rattle.driver_runner.specs.declared.driving.Driving.{Driving}
 use Rattle.driver_runner.specs.Drives.{driving_meaning}
 use Rattle.driver_runner.proofs.HeardEvents.{gone_next, may_is}

@@ -12,11 +12,11 @@ use Rattle.child_engine.specs.declared.host.Faults.{Faults}
 use Rattle.program_lifecycle.specs.declared.failures.Failures.{Failures}
 use Rattle.program_lifecycle.specs.Early.{no_failure, only_memory}
 use Rattle.program_lifecycle.specs.Outside.{Outside, outside}
-use Rattle.mediator.specs.Turns.{events_of_turns}
-use Rattle.mediator.proofs.Loops.{filter_swap}
-use Rattle.mediator.specs.Mediated.{Mediated}
-use Rattle.mediator.specs.Mediated as hosts
-use Rattle.mediator.proofs.Wholes.{recorded_as, whole_as, when_whole, nothing_left}
+use Rattle.event_loop.specs.Turns.{events_of_turns}
+use Rattle.event_loop.proofs.Loops.{filter_swap}
+use Rattle.event_loop.specs.Mediated.{Mediated}
+use Rattle.event_loop.specs.Mediated as hosts
+use Rattle.event_loop.proofs.Wholes.{recorded_as, whole_as, when_whole, nothing_left}
 use Rattle.driver_runner.specs.declared.driving.Driving.{Driving}
 use Rattle.driver_runner.specs.HeardEvents.{is_not_long, without_long}
 use Rattle.driver_runner.specs.Drives.{driving_meaning}

@@ -5,8 +5,8 @@ use Rattle.event_pipe.specs.Rule.{sent_by}
 use Rattle.program_lifecycle.specs.declared.failures.Failures.{Failures}
 use Rattle.program_lifecycle.specs.Early.{no_failure}
 use Rattle.program_lifecycle.specs.Outside.{Outside, AreReported, HostIsClosed}
-use Rattle.mediator.specs.Turns.{events_of_turns}
-use Rattle.mediator.specs.Mediated.{Mediated}
+use Rattle.event_loop.specs.Turns.{events_of_turns}
+use Rattle.event_loop.specs.Mediated.{Mediated}
 use Rattle.driver_runner.specs.declared.driving.Driving.{Driving}
 use Rattle.driver_runner.specs.Drives.{driving_meaning}
 use Rattle.driver_runner.specs.Recorded.{DriverRecorded, DriverRunIsWhole}

@@ -8,8 +8,8 @@ use Rattle.cecp_driver.specs.Driver.{opening_driver}
 use Rattle.cecp_driver.specs.Runs.{IsSoundDrive}
 use Rattle.cecp_driver.specs.Script.{DriverTakesAll, may_come, last_of, script_text, driver_lines_up, lines_down}
 use Rattle.driver_runner.specs.HeardEvents.{is_not_long}
-use Rattle.mediator.specs.Turns.{Turn, given, log_of_turn, turn_texts, events_of_turns}
-use Rattle.mediator.specs.Meaning.{MediatorMeaning}
+use Rattle.event_loop.specs.Turns.{Turn, given, log_of_turn, turn_texts, events_of_turns}
+use Rattle.event_loop.specs.Meaning.{MediatorMeaning}
 use Rattle.driver_runner.specs.declared.driving.Driving.{Driving}
 
 -- a new driver took the events of these turns, which gave what it gave

@@ -17,7 +17,7 @@ use Rattle.cecp_driver.specs.Script.{DriverTakesAll, script_text, driver_lines_u
 use Rattle.child_engine.specs.Hosts.{Ledger}
 use Rattle.program_lifecycle.specs.declared.failures.Failures.{Failures}
 use Rattle.program_lifecycle.specs.Outside.{Outside}
-use Rattle.mediator.specs.Recorded.{RecordedAs}
+use Rattle.event_loop.specs.Recorded.{RecordedAs}
 use Rattle.driver_runner.specs.HeardEvents.{without_long}
 
 -- The peer's events among these are all that arrived from it, except long lines.

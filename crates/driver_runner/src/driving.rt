@@ -1,8 +1,8 @@
 // The driver as a mediator.
 use cecp_driver::Driver;
+use event_loop::Mediator;
 use event_pipe::Peer;
 use line_io::{Event, Out};
-use mediator::Mediator;
 
 /// A driver between two peers. Long lines are passed over, the end of the interface counts as
 /// `quit`, and losses are not told.

@@ -3,9 +3,9 @@ use Rattle.std.proofs.Common.{◌≡◌, ℕ, zero, suc, ◌+◌, ◌<◌, ◌�
 use Rattle.std.specs.List.{before_first, after_first, position_or_len}
 use Rattle.std.proofs.lemmas.List.{length-drop, length-take}
 use Rattle.std.proofs.lemmas.Bool.Decides.{nat_tests}
-use Rattle.peer_words.specs.Tokens.{is_white, trim_left, token_end}
+use Rattle.protocol_tokens.specs.Tokens.{is_white, trim_left, token_end}
 use Rattle.driver_state_machine.specs.Parts.{Feature, CutFeature, ends_name, is_quote, cut_with_feature, feature_value_cut, cut_without_feature, cut_by, cut_of, onto, parts_from, parts_within, feature_parts, FitsIn, IsNamed}
-use Rattle.peer_words.proofs.Lengths.{trim_left_length}
+use Rattle.protocol_tokens.proofs.Lengths.{trim_left_length}
 
 drop_short : (n : ℕ) (xs : List ℕ) → length (drop n xs) ≤ length xs
 drop_short n xs = omega (arith, length-drop n xs)

@@ -1,7 +1,7 @@
 -- The text of a feature line is no longer than the line.
 use Rattle.std.proofs.Common.{◌≡◌, ℕ, ℤ, ◌≤◌, List, [], ◌∷◌, length, Option, Some, None, refl, sym, subst}
-use Rattle.peer_words.specs.Tokens.{tokens, first_token, rest_after_token}
-use Rattle.peer_words.proofs.Lengths.{rest_length}
+use Rattle.protocol_tokens.specs.Tokens.{tokens, first_token, rest_after_token}
+use Rattle.protocol_tokens.proofs.Lengths.{rest_length}
 use Rattle.driver_state_machine.specs.declared.said.EngineWord.{EngineWord}
 use Rattle.driver_state_machine.specs.declared.said.EngineWord.TheVariants as words
 use Rattle.driver_state_machine.specs.Numbers.{next_number}

@@ -1,8 +1,8 @@
 -- When nothing is given, and why there is no move.
 use Rattle.std.proofs.Common.{◌≡◌, ℕ, ◌⊎◌, inl, inr, Bool, true, false, cond, ◌&&◌, List, [], ◌∷◌, Option, Some, None, refl}
 use Rattle.chess_board.specs.declared.board.Move.{Move}
-use Rattle.peer_words.specs.declared.kinds.GoKind.{GoKind}
-use Rattle.peer_words.specs.declared.kinds.GoKind.TheVariants as kinds
+use Rattle.protocol_tokens.specs.declared.kinds.GoKind.{GoKind}
+use Rattle.protocol_tokens.specs.declared.kinds.GoKind.TheVariants as kinds
 use Rattle.driver_state_machine.specs.declared.words.GoClocks.{GoClocks}
 use Rattle.driver_state_machine.specs.declared.words.Thought.{Thought}
 use Rattle.driver_state_machine.specs.declared.words.OpenSearch.{OpenSearch}

@@ -3,8 +3,8 @@ use Rattle.std.specs.Prelude.{ℕ, ◌+◌, ◌/◌, ◌%◌, ◌==◌, min, Lis
 use Rattle.std.specs.Prelude.{codes, Bool, if◌then◌else◌, Option, Some, None}
 use Rattle.std.specs.Option.{option_map}
 use Rattle.std.specs.Str.{bytes_eq}
-use Rattle.peer_words.specs.Tokens.{tokens}
-use Rattle.peer_words.specs.Numbers.{signed_number}
+use Rattle.protocol_tokens.specs.Tokens.{tokens}
+use Rattle.protocol_tokens.specs.Numbers.{signed_number}
 use Rattle.chess_board.specs.declared.board.Side.{Side}
 use Rattle.chess_board.specs.declared.board.Side.TheVariants.{White, Black}
 use Rattle.driver_state_machine.specs.declared.words.GoClocks.{GoClocks}
@@ -14,7 +14,7 @@ use Rattle.driver_state_machine.specs.declared.clocks.TheConstants.{LONGEST, MOS
 use Rattle.driver_state_machine.specs.declared.clocks.TheConstants.{MOST_SECONDS, MOST_PLIES}
 use Rattle.driver_state_machine.specs.Numbers.{natural}
 use Rattle.driver_state_machine.specs.Lines.{DownLine, St, Level, Time, Otim, Sd}
-use Rattle.peer_words.specs.declared.numbers.TheConstants.{SECOND}
+use Rattle.protocol_tokens.specs.declared.numbers.TheConstants.{SECOND}
 
 -- READING
 

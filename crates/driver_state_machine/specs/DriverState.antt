@@ -2,8 +2,8 @@
 use Rattle.std.specs.Prelude.{ℕ, ◌+◌, nat_lt, nat_le, ◌==◌, if◌then◌else◌, Bool}
 use Rattle.std.specs.Prelude.{true, false, not, ◌&&◌, Option, Some, None}
 use Rattle.chess_board.specs.declared.board.Move.{Move}
-use Rattle.peer_words.specs.declared.kinds.GoKind.{GoKind}
-use Rattle.peer_words.specs.declared.kinds.GoKind.TheVariants as kinds
+use Rattle.protocol_tokens.specs.declared.kinds.GoKind.{GoKind}
+use Rattle.protocol_tokens.specs.declared.kinds.GoKind.TheVariants as kinds
 use Rattle.driver_state_machine.specs.declared.words.GoClocks.{GoClocks}
 use Rattle.driver_state_machine.specs.declared.words.Thought.{Thought}
 use Rattle.driver_state_machine.specs.declared.words.OpenSearch.{OpenSearch}

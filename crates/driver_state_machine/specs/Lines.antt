@@ -10,7 +10,7 @@ use Rattle.game_record.specs.Game.{Ply}
 use Rattle.game_record.specs.Line.{ply_text}
 use Rattle.driver_state_machine.specs.declared.words.Thought.{Thought}
 use Rattle.driver_state_machine.specs.declared.up.TheConstants.{DELETE}
-use Rattle.peer_words.specs.Bytes.{digit_zero, blank}
+use Rattle.protocol_tokens.specs.Bytes.{digit_zero, blank}
 use Rattle.line_io.specs.Lines.{line_feed}
 
 -- a line to the engine

@@ -4,8 +4,8 @@ use Rattle.std.specs.Prelude.{◌∷◌, ◌^◌, Option, Some, None, ℤ, pos, 
 use Rattle.std.specs.Option.{option_map}
 use Rattle.std.specs.Int.{int_min, int_max}
 use lib.IntN.{negsuc}
-use Rattle.peer_words.specs.Numbers.{count, positive, signed_number}
-use Rattle.peer_words.specs.Bytes.{plus}
+use Rattle.protocol_tokens.specs.Numbers.{count, positive, signed_number}
+use Rattle.protocol_tokens.specs.Bytes.{plus}
 use Rattle.driver_state_machine.specs.declared.numbers.TheConstants.{MOST_SCORE, MOST_TIME}
 
 -- perhaps one plus before a count, or else perhaps a minus: one sign at most

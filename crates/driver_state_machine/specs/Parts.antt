@@ -3,10 +3,10 @@ use Rattle.std.specs.Prelude.{ℕ, zero, suc, ◌+◌, ◌<◌, ◌≤◌, List,
 use Rattle.std.specs.Prelude.{◌&&◌, ◌||◌, not, if◌then◌else◌, ◌==◌, Option, Some, None, IfSome}
 use Rattle.std.specs.List.{before_first, after_first, position_or_len}
 use Rattle.std.specs.Option.{option_map}
-use Rattle.peer_words.specs.Tokens.{is_white, trim_left, token_end}
+use Rattle.protocol_tokens.specs.Tokens.{is_white, trim_left, token_end}
 use Rattle.driver_state_machine.specs.declared.feature.NamedFeature.{NamedFeature}
 use Rattle.driver_state_machine.specs.declared.feature.CutFeature as code
-use Rattle.peer_words.specs.Bytes.{equals, quote}
+use Rattle.protocol_tokens.specs.Bytes.{equals, quote}
 
 -- `NAME=VALUE`, the value without its quotes
 pub record Feature : Type 0 where

@@ -2,8 +2,8 @@
 use Rattle.std.specs.Prelude.{ℕ, ℤ, List, [], ◌∷◌, codes, Bool, ◌||◌}
 use Rattle.std.specs.Prelude.{if◌then◌else◌, Option, Some, None}
 use Rattle.std.specs.Str.{bytes_eq}
-use Rattle.peer_words.specs.Tokens.{tokens, first_token, rest_after_token}
-use Rattle.peer_words.specs.Numbers.{number}
+use Rattle.protocol_tokens.specs.Tokens.{tokens, first_token, rest_after_token}
+use Rattle.protocol_tokens.specs.Numbers.{number}
 use Rattle.driver_state_machine.specs.declared.said.EngineSaid.{EngineSaid}
 use Rattle.driver_state_machine.specs.declared.said.EngineSaid.TheVariants as said
 use Rattle.driver_state_machine.specs.declared.said.EngineWord.{EngineWord}

@@ -1,20 +1,20 @@
 // The numbers of a `go` order, and the lines that set the engine's clocks.
 ghost use Rattle.std.specs.Prelude.{◌≡◌, ◌+◌, ◌/◌, ◌≤◌, ◌∷◌, [], length};
 ghost use Rattle.line_io.specs.Out.{with};
-ghost use Rattle.peer_words.specs.Tokens.{tokens};
+ghost use Rattle.protocol_tokens.specs.Tokens.{tokens};
 ghost use Rattle.driver_state_machine.specs.Clocks.{go_field_named, first_number, clocks_after_word, clocks_from, clocks_in, no_clocks};
 ghost use Rattle.driver_state_machine.specs.Clocks.{capped, seconds_up, clock_lines, control_lines, depth_lines};
 ghost use Rattle.driver_state_machine.specs.Clocks.{mine, theirs, increment};
 ghost use Rattle.driver_state_machine.specs.Lines.{Level, Time, Otim, driver_line_text, lines_text, level_text};
-ghost use Rattle.peer_words.specs.Bytes.{digit_zero};
-ghost use Rattle.peer_words.specs.declared.numbers.TheConstants.{SECOND};
+ghost use Rattle.protocol_tokens.specs.Bytes.{digit_zero};
+ghost use Rattle.protocol_tokens.specs.declared.numbers.TheConstants.{SECOND};
 
 use crate::GoClocks;
 use crate::down::{put_count, write_numbered};
 use crate::numbers::natural;
 use chess_board::Side;
 use line_io::Out;
-use peer_words::{SECOND, named, next_token, read_signed};
+use protocol_tokens::{SECOND, named, next_token, read_signed};
 
 /// The longest time that is written, in milliseconds.
 const LONGEST: u64 = 599_999_000;

@@ -7,7 +7,7 @@ use crate::words::{
     BoardChange, DriverAction, GoClocks, OpenSearch, Phase, Thought, ToEngine, ToIface,
 };
 use chess_board::Move;
-use peer_words::GoKind;
+use protocol_tokens::GoKind;
 
 /// The largest number of a `ping`.
 pub(crate) const LAST_PING: u32 = 999_999_999;

@@ -2,10 +2,10 @@
 ghost use Rattle.std.specs.Prelude.{◌≡◌, ◌+◌, ◌<◌, ◌≤◌, ◌∷◌, [], length, drop, position, MatchOption, IfSome};
 ghost use Rattle.std.specs.List.{before_first, after_first, position_or_len};
 ghost use Rattle.std.specs.Option.{option_map};
-ghost use Rattle.peer_words.specs.Tokens.{is_white, token_end};
+ghost use Rattle.protocol_tokens.specs.Tokens.{is_white, token_end};
 ghost use Rattle.driver_state_machine.specs.Parts.{ends_name, is_quote, feature_of, cut_seen, cut_of, feature_value_cut, cut_without_feature, feature_parts, onto, FitsIn, IsNamed};
 
-use peer_words::{is_white, split_at_white, trim_start};
+use protocol_tokens::{is_white, split_at_white, trim_start};
 
 /// A feature: `NAME=VALUE`. The value has its quotes no more (CECP version 2, "feature").
 #[derive(Clone, Copy)]

@@ -1,10 +1,10 @@
 // The moves that a CECP engine names.
 ghost use Rattle.std.specs.Prelude.{◌≡◌, Some, None, MatchOption};
-ghost use Rattle.peer_words.specs.Tokens.{tokens};
+ghost use Rattle.protocol_tokens.specs.Tokens.{tokens};
 ghost use Rattle.driver_state_machine.specs.Moves.{coordinates, WritesEngineMove, WritesNone, EngineMoveIs, IsThought, IsFirstMove};
 
 use chess_board::{Move, Position, read_move};
-use peer_words::next_token;
+use protocol_tokens::next_token;
 use san_text::{read_long_form, read_san};
 
 /// The legal move that a text names by its squares.

@@ -1,10 +1,10 @@
 // Numbers in lines.
 ghost use Rattle.std.specs.Prelude.{◌≡◌, ◌∷◌, [], pos};
 ghost use Rattle.std.specs.Option.{option_map};
-ghost use Rattle.peer_words.specs.Tokens.{tokens};
+ghost use Rattle.protocol_tokens.specs.Tokens.{tokens};
 ghost use Rattle.driver_state_machine.specs.Numbers.{plus_signed, next_number, natural, clamped_score, ten_times};
 
-use peer_words::{next_token, read_count, read_signed};
+use protocol_tokens::{next_token, read_count, read_signed};
 
 /// Perhaps a plus or a minus, then 1 to 18 digits.
 fn read_plus_signed(text: &[u8]) -> Option<i64>

@@ -1,9 +1,9 @@
 // The orders of the interface.
 ghost use Rattle.std.specs.Prelude.{◌≡◌};
-ghost use Rattle.peer_words.specs.Tokens.{first_token};
+ghost use Rattle.protocol_tokens.specs.Tokens.{first_token};
 ghost use Rattle.driver_state_machine.specs.Words.{order_word_in};
 
-use peer_words::{named, split_token};
+use protocol_tokens::{named, split_token};
 
 /// An order by its first token (UCI, "GUI to engine").
 #[derive(Clone, Copy)]

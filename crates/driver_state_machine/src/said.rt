@@ -1,11 +1,11 @@
 // The meaning of a line of the engine.
 ghost use Rattle.std.specs.Prelude.{◌≡◌};
 ghost use Rattle.std.specs.Option.{option_map};
-ghost use Rattle.peer_words.specs.Tokens.{tokens, first_token};
+ghost use Rattle.protocol_tokens.specs.Tokens.{tokens, first_token};
 ghost use Rattle.driver_state_machine.specs.Says.{engine_message_seen, says_in, report_in, pong_number_in, word_named};
 
 use crate::numbers::{clamped, natural, next_number, ten_times};
-use peer_words::{named, next_token, read_number, split_token};
+use protocol_tokens::{named, next_token, read_number, split_token};
 
 /// The meaning of a line of the engine (CECP version 2, "Commands from the engine to xboard").
 #[derive(Clone, Copy)]

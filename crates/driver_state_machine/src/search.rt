@@ -10,7 +10,7 @@ use crate::words::{
     ToIface,
 };
 use chess_board::Move;
-use peer_words::GoKind;
+use protocol_tokens::GoKind;
 
 /// The search that a `go` opens, with the best move so far.
 fn begun(wanted: WantedSearch, kept: Option<Move>, phase: Phase) -> OpenSearch

@@ -1,7 +1,7 @@
 // The words of a driver.
 
 use chess_board::Move;
-use peer_words::GoKind;
+use protocol_tokens::GoKind;
 
 /// The times and the depth of a `go` order (UCI, "go"). Times are in milliseconds.
 #[derive(Clone, Copy, PartialEq, Eq)]

@@ -1,9 +1,9 @@
 -- The invariant between the upper dialogue, the life and its wire.
 use Rattle.std.proofs.Common.{◌≡◌, ◌&&◌, ◌||◌, ℕ, List, [], ◌∷◌, ◌++◌, Bool, true, false, not, Option, Some, None, refl, sym, ap, ◌∙◌, subst, true≢false, if◌then◌else◌, nat_lt}
 use Rattle.std.proofs.lemmas.Bool.{and_parts, not-true}
-use Rattle.peer_words.specs.declared.kinds.GoKind.{GoKind}
-use Rattle.peer_words.specs.declared.kinds.GoKind.TheVariants as kinds
-use Rattle.peer_words.specs.Quit.{is_quit}
+use Rattle.protocol_tokens.specs.declared.kinds.GoKind.{GoKind}
+use Rattle.protocol_tokens.specs.declared.kinds.GoKind.TheVariants as kinds
+use Rattle.protocol_tokens.specs.Quit.{is_quit}
 use Rattle.engine_revival.specs.Orders.{RevivalOrder as AnyOrder}
 use Rattle.engine_revival.specs.Orders as orders
 use Rattle.engine_revival.specs.Asked.{order_of_line}

@@ -6,13 +6,13 @@ use Rattle.std.proofs.lemmas.Slice.Eq.{bytes_eq-Decides}
 use Rattle.std.specs.Str.{bytes_eq}
 use Rattle.line_io.specs.Event.{has_feed, is_line}
 use Rattle.line_io.specs.Lines.{line_feed}
-use Rattle.peer_words.specs.Tokens.{is_white, is_blank, tokens, trim_left, trim_right, trimmed}
-use Rattle.peer_words.proofs.Lengths.{trimmed_length}
+use Rattle.protocol_tokens.specs.Tokens.{is_white, is_blank, tokens, trim_left, trim_right, trimmed}
+use Rattle.protocol_tokens.proofs.Lengths.{trimmed_length}
 use Rattle.uci_lines.specs.Cuts.{is_word}
 use Rattle.uci_lines.specs.Orders.{Order as OwnOrder}
 use Rattle.uci_lines.specs.OrderReading.{order_in as own_order_in}
-use Rattle.uci_as_engine.specs.Kinds.{has_token_word, kind_asked}
-use Rattle.uci_as_engine.specs.Lines.{Line, position_line_in}
+use Rattle.uci_interface_lines.specs.Kinds.{has_token_word, kind_asked}
+use Rattle.uci_interface_lines.specs.Lines.{Line, position_line_in}
 use Rattle.engine_revival.specs.Orders.{RevivalOrder, revival_order_text}
 use Rattle.engine_revival.specs.Orders as orders
 use Rattle.engine_revival.specs.Asked.{tokens_ask_for, setting_after_name, revival_order_in, position_asked, setting_asked, setting_asked_of, word_asked}

@@ -2,9 +2,9 @@
 use Rattle.std.proofs.Common.{◌≡◌, ℕ, List, [], ◌∷◌, ◌++◌, length, codes, Bool, true, false, cond, ◌&&◌, not, Option, Some, None, refl, sym, ap, ◌∙◌, arith, append_assoc}
 use Rattle.std.specs.Str.{bytes_eq}
 use Rattle.std.proofs.lemmas.Bool.{and_parts}
-use Rattle.peer_words.specs.Tokens.{is_white, tokens, trim_left, trim_right, trimmed}
-use Rattle.peer_words.proofs.Lengths.{trim_left_length, trim_right_length}
-use Rattle.peer_words.proofs.TokenLists.{tokens_more}
+use Rattle.protocol_tokens.specs.Tokens.{is_white, tokens, trim_left, trim_right, trimmed}
+use Rattle.protocol_tokens.proofs.Lengths.{trim_left_length, trim_right_length}
+use Rattle.protocol_tokens.proofs.TokenLists.{tokens_more}
 use Rattle.uci_lines.specs.Written.{is_trimmed_text, holds_value}
 use Rattle.uci_lines.specs.Orders as own
 use Rattle.uci_lines.specs.Orders.{uci_order_text as own_text, optional_text, order_start_text, order_moves_text}
@@ -15,8 +15,8 @@ use Rattle.uci_lines.proofs.Counts.{same_text}
 use Rattle.uci_lines.proofs.CutTokens.{tokens_byte}
 use Rattle.uci_lines.proofs.Prefixes.{prefix, behind}
 use Rattle.uci_lines.proofs.Spelling.{order_again}
-use Rattle.uci_as_engine.specs.Kinds.{has_token_word, kind_asked}
-use Rattle.uci_as_engine.specs.Lines.{position_line_in}
+use Rattle.uci_interface_lines.specs.Kinds.{has_token_word, kind_asked}
+use Rattle.uci_interface_lines.specs.Lines.{position_line_in}
 use Rattle.engine_revival.specs.Orders.{Uci, IsReady, NewGame, Stop, PonderHit, Quit, Position, Go, revival_order_text}
 use Rattle.engine_revival.specs.Asked.{tokens_ask_for, revival_order_in, position_asked, setting_asked_of}
 use Rattle.engine_revival.specs.Canonical.{IsTakenAsItCame, OwnOrdersAreTaken}

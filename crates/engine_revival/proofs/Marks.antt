@@ -9,10 +9,10 @@ use Rattle.script_lines.specs.Marks.{line_marked}
 use Rattle.script_lines.specs.StepText.{lines_marked}
 use Rattle.script_lines.proofs.Scripts.{parts_line}
 use Rattle.script_lines.proofs.Rooms.{lines_first}
-use Rattle.peer_words.specs.Quit.{is_quit}
+use Rattle.protocol_tokens.specs.Quit.{is_quit}
 use Rattle.engine_revival.specs.Orders.{RevivalOrder, revival_order_text}
 use Rattle.engine_revival.specs.Orders as orders
-use Rattle.peer_words.specs.Tokens.{trimmed}
+use Rattle.protocol_tokens.specs.Tokens.{trimmed}
 use Rattle.engine_revival.specs.Asked.{order_of_line, revival_order_in}
 use Rattle.engine_revival.proofs.Asked.{asked_text, trimmed_feedless}
 use Rattle.engine_revival.specs.declared.order_list.LineSpan.{LineSpan}

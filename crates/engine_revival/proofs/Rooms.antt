@@ -3,16 +3,16 @@ use Rattle.std.proofs.Common.{◌≡◌, ◌&&◌, ◌||◌, ℕ, ◌+◌, ◌*�
 use Rattle.std.proofs.lemmas.Bool.{leb-true, and_parts}
 use Rattle.std.proofs.lemmas.Bool.Decides.{nat_tests}
 use Rattle.std.proofs.lemmas.List.Elements.{filter-append}
-use Rattle.peer_words.specs.declared.kinds.GoKind.{GoKind}
-use Rattle.peer_words.specs.declared.kinds.GoKind.TheVariants as kinds
-use Rattle.peer_words.specs.Tokens.{trimmed}
+use Rattle.protocol_tokens.specs.declared.kinds.GoKind.{GoKind}
+use Rattle.protocol_tokens.specs.declared.kinds.GoKind.TheVariants as kinds
+use Rattle.protocol_tokens.specs.Tokens.{trimmed}
 use Rattle.engine_revival.specs.declared.orders.RevivalOrder.{RevivalOrder as CodeOrder}
 use Rattle.engine_revival.specs.declared.orders.RevivalOrder.TheVariants as says
 use Rattle.engine_revival.specs.Orders.{RevivalOrder, revival_order_of, revival_order_text, NewGame}
 use Rattle.engine_revival.specs.Orders as orders
 use Rattle.engine_revival.specs.Asked.{order_of_line, revival_order_in}
 use Rattle.engine_revival.proofs.Asked.{asked_text, trimmed_short}
-use Rattle.peer_words.specs.Quit.{is_quit}
+use Rattle.protocol_tokens.specs.Quit.{is_quit}
 use Rattle.engine_revival.specs.declared.words.DialogueState.{DialogueState}
 use Rattle.engine_revival.specs.declared.words.DialogueState.TheVariants as upper
 use Rattle.engine_revival.specs.declared.words.LifeState.{LifeState}

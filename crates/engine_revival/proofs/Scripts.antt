@@ -11,10 +11,10 @@ use Rattle.script_lines.specs.Marks.{Mark, Happens, ToIface, ToEngine, IsMarkSpe
 use Rattle.script_lines.specs.Scripts.{MarksAreSpelled, script_of}
 use Rattle.script_lines.specs.StepText.{lines_marked, marks_of_written}
 use Rattle.script_lines.proofs.Scripts.{parts_line}
-use Rattle.peer_words.specs.Quit.{is_quit}
+use Rattle.protocol_tokens.specs.Quit.{is_quit}
 use Rattle.engine_revival.specs.Orders.{RevivalOrder as AnyOrder, NewGame, revival_order_text}
 use Rattle.engine_revival.specs.Orders as orders
-use Rattle.peer_words.specs.Tokens.{trimmed}
+use Rattle.protocol_tokens.specs.Tokens.{trimmed}
 use Rattle.engine_revival.specs.Asked.{order_of_line, revival_order_in}
 use Rattle.engine_revival.proofs.Asked.{asked_text, trimmed_line}
 use Rattle.engine_revival.specs.declared.state.RevivalState.{RevivalState}

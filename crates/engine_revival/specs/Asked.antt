@@ -1,12 +1,12 @@
 -- The order that a line is.
 use Rattle.std.specs.Prelude.{ℕ, List, [], ◌∷◌, codes, Bool, true}
 use Rattle.std.specs.Prelude.{false, if◌then◌else◌, Option, Some, None}
-use Rattle.peer_words.specs.Tokens.{tokens, trimmed}
+use Rattle.protocol_tokens.specs.Tokens.{tokens, trimmed}
 use Rattle.uci_lines.specs.Cuts.{is_word}
 use Rattle.uci_lines.specs.Orders.{Order as OwnOrder}
 use Rattle.uci_lines.specs.OrderReading.{order_in as own_order_in}
-use Rattle.uci_as_engine.specs.Kinds.{has_token_word, kind_asked}
-use Rattle.uci_as_engine.specs.Lines.{Line, position_line_in}
+use Rattle.uci_interface_lines.specs.Kinds.{has_token_word, kind_asked}
+use Rattle.uci_interface_lines.specs.Lines.{Line, position_line_in}
 use Rattle.engine_revival.specs.Orders.{RevivalOrder, Uci, IsReady, NewGame, Stop, PonderHit}
 use Rattle.engine_revival.specs.Orders.{Quit, Value, Button, Position, Go, option_name_in}
 

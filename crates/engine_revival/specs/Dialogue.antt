@@ -1,7 +1,7 @@
 -- The order of a dialogue with an engine: which orders may stand where, and what
 -- the engine's lines change.
 use Rattle.std.specs.Prelude.{ℕ, List, Bool, true, false, not, ◌||◌, Option, Some, None}
-use Rattle.peer_words.specs.declared.kinds.GoKind.TheVariants as kinds
+use Rattle.protocol_tokens.specs.declared.kinds.GoKind.TheVariants as kinds
 use Rattle.uci_lines.specs.Messages.{EngineMsg}
 use Rattle.uci_lines.specs.Messages as says
 use Rattle.uci_lines.specs.Engine.{engine_message}

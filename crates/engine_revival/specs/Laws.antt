@@ -5,7 +5,7 @@ use Rattle.engine_revival.specs.Orders.{RevivalOrder as AnyOrder, are_same_names
 use Rattle.engine_revival.specs.Lists.{are_for_same}
 use Rattle.engine_revival.specs.Orders as orders
 use Rattle.engine_revival.specs.Asked.{order_of_line}
-use Rattle.peer_words.specs.Quit.{is_quit}
+use Rattle.protocol_tokens.specs.Quit.{is_quit}
 use Rattle.engine_revival.specs.declared.words.DialogueState.{DialogueState}
 use Rattle.engine_revival.specs.declared.words.DialogueState.TheVariants as upper
 use Rattle.engine_revival.specs.declared.words.LifeState.{LifeState}

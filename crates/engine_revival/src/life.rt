@@ -6,7 +6,7 @@ ghost use Rattle.engine_revival.specs.Steps.{after_at_once, life_after_said, due
 
 use crate::orders::RevivalOrder;
 use crate::words::{DialogueState, DueOrders, LifeSaid, LifeState, StandInAnswer};
-use peer_words::GoKind;
+use protocol_tokens::GoKind;
 
 impl LifeState {
     pub(crate) fn takes_at_once(self, order: &RevivalOrder) -> bool

@@ -1,9 +1,9 @@
 // The names of options.
 ghost use Rattle.std.specs.Prelude.{◌≡◌, ◌∷◌, ◌<◌, [], length, MatchOption, IfSome};
-ghost use Rattle.peer_words.specs.Tokens.{tokens};
+ghost use Rattle.protocol_tokens.specs.Tokens.{tokens};
 ghost use Rattle.engine_revival.specs.Orders.{are_same_names, in_lowercase, option_name_in, words_before_value};
 
-use peer_words::next_token;
+use protocol_tokens::next_token;
 
 // The next word of a name, and what follows it. None at `value`, and at the end.
 fn next_word(text: &[u8]) -> Option<(&[u8], &[u8])>

@@ -1,17 +1,17 @@
 // Orders as any interface spells them.
 ghost use Rattle.std.specs.Prelude.{◌≡◌, ◌∷◌, ◌<◌, [], length, codes, MatchOption, IfSome, None};
 ghost use Rattle.std.specs.Option.{option_map};
-ghost use Rattle.peer_words.specs.Tokens.{tokens};
+ghost use Rattle.protocol_tokens.specs.Tokens.{tokens};
 ghost use Rattle.uci_lines.specs.Orders.{uci_order_of as own_order_of};
 ghost use Rattle.uci_lines.specs.OrderReading.{order_in as own_order_in};
-ghost use Rattle.uci_as_engine.specs.Kinds.{has_token_word};
-ghost use Rattle.uci_as_engine.specs.Lines.{position_line_in};
+ghost use Rattle.uci_interface_lines.specs.Kinds.{has_token_word};
+ghost use Rattle.uci_interface_lines.specs.Lines.{position_line_in};
 ghost use Rattle.engine_revival.specs.Orders.{revival_order_of};
 ghost use Rattle.engine_revival.specs.Steps.{is_ready_order};
 ghost use Rattle.engine_revival.specs.Asked.{revival_order_in, position_asked, setting_asked, word_asked};
 
-use peer_words::{GoKind, named, next_token};
-use uci_as_engine::{go_kind, spoken};
+use protocol_tokens::{GoKind, named, next_token};
+use uci_interface_lines::{go_kind, spoken};
 use uci_lines::Order as OwnOrder;
 
 /// An order to an engine. A setting, a `position` and a `go` have their line as it came.

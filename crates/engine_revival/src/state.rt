@@ -23,7 +23,7 @@ use crate::orders::{RevivalOrder, read_order};
 use crate::words::{DialogueState, DueOrders, LifeState, StandInAnswer, said_in};
 use crate::written_lines::{put_answer, put_if, put_line, put_quit, put_readies, put_uci};
 use line_io::{NoMemory, Out, PEER_LINE};
-use peer_words::{is_quit, trim};
+use protocol_tokens::{is_quit, trim};
 use std::alloc::Global;
 
 /// The greatest number of bytes of a line.

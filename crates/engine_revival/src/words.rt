@@ -5,7 +5,7 @@ ghost use Rattle.uci_lines.specs.Messages.{uci_message_of};
 ghost use Rattle.engine_revival.specs.Dialogue.{said_of, said_in};
 
 use crate::orders::RevivalOrder;
-use peer_words::GoKind;
+use protocol_tokens::GoKind;
 use uci_lines::{EngineMsg, read_engine};
 
 /// The state of a dialogue with an engine, by the orders to it and by what it said (UCI, April 2006).

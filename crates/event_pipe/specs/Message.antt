@@ -2,7 +2,7 @@
 use Rattle.std.specs.Prelude.{ℕ, Bool, true, false}
 use Rattle.line_io.specs.Event.{Event, Iface, IfaceLong, IfaceEnd}
 use Rattle.line_io.specs.Event.{Engine, EngineLong, EngineEnd, is_line}
-use Rattle.peer_words.specs.Quit.{is_quit}
+use Rattle.protocol_tokens.specs.Quit.{is_quit}
 use Rattle.event_pipe.specs.declared.message.Peer.{Peer}
 use Rattle.event_pipe.specs.declared.message.Peer.TheVariants as peers
 use Rattle.event_pipe.specs.declared.message.MessageBody.{MessageBody}

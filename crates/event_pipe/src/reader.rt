@@ -9,7 +9,7 @@ ghost use Rattle.event_pipe.specs.declared.message.MessageBody.TheVariants as sa
 
 use crate::{Bytes, MessageBody, Peer, PipeSend};
 use line_io::{Item, Lines, PEER_LINE, ReadFault, Source, lines_of_all_calls};
-use peer_words::is_quit;
+use protocol_tokens::is_quit;
 use std::alloc::Global;
 use std::sync::Wait;
 

@@ -3,7 +3,7 @@ use Rattle.std.proofs.Common.{◌≡◌, ℕ, suc, ◌<◌, ◌≤◌, List, [],
 use Rattle.std.specs.List.{AllByRecursion, slice_split, onto_first, join_with_byte, filter}
 use Rattle.std.proofs.lemmas.Bool.Decides.{nat_tests}
 use Rattle.std.proofs.lemmas.List.Splits.{slice_split-cons_yes, slice_split-cons_no}
-use Rattle.peer_words.specs.Tokens.{is_white, tokens}
+use Rattle.protocol_tokens.specs.Tokens.{is_white, tokens}
 use Rattle.fen_text.specs.Squares.{is_slash}
 
 -- each byte is above this one

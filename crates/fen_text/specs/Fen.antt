@@ -9,7 +9,7 @@ use Rattle.chess_board.specs.declared.board.BuildFault.TheVariants as build
 use Rattle.chess_board.specs.Board.{Pieces}
 use Rattle.chess_board.specs.Position.{Position}
 use Rattle.chess_board.specs.Play.{position_if_built}
-use Rattle.peer_words.specs.Tokens.{tokens}
+use Rattle.protocol_tokens.specs.Tokens.{tokens}
 use Rattle.fen_text.specs.declared.fault.FenFault.{FenFault}
 use Rattle.fen_text.specs.declared.fault.FenFault.TheVariants.{Board, Side as SideFault, Castling}
 use Rattle.fen_text.specs.declared.fault.FenFault.TheVariants.{EnPassant, Half, Full, Kings}

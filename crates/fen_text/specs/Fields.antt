@@ -6,8 +6,8 @@ use Rattle.chess_board.specs.declared.board.Side.{Side}
 use Rattle.chess_board.specs.declared.board.Side.TheVariants.{White, Black}
 use Rattle.chess_board.specs.declared.board.Rights.{Rights}
 use Rattle.chess_board.specs.Board.{square_at}
-use Rattle.peer_words.specs.Numbers.{digits}
-use Rattle.peer_words.specs.Bytes.{dash}
+use Rattle.protocol_tokens.specs.Numbers.{digits}
+use Rattle.protocol_tokens.specs.Bytes.{dash}
 use Rattle.chess_board.specs.Text.{letter_a, letter_h, digit_one}
 
 -- w, b

@@ -12,7 +12,7 @@ use Rattle.chess_board.specs.declared.board.Kind.TheVariants.{Rook, Queen, King}
 use Rattle.chess_board.specs.Board.{Pieces}
 use Rattle.chess_board.specs.Play.{fits_board}
 use Rattle.chess_board.specs.Text.{letter_a, digit_one, digit_eight}
-use Rattle.peer_words.specs.Bytes.{digit_zero, slash}
+use Rattle.protocol_tokens.specs.Bytes.{digit_zero, slash}
 
 -- the kind that a capital letter of PNBRQK names
 abbrev pub kind_of_letter : ℕ → Option Kind

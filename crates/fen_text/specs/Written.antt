@@ -14,7 +14,7 @@ use Rattle.chess_board.specs.Position.{Position}
 use Rattle.chess_board.specs.Play.{IsPosition}
 use Rattle.fen_text.specs.Fen.{position_of}
 use Rattle.fen_text.specs.Squares.{case_step}
-use Rattle.peer_words.specs.Bytes.{digit_zero, slash, dash, blank}
+use Rattle.protocol_tokens.specs.Bytes.{digit_zero, slash, dash, blank}
 use Rattle.chess_board.specs.Text.{letter_a, digit_one}
 
 abbrev pub kind_letter : Kind → ℕ

@@ -4,10 +4,10 @@ ghost use Rattle.std.specs.List.{slice_get, list_all};
 ghost use Rattle.std.specs.Option.{option_map, option_and_then};
 ghost use Rattle.fen_text.specs.Seen.{optional_bytes};
 ghost use Rattle.fen_text.specs.Fields.{side_of, is_right, at_most_once, letters_of, rights_of, en_passant_of, count_of, count_or};
-ghost use Rattle.peer_words.specs.Tokens.{tokens};
+ghost use Rattle.protocol_tokens.specs.Tokens.{tokens};
 
 use chess_board::{Rights, Side, Square};
-use peer_words::{is_white, read_digits};
+use protocol_tokens::{is_white, read_digits};
 
 /// The field with this number, counted from 0.
 pub(crate) fn nth_field(text: &[u8], n: usize) -> Option<&[u8]>

@@ -9,7 +9,7 @@ use Rattle.chess_board.specs.Text.{promotion_text, letter_a, digit_one}
 use Rattle.fen_text.specs.Written.{position_fen}
 use Rattle.game_record.specs.Game.{Ply, Game}
 use Rattle.game_record.specs.Ending.{is_same}
-use Rattle.peer_words.specs.Bytes.{blank}
+use Rattle.protocol_tokens.specs.Bytes.{blank}
 
 abbrev pub ply_text : Ply → List ℕ
 ply_text m =

@@ -6,7 +6,7 @@ ghost use Rattle.chess_board.specs.Text.{IsOfficer, text_of_move};
 ghost use Rattle.line_io.specs.Out.{with};
 ghost use Rattle.game_record.specs.Game.{ply_of, plies_of, IsPlayablePly, current_position};
 ghost use Rattle.game_record.specs.Line.{game_start_text, spaced_plies, plies_and_hint, game_moves_text, game_position_text};
-ghost use Rattle.peer_words.specs.Bytes.{blank};
+ghost use Rattle.protocol_tokens.specs.Bytes.{blank};
 
 use crate::game::Game;
 use chess_board::{Move, Position, write_move};

@@ -20,7 +20,7 @@ use Rattle.fen_text.proofs.Boards.{word-board}
 use Rattle.fen_text.proofs.Cut.{Above}
 use Rattle.fen_text.proofs.Others.{word-passant, word-rights, word-side}
 use Rattle.game_record.specs.Line.{ply_text}
-use Rattle.peer_words.proofs.Written.{decimal_digits}
+use Rattle.protocol_tokens.proofs.Written.{decimal_digits}
 use Rattle.driver_state_machine.specs.Lines.{DownLine, XBoard, Protover, Quit, New, Force, Post, SetBoard, Played, St, Level, Time, Otim, Sd, Go, Analyze, OrderMoveNow, Exit, Ping, Accepted, Rejected, driver_move_text, two_digits}
 use Rattle.cecp_driver.specs.Said.{EngineLineCanBeRead}
 use Rattle.judge_and_driver_laws.specs.Wire.{text_without_feed}

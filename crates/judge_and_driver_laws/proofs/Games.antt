@@ -3,8 +3,8 @@ use Rattle.std.proofs.Common.{◌≡◌, ◌⊎◌, inl, inr, ℕ, ◌+◌, ◌^
 use Rattle.std.specs.List.{join_with_byte, list_all, AllByRecursion}
 use Rattle.std.proofs.lemmas.Bool.Decides.{nat_tests}
 use Rattle.std.proofs.lemmas.Bool.{and_parts}
-use Rattle.peer_words.specs.Tokens.{is_white, is_token, tokens}
-use Rattle.peer_words.proofs.TokenLists.{tokens_more, tokens_joined}
+use Rattle.protocol_tokens.specs.Tokens.{is_white, is_token, tokens}
+use Rattle.protocol_tokens.proofs.TokenLists.{tokens_more, tokens_joined}
 use Rattle.chess_board.specs.declared.board.Move.{Move}
 use Rattle.chess_board.specs.Position.{Position}
 use Rattle.chess_board.specs.Play.{IsPosition, start_position}
@@ -21,9 +21,9 @@ use Rattle.uci_lines.proofs.MoveTokens.{move_token}
 use Rattle.game_record.specs.Game.{Game, ply_of, plies_of, AreLegal, position_after_ply, now_after, current_position}
 use Rattle.game_record.specs.Line.{ply_text, is_standard}
 use Rattle.game_record.proofs.Lines.{standard-law}
-use Rattle.uci_as_engine.specs.Lines.{Line, position_line_in}
-use Rattle.uci_as_engine.specs.Speaks.{Leads, Starts}
-use Rattle.uci_as_engine.proofs.Saying.{speaks_line}
+use Rattle.uci_interface_lines.specs.Lines.{Line, position_line_in}
+use Rattle.uci_interface_lines.specs.Speaks.{Leads, Starts}
+use Rattle.uci_interface_lines.proofs.Saying.{speaks_line}
 use Rattle.desk_rules.specs.Orders.{start_of}
 use Rattle.trace_laws.proofs.Games.{IsGame}
 

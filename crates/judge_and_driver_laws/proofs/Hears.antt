@@ -13,7 +13,7 @@ use Rattle.chess_board.specs.Spelling.{move_spelled_by}
 use Rattle.chess_board.specs.Text.{text_of_move}
 use Rattle.chess_board.proofs.Spelled.{spells_move}
 use Rattle.chess_board.proofs.Texts.{legal-written, reads-back}
-use Rattle.peer_words.specs.declared.kinds.GoKind.TheVariants as kinds
+use Rattle.protocol_tokens.specs.declared.kinds.GoKind.TheVariants as kinds
 use Rattle.script_lines.specs.Marks.{Happens}
 use Rattle.cecp_lines.specs.Replies.{Reply}
 use Rattle.cecp_lines.specs.Replies as cecp

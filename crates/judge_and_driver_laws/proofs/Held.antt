@@ -16,7 +16,7 @@ use Rattle.game_record.specs.Game.{Ply, Game, game_from, current_position, ply_o
 use Rattle.cecp_lines.specs.Messages.{IfaceMsg}
 use Rattle.cecp_lines.specs.Messages as says
 use Rattle.cecp_lines.specs.Reading.{message_or_fault}
-use Rattle.peer_words.specs.Quit.{is_quit}
+use Rattle.protocol_tokens.specs.Quit.{is_quit}
 use Rattle.cecp_lines.specs.Quit.{is_quit_message}
 use Rattle.cecp_lines.proofs.Quits.{quit_first}
 use Rattle.cecp_lines.specs.declared.iface.IfaceFault.{IfaceFault}

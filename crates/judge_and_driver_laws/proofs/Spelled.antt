@@ -17,18 +17,18 @@ use Rattle.fen_text.specs.Written.{position_fen}
 use Rattle.fen_text.proofs.Back.{reads_back}
 use Rattle.game_record.specs.Game.{Ply, with_ply}
 use Rattle.game_record.specs.Line.{ply_text}
-use Rattle.peer_words.specs.Tokens.{is_white, is_token, first_token, rest_after_token, trimmed, tokens}
-use Rattle.peer_words.specs.Numbers.{centis, digits, number, seconds, seconds_at, milliseconds, is_point}
-use Rattle.peer_words.proofs.Runs.{token_first, token_rest, all_of}
-use Rattle.peer_words.proofs.TokenLists.{tokens_more, tokens_alone, tokens_trimmed}
-use Rattle.peer_words.proofs.Written.{decimal_token, decimal_digits, digits_decimal, number_decimal, centis_decimal_read, one_digit}
+use Rattle.protocol_tokens.specs.Tokens.{is_white, is_token, first_token, rest_after_token, trimmed, tokens}
+use Rattle.protocol_tokens.specs.Numbers.{centis, digits, number, seconds, seconds_at, milliseconds, is_point}
+use Rattle.protocol_tokens.proofs.Runs.{token_first, token_rest, all_of}
+use Rattle.protocol_tokens.proofs.TokenLists.{tokens_more, tokens_alone, tokens_trimmed}
+use Rattle.protocol_tokens.proofs.Written.{decimal_token, decimal_digits, digits_decimal, number_decimal, centis_decimal_read, one_digit}
 use Rattle.uci_lines.proofs.MoveTokens.{move_token}
 use Rattle.cecp_lines.specs.Words.{is_ignored}
 use Rattle.cecp_lines.specs.Messages.{IfaceMsg}
 use Rattle.cecp_lines.specs.Messages as says
 use Rattle.cecp_lines.specs.Reading.{base_at, base_time, minutes_seconds, HasMove, SpellsIfaceMsg}
-use Rattle.cecp_as_interface.proofs.Rereads.{cut_position, no_position, after_cut}
-use Rattle.cecp_as_interface.proofs.Spoken.{one_word, black_over, longer_token}
+use Rattle.cecp_engine_lines.proofs.Rereads.{cut_position, no_position, after_cut}
+use Rattle.cecp_engine_lines.proofs.Spoken.{one_word, black_over, longer_token}
 use Rattle.driver_state_machine.specs.Lines.{DownLine, XBoard, Protover, Quit, New, Force, Post, SetBoard, Played, St, Level, Time, Otim, Sd, Go, Analyze, OrderMoveNow, Exit, Ping, Accepted, Rejected, driver_move_text, two_digits}
 use Rattle.cecp_driver.specs.Said.{EngineLineCanBeRead}
 use Rattle.judge_and_driver_laws.proofs.Fed.{bare_fed}

@@ -5,10 +5,10 @@ use Rattle.std.specs.Char.{is_ascii_digit}
 use Rattle.std.specs.Fmt.{signed_decimal}
 use Rattle.std.proofs.lemmas.Bool.Decides.{nat_tests}
 use Rattle.std.proofs.lemmas.Bool.{and_parts}
-use Rattle.peer_words.specs.declared.kinds.GoKind.TheVariants as kinds
-use Rattle.peer_words.specs.Tokens.{is_white, is_token, tokens}
-use Rattle.peer_words.proofs.TokenLists.{tokens_more, tokens_alone, tokens_white}
-use Rattle.peer_words.proofs.Written.{not_white}
+use Rattle.protocol_tokens.specs.declared.kinds.GoKind.TheVariants as kinds
+use Rattle.protocol_tokens.specs.Tokens.{is_white, is_token, tokens}
+use Rattle.protocol_tokens.proofs.TokenLists.{tokens_more, tokens_alone, tokens_white}
+use Rattle.protocol_tokens.proofs.Written.{not_white}
 use Rattle.cecp_lines.specs.Replies.{Reply, reply_text, hint_in_parentheses}
 use Rattle.cecp_lines.specs.Replies as cecp
 use Rattle.cecp_lines.specs.declared.reply.UserError.TheVariants as user_errors
@@ -20,8 +20,8 @@ use Rattle.uci_lines.specs.Cuts.{is_word}
 use Rattle.uci_lines.specs.Orders.{Order, uci_order_text, uci_position_text, go_text, control_text, optional_number}
 use Rattle.uci_lines.specs.Orders as orders
 use Rattle.uci_lines.proofs.Counts.{same_text}
-use Rattle.uci_as_engine.specs.Kinds.{has_token_word, kind_asked}
-use Rattle.uci_as_engine.specs.Lines.{position_line_in}
+use Rattle.uci_interface_lines.specs.Kinds.{has_token_word, kind_asked}
+use Rattle.uci_interface_lines.specs.Lines.{position_line_in}
 use Rattle.desk_rules.specs.Orders.{go_kind_named}
 use Rattle.session_judge.specs.declared.dialogue_event.OrderKind.{OrderKind as Heard}
 use Rattle.session_judge.specs.declared.dialogue_event.OrderKind.TheVariants as hears

@@ -3,7 +3,7 @@ use Rattle.std.specs.Prelude.{◌≡◌, Bool, false, List, [], ◌∷◌, ◌++
 use Rattle.line_io.specs.Event.{Event}
 use Rattle.line_io.specs.Event as events
 use Rattle.chess_board.specs.Position.{Position}
-use Rattle.peer_words.specs.declared.kinds.GoKind.{GoKind}
+use Rattle.protocol_tokens.specs.declared.kinds.GoKind.{GoKind}
 use Rattle.cecp_lines.specs.Replies.{Reply, reply_text}
 use Rattle.uci_lines.specs.Orders.{Order, uci_order_text}
 use Rattle.game_record.specs.Game.{current_position}

@@ -19,7 +19,7 @@ use Rattle.driver_state_machine.specs.Lines.{Analyze, OrderMoveNow, Exit, Ping, 
 use Rattle.driver_state_machine.specs.Lines.{up_line_with_feed, driver_line_text, driver_move_text, two_digits}
 use Rattle.cecp_driver.specs.EngineGame.{game_set_by}
 use Rattle.cecp_driver.specs.Said.{EngineLineCanBeRead}
-use Rattle.peer_words.specs.declared.numbers.TheConstants.{SECOND}
+use Rattle.protocol_tokens.specs.declared.numbers.TheConstants.{SECOND}
 
 -- the text of a line, without its line feed
 abbrev pub text_without_feed : DownLine → List ℕ

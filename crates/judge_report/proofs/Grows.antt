@@ -1,9 +1,9 @@
 -- A report is never taken back.
 use Rattle.std.proofs.Common.{◌≡◌, ℕ, ◌+◌, List, [], ◌∷◌, ◌++◌, Option, Some, None, append-nil, append_assoc, refl, sym, ap, ◌∙◌}
 use Rattle.line_io.specs.Lines.{Piece}
-use Rattle.line_command.specs.declared.ending.Ending.{Ending}
-use Rattle.line_command.specs.declared.ending.Ending.TheVariants as endings
-use Rattle.line_command.proofs.Prefixes.{IsPrefix, all_prefix, prefix_on}
+use Rattle.replay_command_base.specs.declared.ending.Ending.{Ending}
+use Rattle.replay_command_base.specs.declared.ending.Ending.TheVariants as endings
+use Rattle.replay_command_base.proofs.Prefixes.{IsPrefix, all_prefix, prefix_on}
 use Rattle.session_judge.specs.declared.listener.Listener.{Listener}
 use Rattle.session_judge.specs.Talks.{opening_judgement}
 use Rattle.judge_report.specs.Reports.{ReportCourse, kind_of_log_line, of_kind, read_on, over, report, last_lines}

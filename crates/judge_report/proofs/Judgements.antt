@@ -4,16 +4,16 @@ use Rattle.std.proofs.Math.Seq.{take-length}
 use Rattle.std.specs.Io.KnownBytes.{Appends}
 use Rattle.line_io.specs.Lines.{Piece, items}
 use Rattle.line_io.specs.Runs.{whole}
-use Rattle.line_command.specs.declared.ending.Ending.{Ending}
-use Rattle.line_command.specs.declared.ending.Ending.TheVariants as endings
-use Rattle.line_command.specs.Ran.{FilterRan}
-use Rattle.line_command.specs.Reads.{AreRead}
-use Rattle.line_command.specs.Streams.{FilterStreams}
-use Rattle.line_command.specs.Putting.{IsOfLine}
-use Rattle.line_command.specs.Filtered.{AreAll, FilterEndsBy, EndsRightly, HasReason, IsText, WroteAll, WrotePrefix, WroteTo, WroteWhole}
-use Rattle.line_command.specs.Outcomes.{Outcome, LineReported, WroteLast}
-use Rattle.line_command.proofs.Prefixes.{IsPrefix, all_prefix, later_of, none_later, take_prefix}
-use Rattle.line_command.proofs.Outcomes.{outcome}
+use Rattle.replay_command_base.specs.declared.ending.Ending.{Ending}
+use Rattle.replay_command_base.specs.declared.ending.Ending.TheVariants as endings
+use Rattle.replay_command_base.specs.Ran.{FilterRan}
+use Rattle.replay_command_base.specs.Reads.{AreRead}
+use Rattle.replay_command_base.specs.Streams.{FilterStreams}
+use Rattle.replay_command_base.specs.Putting.{IsOfLine}
+use Rattle.replay_command_base.specs.Filtered.{AreAll, FilterEndsBy, EndsRightly, HasReason, IsText, WroteAll, WrotePrefix, WroteTo, WroteWhole}
+use Rattle.replay_command_base.specs.Outcomes.{Outcome, LineReported, WroteLast}
+use Rattle.replay_command_base.proofs.Prefixes.{IsPrefix, all_prefix, later_of, none_later, take_prefix}
+use Rattle.replay_command_base.proofs.Outcomes.{outcome}
 use Rattle.session_judge.specs.declared.listener.Listener.{Listener}
 use Rattle.session_judge.specs.Talks.{opening_judgement}
 use Rattle.judge_report.specs.Reports.{report, last_lines}

@@ -2,8 +2,8 @@
 use Rattle.std.proofs.Common.{◌≡◌, ℕ, ◌+◌, suc, List, [], ◌∷◌, ◌++◌, length, Option, Some, None, inl, inr, refl, sym, ap, ◌∙◌, arith}
 use Rattle.line_io.specs.Lines.{Piece}
 use Rattle.line_io.specs.Out.{Text, with}
-use Rattle.line_command.specs.declared.ending.Ending.{Ending}
-use Rattle.line_command.specs.declared.ending.Ending.TheVariants as endings
+use Rattle.replay_command_base.specs.declared.ending.Ending.{Ending}
+use Rattle.replay_command_base.specs.declared.ending.Ending.TheVariants as endings
 use Rattle.session_judge.specs.declared.dialogue_event.DialogueEvent.{DialogueEvent}
 use Rattle.session_judge.specs.declared.rule.Rule.{Rule}
 use Rattle.session_judge.specs.declared.listener.Listener.{Listener}
@@ -13,8 +13,8 @@ use Rattle.session_judge.specs.Talks.{judgement_after, opening_judgement}
 use Rattle.std.specs.Prelude.{Ok, Err, IfSome}
 use Rattle.judge_report.specs.Texts.{unlawful_line}
 use Rattle.judge_report.specs.Reports.{ReportCourse, LineOutcome, brought_out, kind_of_log_line, of_dialogue_event, of_kind, report_before_end, with_outcome, read_on, over, report, last_lines}
-use Rattle.line_command.specs.Putting.{IsOfLine, Puts, FilterThen}
-use Rattle.line_command.specs.Putting as line_filter
+use Rattle.replay_command_base.specs.Putting.{IsOfLine, Puts, FilterThen}
+use Rattle.replay_command_base.specs.Putting as line_filter
 use Rattle.judge_report.specs.Judging.{judges}
 use Rattle.judge_report.specs.Reads.{ReportSoFar, ReportStops, ReportCloses, ReportComesTo, ReportReads, ReportEnds}
 

@@ -5,13 +5,13 @@ use Rattle.line_io.specs.Causes.{Rose}
 use Rattle.line_io.specs.Lines.{Piece, items}
 use Rattle.line_io.specs.Runs.{whole}
 use Rattle.line_io.specs.Source.{TakesPrefix}
-use Rattle.line_command.specs.declared.ending.Ending.{Ending}
-use Rattle.line_command.specs.declared.ending.Ending.TheVariants as endings
-use Rattle.line_command.specs.Diagnostics.{command_status, command_diagnostic}
-use Rattle.line_command.specs.Ran.{FilterRan, WritingBroke}
-use Rattle.line_command.specs.Reads.{Got, IsAll, AreFirst, AreRead}
-use Rattle.line_command.specs.Streams.{FilterStreams, AreSame, HasNoFault}
-use Rattle.line_command.specs.Filtered.{AreAll, FilterEndsBy}
+use Rattle.replay_command_base.specs.declared.ending.Ending.{Ending}
+use Rattle.replay_command_base.specs.declared.ending.Ending.TheVariants as endings
+use Rattle.replay_command_base.specs.Diagnostics.{command_status, command_diagnostic}
+use Rattle.replay_command_base.specs.Ran.{FilterRan, WritingBroke}
+use Rattle.replay_command_base.specs.Reads.{Got, IsAll, AreFirst, AreRead}
+use Rattle.replay_command_base.specs.Streams.{FilterStreams, AreSame, HasNoFault}
+use Rattle.replay_command_base.specs.Filtered.{AreAll, FilterEndsBy}
 use Rattle.session_judge.specs.declared.listener.Listener.{Listener}
 use Rattle.session_judge.specs.Talks.{opening_judgement}
 use Rattle.judge_report.specs.Reports.{ReportCourse, report, last_lines}

@@ -5,8 +5,8 @@ use Rattle.line_io.specs.Lines.{Piece, Whole, TooLong}
 use Rattle.script_lines.specs.Header.{header_of}
 use Rattle.script_lines.specs.Marks.{Mark, mark_spelled}
 use Rattle.script_lines.specs.StepLine.{step_of}
-use Rattle.line_command.specs.declared.ending.Ending.{Ending}
-use Rattle.line_command.specs.declared.ending.Ending.TheVariants as endings
+use Rattle.replay_command_base.specs.declared.ending.Ending.{Ending}
+use Rattle.replay_command_base.specs.declared.ending.Ending.TheVariants as endings
 use Rattle.session_judge.specs.declared.listener.Listener.{Listener}
 use Rattle.session_judge.specs.declared.dialogue_event.OrderKind.TheVariants as orders
 use Rattle.session_judge.specs.declared.dialogue_event.DialogueEvent.{DialogueEvent}

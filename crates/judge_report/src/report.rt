@@ -5,13 +5,13 @@ ghost use Rattle.line_io.specs.Out.{with};
 ghost use Rattle.session_judge.specs.Talks.{opening_judgement};
 ghost use Rattle.session_judge.specs.Rules.{broken};
 ghost use Rattle.judge_report.specs.Reads.{ReportEnds, ReportReads, ReportSoFar};
-ghost use Rattle.line_command.specs.Putting.{IsOfLine};
+ghost use Rattle.replay_command_base.specs.Putting.{IsOfLine};
 ghost use Rattle.judge_report.specs.Reports.{brought_out, is_passed, kind_of_log_line, last_lines, of_dialogue_event, of_kind};
 ghost use Rattle.judge_report.specs.declared.report.TheConstants.{LAST_LINES};
 
 use crate::text::{put_lawful, put_refusal, put_search};
-use line_command::{Ending, LineFilter};
 use line_io::Out;
+use replay_command_base::{Ending, LineFilter};
 use script_lines::{read_header, read_mark, read_step};
 use session_judge::{DialogueEvent, Judge, Listener, OrderKind, Search};
 use std::alloc::Global;

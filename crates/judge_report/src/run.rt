@@ -1,12 +1,12 @@
 // The run of a judge over an input.
 ghost use Rattle.std.specs.Prelude.{◌≡◌};
-ghost use Rattle.line_command.specs.Diagnostics.{command_status};
-ghost use Rattle.line_command.specs.Streams.{filter_streams};
+ghost use Rattle.replay_command_base.specs.Diagnostics.{command_status};
+ghost use Rattle.replay_command_base.specs.Streams.{filter_streams};
 ghost use Rattle.judge_report.specs.Judged.{Judged};
 
 use crate::report::Report;
-use line_command::{Ending, run_filter};
 use line_io::{Sink, Source};
+use replay_command_base::{Ending, run_filter};
 use session_judge::Listener;
 use std::alloc::Global;
 

@@ -9,7 +9,7 @@ ghost use Rattle.judge_report.specs.declared.report.TheConstants.{LAST_LINES};
 use chess_board::{Kind, Move};
 use itoa::Buffer;
 use line_io::Out;
-use peer_words::GoKind;
+use protocol_tokens::GoKind;
 use session_judge::{Judge, Rule, Search};
 
 fn put_number(word: &[u8], number: u64, out: &mut Out)

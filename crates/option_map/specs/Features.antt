@@ -7,7 +7,7 @@ use Rattle.option_map.specs.Names.{holds}
 use Rattle.option_map.specs.Settings.{OptionSetting, setting_kind_text, text_size}
 use Rattle.option_map.specs.Shown.{takes_memory, takes_cores, takes_tables}
 use Rattle.option_map.specs.declared.feature_list.TheConstants.{MOST_NAME, COMMON_BYTES}
-use Rattle.peer_words.specs.Bytes.{quote}
+use Rattle.protocol_tokens.specs.Bytes.{quote}
 use Rattle.line_io.specs.Lines.{line_feed}
 
 -- a name of an engine that cannot be shown

@@ -3,7 +3,7 @@ ghost use Rattle.std.specs.Prelude.{◌≡◌, ◌≤◌, ◌+◌, ◌||◌, len
 ghost use Rattle.std.specs.Fmt.{signed_decimal};
 ghost use Rattle.std.specs.Option.{option_map, option_and_then};
 ghost use Rattle.std.specs.Str.{bytes_eq};
-ghost use Rattle.peer_words.specs.Numbers.{signed_number};
+ghost use Rattle.protocol_tokens.specs.Numbers.{signed_number};
 ghost use Rattle.line_io.specs.Out.{with};
 ghost use Rattle.uci_lines.specs.Orders.{uci_order_of, uci_order_text, optional_now};
 ghost use Rattle.uci_lines.specs.Orders as orders;
@@ -21,7 +21,7 @@ use crate::order::{AskedOption, OptionValue};
 use crate::setting::{OptionSetting, SettingKind};
 use cecp_lines::IfaceMsg;
 use line_io::Out;
-use peer_words::{read_signed, trim};
+use protocol_tokens::{read_signed, trim};
 
 fn chosen<'a>(value: &[u8], choices: &'a [u8]) -> Option<&'a [u8]>
     ensures { optional_now result ≡ chosen value.now (choices_in choices.now) }

@@ -5,8 +5,8 @@ use Rattle.std.specs.List.{before_first}
 use Rattle.std.specs.Option.{option_map, option_and_then}
 use Rattle.std.specs.Map.{lookup}
 use Rattle.std.specs.Str.{bytes_eq}
-use Rattle.peer_words.specs.Bytes.{equals}
-use Rattle.peer_words.specs.Numbers.{digits}
+use Rattle.protocol_tokens.specs.Bytes.{equals}
+use Rattle.protocol_tokens.specs.Numbers.{digits}
 use Rattle.policy_rules.specs.Table.{name_of, range_of_setting, settings, with_choice}
 use Rattle.policy_rules.specs.declared.settings.Settings.{Settings}
 use Rattle.policy_rules.specs.declared.table.Setting.{Setting}

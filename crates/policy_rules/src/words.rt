@@ -4,7 +4,7 @@ ghost use Rattle.policy_rules.specs.Table.{IsWithinRange, range_of_setting};
 ghost use Rattle.policy_rules.specs.Words.{choice_of, is_equals, name_in, number_in_range, setting_named, truth_in, range_value};
 
 use crate::table::{Choice, Range, SETTINGS, Setting, Value};
-use peer_words::read_digits;
+use protocol_tokens::read_digits;
 
 /// The greatest number of digits of the number of a setting.
 const NUMBER_PLACES: usize = 6;

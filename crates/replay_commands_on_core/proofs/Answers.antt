@@ -4,9 +4,9 @@ use Rattle.std.specs.Io.KnownBytes.{Appends}
 use Rattle.line_io.specs.Causes.{Rose}
 use Rattle.line_io.specs.Lines.{Piece, items, piece_of}
 use Rattle.line_io.specs.Runs.{whole}
-use Rattle.line_command.specs.declared.ending.Ending.{Ending}
-use Rattle.line_command.specs.declared.ending.Ending.TheVariants as endings
-use Rattle.line_command.specs.Diagnostics.{command_status, command_diagnostic}
+use Rattle.replay_command_base.specs.declared.ending.Ending.{Ending}
+use Rattle.replay_command_base.specs.declared.ending.Ending.TheVariants as endings
+use Rattle.replay_command_base.specs.Diagnostics.{command_status, command_diagnostic}
 use Rattle.std.proofs.KnownBytes.{Appends-nil, Appends-trans}
 use Rattle.policy_rules.specs.declared.settings.Settings.{Settings}
 use Rattle.script_replay.specs.Versions.{Version, script_beginning, behind_header, events_by, replayed_events, fault_by, script_by, script_events, script_fault, settings_by, version_in}
@@ -17,16 +17,16 @@ use Rattle.std.proofs.Math.Seq.{take-append-add}
 use Rattle.trace_scripts.proofs.Scripts.{all_marked, same_trace}
 use Rattle.replay_commands_on_core.proofs.HeaderLines.{fault_version, script_behind, script_version}
 use Rattle.replay_commands_on_core.proofs.Replayed.{all_read, lines_behind, no_fault_in}
-use Rattle.line_command.specs.DiagnosticWritten.{DiagnosticWritten}
-use Rattle.line_command.specs.Reads.{AreFirst, AreRead, IsAll}
+use Rattle.replay_command_base.specs.DiagnosticWritten.{DiagnosticWritten}
+use Rattle.replay_command_base.specs.Reads.{AreFirst, AreRead, IsAll}
 use Rattle.replay_commands_on_core.specs.Replay.{EndsAs, IsScripted, ReplaysAll, ReplaysTo, ReplaysWhole, ReplaysMuch, ReplayCutShort}
-use Rattle.line_command.specs.Ran.{FilterRan, WritingBroke}
-use Rattle.line_command.specs.Streams.{FilterStreams, AreSame, HasNoFault}
+use Rattle.replay_command_base.specs.Ran.{FilterRan, WritingBroke}
+use Rattle.replay_command_base.specs.Streams.{FilterStreams, AreSame, HasNoFault}
 use Rattle.replay_commands_on_core.specs.Replayed.{IsTheSession, WritesScript, AllReplayed, ReplayFaultReported, WholeReplayed, MuchReplayed, ReplayPrefixWritten, CompletesReplay, ReplayReportsFault, IsProperIn, WritesItAgain, Replayed}
 use Rattle.replay_commands_on_core.specs.Laws.{HaveLaws}
 use Rattle.trace_scripts.specs.Script.{events}
 use Rattle.script_replay.proofs.VersionLines.{behind_more, not_none, one_fault, same_fault, no_fault}
-use Rattle.line_command.proofs.Readings.{few_got, whole_first}
+use Rattle.replay_command_base.proofs.Readings.{few_got, whole_first}
 
 module _ (o : Settings) (unread kept : Type 0) (start now : FilterStreams) where
   abbrev untouched : Type 0

@@ -3,13 +3,13 @@ use Rattle.std.proofs.Common.{◌≡◌, ℕ, ◌+◌, ◌<◌, ◌==◌, List, 
 use Rattle.line_io.specs.Taken.{Place, Taken}
 use Rattle.line_io.specs.declared.consumer.LinesEnd.TheVariants as ends
 use Rattle.policy_rules.specs.declared.settings.Settings.{Settings}
-use Rattle.line_command.specs.declared.ending.Ending.{Ending}
-use Rattle.line_command.specs.declared.ending.Ending.TheVariants as endings
-use Rattle.line_command.specs.Streams.{FilterStreams, with_input}
+use Rattle.replay_command_base.specs.declared.ending.Ending.{Ending}
+use Rattle.replay_command_base.specs.declared.ending.Ending.TheVariants as endings
+use Rattle.replay_command_base.specs.Streams.{FilterStreams, with_input}
 use Rattle.script_replay.specs.declared.stage.ScriptStage.{ScriptStage}
 use Rattle.script_replay.specs.declared.stage.ScriptStage.TheVariants as stages
 use Rattle.adapter_core.specs.Parts.{CoreParts}
-use Rattle.line_command.proofs.Readings.{ended_all, stopped_read}
+use Rattle.replay_command_base.proofs.Readings.{ended_all, stopped_read}
 use Rattle.replay_commands_on_core.specs.declared.check.Checker.{Checker}
 use Rattle.replay_commands_on_core.specs.Check.{Finds}
 use Rattle.replay_commands_on_core.specs.Walked.{CheckEndsAt, IsUnread, CheckMayTake, at_end as ending_at, checks}

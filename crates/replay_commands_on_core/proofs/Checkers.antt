@@ -15,17 +15,17 @@ use Rattle.adapter_core.specs.Represents.{Represents}
 use Rattle.trace_scripts.specs.Script.{written_text, script_events_in}
 use Rattle.trace_scripts.proofs.Lines.{written_lines, event_lines}
 use Rattle.trace_scripts.proofs.Scripts.{some_opened}
-use Rattle.line_command.specs.declared.ending.Ending.{Ending}
-use Rattle.line_command.specs.declared.ending.Ending.TheVariants as endings
+use Rattle.replay_command_base.specs.declared.ending.Ending.{Ending}
+use Rattle.replay_command_base.specs.declared.ending.Ending.TheVariants as endings
 use Rattle.script_replay.specs.declared.stage.ScriptStage.{ScriptStage}
 use Rattle.script_replay.specs.declared.stage.ScriptStage.TheVariants as stages
 use Rattle.replay_commands_on_core.specs.declared.check.Checker.{Checker}
 use Rattle.replay_commands_on_core.specs.Check.{lines_by, AreScript, BeginScript, ScriptBy, BeginBy, Parts, ByLine, AtEnd, BeginsWhole, BeginsMuch, Finds, line_kind_in}
 use Rattle.script_replay.specs.Versions.{Version, First, Second, version_by, version_in, HasNone}
 use Rattle.replay_commands_on_core.specs.Walked.{FillsDueLines, Heads, TakesFirst, TakesLater, TakesAny, OpensAtEnd, CheckEndsAt, IsUnread, CheckMayTake, Standing, Placed, LinesShow, Walked, checks}
-use Rattle.line_command.specs.Streams.{FilterStreams}
-use Rattle.line_command.specs.Reads.{Got, IsAll, AreRead}
-use Rattle.line_command.proofs.Readings.{whole_lines_read}
+use Rattle.replay_command_base.specs.Streams.{FilterStreams}
+use Rattle.replay_command_base.specs.Reads.{Got, IsAll, AreRead}
+use Rattle.replay_command_base.proofs.Readings.{whole_lines_read}
 use Rattle.replay_commands_on_core.proofs.ProperHeaders.{header_spells}
 use Rattle.replay_commands_on_core.proofs.Opens.{settings_at_first}
 use Rattle.replay_commands_on_core.proofs.StageLines.{unread_takes}

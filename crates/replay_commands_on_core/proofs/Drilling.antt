@@ -3,9 +3,9 @@ use Rattle.std.proofs.Common.{◌≡◌, ◌⊎◌, ℕ, inl, inr}
 use Rattle.line_io.specs.Causes.{Rose}
 use Rattle.line_io.specs.Source.{Received}
 use Rattle.replay_commands_on_core.specs.Drilled.{Drilled, PlaysDrill, DrillsAll, DrillsPrefix, Plays, WantsMemory}
-use Rattle.line_command.specs.Streams.{FilterStreams}
-use Rattle.drill.proofs.Alike.{drills_alike}
-use Rattle.line_command.proofs.Announcing as announced
+use Rattle.replay_command_base.specs.Streams.{FilterStreams}
+use Rattle.random_games.proofs.Alike.{drills_alike}
+use Rattle.replay_command_base.proofs.Announcing as announced
 
 module _ (number count : ℕ) (kept silent : Type 0) (code : ℕ) (output output_now diag diag_now : Received) where
   abbrev P : Type 0

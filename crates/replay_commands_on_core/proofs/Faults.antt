@@ -12,7 +12,7 @@ use Rattle.adapter_core.specs.Trace.{Step, state}
 use Rattle.trace_scripts.specs.Script.{events, marked_events}
 use Rattle.trace_scripts.proofs.Numbered.{header_quiet}
 use Rattle.trace_scripts.proofs.Scripts.{later_events, events_later}
-use Rattle.line_command.specs.declared.ending.Ending.TheVariants as endings
+use Rattle.replay_command_base.specs.declared.ending.Ending.TheVariants as endings
 use Rattle.script_replay.specs.declared.stage.ScriptStage.{ScriptStage}
 use Rattle.script_replay.specs.declared.stage.ScriptStage.TheVariants as stages
 use Rattle.replay_commands_on_core.specs.Check.{lines_by, BeginBy, BeginScript, AwaitBy, AwaitEvent, line_kind_in, kind_under}

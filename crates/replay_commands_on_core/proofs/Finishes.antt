@@ -8,18 +8,18 @@ use Rattle.line_io.specs.Taken.{Place, Taken}
 use Rattle.line_io.specs.declared.consumer.LinesEnd.TheVariants as ends
 use Rattle.policy_rules.specs.declared.settings.Settings.{Settings}
 use Rattle.adapter_core.specs.Parts.{CoreParts}
-use Rattle.line_command.specs.declared.ending.Ending.{Ending}
-use Rattle.line_command.specs.declared.ending.Ending.TheVariants as endings
+use Rattle.replay_command_base.specs.declared.ending.Ending.{Ending}
+use Rattle.replay_command_base.specs.declared.ending.Ending.TheVariants as endings
 use Rattle.script_replay.specs.declared.player.Player.{Player}
 use Rattle.script_replay.specs.declared.stage.ScriptStage.{ScriptStage}
-use Rattle.line_command.specs.Streams.{FilterStreams, filter_streams}
+use Rattle.replay_command_base.specs.Streams.{FilterStreams, filter_streams}
 use Rattle.script_replay.specs.Versions.{script_fault}
 use Rattle.script_replay.specs.Playing.{OutputIsScript, ReplayTook}
 use Rattle.script_replay.specs.Replaying.{IsFresh, ReplayBroke, ReplayFinished, ReplayLeft, replays}
-use Rattle.line_command.specs.Reads.{AreFirst, AreRead, IsAll}
-use Rattle.line_command.specs.Ran.{Causes}
+use Rattle.replay_command_base.specs.Reads.{AreFirst, AreRead, IsAll}
+use Rattle.replay_command_base.specs.Ran.{Causes}
 use Rattle.replay_commands_on_core.specs.Replay.{ReplaysTo, ReplaysWhole, Stopped}
-use Rattle.line_command.proofs.Readings.{ended_all, ended_read, read_prefix, stopped_read, whole_read}
+use Rattle.replay_command_base.proofs.Readings.{ended_all, ended_read, read_prefix, stopped_read, whole_read}
 use Rattle.script_replay.proofs.LineFaults.{IsLineFault, no_cut, no_reading, script_has}
 
 to_fault : (o : Settings) (start now : FilterStreams) (f : Ending) → IsLineFault f → ReplaysTo o f start now → Stopped o f start now

@@ -10,7 +10,7 @@ use Rattle.script_lines.proofs.Headers.{header_again, header_length}
 use Rattle.adapter_core.specs.Trace.{Step, iface_text, engine_text}
 use Rattle.trace_scripts.proofs.Lines.{AreMarked, behind, event_lines, lines_of, script1_lines, step_lines, written_lines}
 use Rattle.trace_scripts.proofs.Numbered.{numbered_lines, script2_lines}
-use Rattle.line_command.specs.declared.ending.Ending.{Ending}
+use Rattle.replay_command_base.specs.declared.ending.Ending.{Ending}
 use Rattle.script_replay.specs.Versions.{Version, First, Second, version_by, version_in, behind_header, script_by, script_fault}
 use Rattle.script_replay.proofs.VersionLines.{version_stays}
 use Rattle.replay_commands_on_core.specs.Replayed.{IsProperIn}

@@ -7,10 +7,10 @@ use Rattle.chess_board.specs.Position.{Position}
 use Rattle.fen_text.specs.declared.fault.FenFault.{FenFault}
 use Rattle.replay_commands_on_core.specs.Moves.{WritesMoves, move_lines, Lists, WantsMemory, Refuses, Writes_all, ListsAll, ListsPrefix, FindsNoPosition}
 use Rattle.fen_text.specs.Fen.{position_of}
-use Rattle.line_command.specs.Diagnostics.{position_fault}
+use Rattle.replay_command_base.specs.Diagnostics.{position_fault}
 use Rattle.replay_commands_on_core.specs.Listed.{Listed}
-use Rattle.line_command.specs.Streams.{FilterStreams}
-use Rattle.line_command.proofs.Announcing as announced
+use Rattle.replay_command_base.specs.Streams.{FilterStreams}
+use Rattle.replay_command_base.proofs.Announcing as announced
 
 module _ (spelled : Result Position FenFault) (kept silent : Type 0) (code : ℕ) (output output_now diag diag_now : Received) where
   abbrev L : Type 0

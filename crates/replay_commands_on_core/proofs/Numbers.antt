@@ -17,8 +17,8 @@ use Rattle.adapter_core.specs.Parts.{CoreParts}
 use Rattle.trace_scripts.proofs.Lines.{written_lines}
 use Rattle.trace_scripts.proofs.Numbered.{number_line}
 use Rattle.trace_scripts.proofs.Scripts.{event_line, some_opened}
-use Rattle.line_command.specs.declared.ending.Ending.{Ending}
-use Rattle.line_command.specs.declared.ending.Ending.TheVariants as endings
+use Rattle.replay_command_base.specs.declared.ending.Ending.{Ending}
+use Rattle.replay_command_base.specs.declared.ending.Ending.TheVariants as endings
 use Rattle.script_replay.specs.declared.stage.ScriptStage.{ScriptStage}
 use Rattle.script_replay.specs.declared.stage.ScriptStage.TheVariants as stages
 use Rattle.replay_commands_on_core.specs.Check.{lines_before, lines_by, BeginBy, AwaitBy, line_kind_in}

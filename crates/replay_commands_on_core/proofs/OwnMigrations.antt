@@ -14,7 +14,7 @@ use Rattle.adapter_core.specs.Trace.{Step, LawfulTrace, state, iface_text, engin
 use Rattle.trace_scripts.specs.OneWay.{IsOpened}
 use Rattle.trace_scripts.proofs.Lines.{marked}
 use Rattle.trace_scripts.proofs.Scripts.{some_opened, only_open}
-use Rattle.line_command.specs.Streams.{FilterStreams}
+use Rattle.replay_command_base.specs.Streams.{FilterStreams}
 use Rattle.trace_laws.specs.OneLine.{IsOneLogLine, WritesLines}
 use Rattle.trace_laws.proofs.OneLine.{write_lines}
 use Rattle.judge_and_driver_laws.proofs.Marked.{can_be_marked, reply_parts, order_parts}

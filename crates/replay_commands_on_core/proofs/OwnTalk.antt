@@ -18,8 +18,8 @@ use Rattle.trace_scripts.specs.Script.{script1, script2}
 use Rattle.trace_scripts.proofs.Lines.{lines_of, script1_lines}
 use Rattle.trace_scripts.proofs.Numbered.{numbered_lines, script2_lines}
 use Rattle.trace_scripts.proofs.Scripts.{all_marked}
-use Rattle.line_command.specs.declared.ending.Ending.{Ending}
-use Rattle.line_command.specs.Streams.{FilterStreams}
+use Rattle.replay_command_base.specs.declared.ending.Ending.{Ending}
+use Rattle.replay_command_base.specs.Streams.{FilterStreams}
 use Rattle.script_replay.specs.Versions.{Version, First, Second, script_by, settings_by}
 use Rattle.session_judge.specs.declared.listener.Listener.{Listener}
 use Rattle.session_judge.specs.declared.rule.Rule.{Rule}
@@ -28,7 +28,7 @@ use Rattle.session_judge.specs.DialogueEvents.{dialogue_event_of}
 use Rattle.session_judge.specs.Talks.{opening_judgement}
 use Rattle.judge_report.specs.Texts.{search_report, crossings_line, lawful_line}
 use Rattle.judge_report.specs.Reports.{LogLineKind, Passes, HasNone, ReportCourse, log_line_kind_by, is_passed, of_dialogue_event, of_kind, with_outcome, read_on, over, report}
-use Rattle.line_command.specs.declared.ending.Ending.TheVariants as endings
+use Rattle.replay_command_base.specs.declared.ending.Ending.TheVariants as endings
 use Rattle.judge_report.specs.Judged.{AllJudged, FaultFound, Judged, whole_report}
 use Rattle.judge_and_driver_laws.specs.Scripts.{marks_in_text}
 use Rattle.judge_and_driver_laws.proofs.Runs.{Runs}

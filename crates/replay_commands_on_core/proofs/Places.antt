@@ -19,8 +19,8 @@ use Rattle.adapter_core.specs.Parts.{CoreParts}
 use Rattle.trace_scripts.specs.Script.{written_text, script_events_in, marked_events}
 use Rattle.trace_scripts.proofs.Lines.{written_lines, written_parts, step_lines}
 use Rattle.trace_scripts.proofs.Scripts.{event_line, some_opened, written_quiet}
-use Rattle.line_command.specs.declared.ending.Ending.{Ending}
-use Rattle.line_command.specs.declared.ending.Ending.TheVariants as endings
+use Rattle.replay_command_base.specs.declared.ending.Ending.{Ending}
+use Rattle.replay_command_base.specs.declared.ending.Ending.TheVariants as endings
 use Rattle.script_replay.specs.declared.stage.ScriptStage.{ScriptStage}
 use Rattle.script_replay.specs.declared.stage.ScriptStage.TheVariants as stages
 use Rattle.replay_commands_on_core.specs.Check.{lines_by, ScriptBy, BeginBy, AwaitBy, line_kind_in, kind_under}

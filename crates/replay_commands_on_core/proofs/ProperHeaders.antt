@@ -3,8 +3,8 @@ use Rattle.std.proofs.Common.{◌≡◌, ℕ, ◌+◌, List, [], ◌∷◌, take
 use Rattle.std.specs.List.{AllByRecursion}
 use Rattle.std.proofs.lemmas.Bool.{leb-true}
 use Rattle.std.specs.Str.{bytes_eq}
-use Rattle.peer_words.specs.Numbers.{digits}
-use Rattle.peer_words.specs.Tokens.{rest_after_token, tokens}
+use Rattle.protocol_tokens.specs.Numbers.{digits}
+use Rattle.protocol_tokens.specs.Tokens.{rest_after_token, tokens}
 use Rattle.policy_rules.specs.declared.settings.Settings.{Settings}
 use Rattle.policy_rules.specs.declared.table.Setting.{Setting}
 use Rattle.policy_rules.specs.declared.table.Setting.TheVariants as names

@@ -21,7 +21,7 @@ use Rattle.trace_scripts.proofs.Short.{HaveMarks, written_marked}
 use Rattle.trace_scripts.proofs.Lines.{behind, written_lines, event_lines, lines_of}
 use Rattle.trace_scripts.proofs.Numbered.{number_line, numbered_lines, numbered_lines_added}
 use Rattle.trace_scripts.proofs.Scripts.{goes_on, lines_added, later_event, later_events, some_opened, events_later, event_line, one_later, only_open}
-use Rattle.line_command.specs.declared.ending.Ending.{Ending}
+use Rattle.replay_command_base.specs.declared.ending.Ending.{Ending}
 use Rattle.script_replay.specs.declared.stage.ScriptStage.{ScriptStage}
 use Rattle.script_replay.specs.declared.stage.ScriptStage.TheVariants as stages
 use Rattle.script_replay.specs.Versions.{MarksEvent, Writes, Numbers, script_line_kind_by, kind_of_script_line, Version, First, Second, header_lines, settings_by, ScriptPlace, LineSaid, Comes, Passes, Starts, IsOutOfStep, Cannot, kind_says, line_says, place_said, place_over, fault_said, or_later, first_fault, events_said, replayed_events, ends_once_open, script_beginning}

@@ -6,21 +6,21 @@ use Rattle.line_io.specs.Causes.{Rose}
 use Rattle.line_io.specs.Lines.{Piece, items}
 use Rattle.line_io.specs.Source.{TakesPrefix}
 use Rattle.policy_rules.specs.declared.settings.Settings.{Settings}
-use Rattle.line_command.specs.declared.ending.Ending.{Ending}
-use Rattle.line_command.specs.declared.ending.Ending.TheVariants as endings
-use Rattle.line_command.specs.Diagnostics.{command_status, command_diagnostic}
+use Rattle.replay_command_base.specs.declared.ending.Ending.{Ending}
+use Rattle.replay_command_base.specs.declared.ending.Ending.TheVariants as endings
+use Rattle.replay_command_base.specs.Diagnostics.{command_status, command_diagnostic}
 use Rattle.replay_commands_on_core.specs.Verdict.{check_verdict}
-use Rattle.line_command.specs.Reads.{AreFirst, IsAll}
+use Rattle.replay_command_base.specs.Reads.{AreFirst, IsAll}
 use Rattle.script_replay.specs.Versions.{Version, version_in, script_fault}
 use Rattle.replay_commands_on_core.proofs.Faults.{no_bare, may_behind, version_prefix}
 use Rattle.replay_commands_on_core.specs.Check.{AreScript, BeginBy, BeginScript, Parts, Differs, ByLine, AtEnd, BeginsWhole, BeginsMuch, Finds, ChecksAs, WritesPart}
-use Rattle.line_command.specs.DiagnosticWritten.{DiagnosticWritten}
+use Rattle.replay_command_base.specs.DiagnosticWritten.{DiagnosticWritten}
 use Rattle.replay_commands_on_core.specs.Verdict.{VerdictWrote}
 use Rattle.replay_commands_on_core.specs.Laws.{HaveLaws}
-use Rattle.line_command.specs.Ran.{FilterRan, WritingBroke}
+use Rattle.replay_command_base.specs.Ran.{FilterRan, WritingBroke}
 use Rattle.replay_commands_on_core.specs.Checked.{InputFoundLawful, FoundDifference, FoundBadLine, IsExactCheck, CompletesCheck, CompletesMarked, Checked}
-use Rattle.line_command.specs.Streams.{FilterStreams, AreSame, HasNoFault}
-use Rattle.line_command.proofs.Readings.{few_got}
+use Rattle.replay_command_base.specs.Streams.{FilterStreams, AreSame, HasNoFault}
+use Rattle.replay_command_base.proofs.Readings.{few_got}
 
 module _ (o : Settings) (unread kept : Type 0) (start now : FilterStreams) where
   abbrev Ends : Ending → Type 0

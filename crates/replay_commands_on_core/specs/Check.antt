@@ -12,13 +12,13 @@ use Rattle.line_io.specs.Source.{TakesPrefix}
 use Rattle.policy_rules.specs.declared.settings.Settings.{Settings}
 use Rattle.adapter_core.specs.Ends.{are_both_ended, may}
 use Rattle.adapter_core.specs.Trace.{Step, LawfulTrace, state}
-use Rattle.line_command.specs.declared.ending.Ending.{Ending}
-use Rattle.line_command.specs.declared.ending.Ending.TheVariants as endings
+use Rattle.replay_command_base.specs.declared.ending.Ending.{Ending}
+use Rattle.replay_command_base.specs.declared.ending.Ending.TheVariants as endings
 use Rattle.replay_commands_on_core.specs.Verdict.{check_verdict}
-use Rattle.line_command.specs.Streams.{FilterStreams}
+use Rattle.replay_command_base.specs.Streams.{FilterStreams}
 use Rattle.script_replay.specs.Versions.{LineKind, MarksEvent, Writes, HasNone, kind_of_script_line, Version}
 use Rattle.script_replay.specs.Versions.{First, Second, version_in, settings_by, script_by}
-use Rattle.line_command.specs.Reads.{Got, IsAll, AreRead, AreFirst}
+use Rattle.replay_command_base.specs.Reads.{Got, IsAll, AreRead, AreFirst}
 use Rattle.line_io.specs.declared.limits.TheConstants.{SCRIPT_LINE}
 
 -- the lines of a script: none of them is too long

@@ -4,15 +4,15 @@ use Rattle.std.specs.Io.KnownBytes.{Appends}
 use Rattle.line_io.specs.Causes.{Rose}
 use Rattle.line_io.specs.Lines.{items}
 use Rattle.policy_rules.specs.declared.settings.Settings.{Settings}
-use Rattle.line_command.specs.declared.ending.Ending.{Ending}
-use Rattle.line_command.specs.declared.ending.Ending.TheVariants as endings
+use Rattle.replay_command_base.specs.declared.ending.Ending.{Ending}
+use Rattle.replay_command_base.specs.declared.ending.Ending.TheVariants as endings
 use Rattle.replay_commands_on_core.specs.Check.{AreScript, BeginsWhole, BeginsMuch, ChecksAs}
 use Rattle.replay_commands_on_core.specs.Check.{Differs, Finds, IsLawfulScript, WritesPart}
-use Rattle.line_command.specs.Diagnostics.{command_status, command_diagnostic}
+use Rattle.replay_command_base.specs.Diagnostics.{command_status, command_diagnostic}
 use Rattle.replay_commands_on_core.specs.Verdict.{check_verdict}
 use Rattle.replay_commands_on_core.specs.Laws.{HaveLaws}
-use Rattle.line_command.specs.Ran.{FilterRan, WritingBroke}
-use Rattle.line_command.specs.Streams.{FilterStreams, AreSame, HasNoFault}
+use Rattle.replay_command_base.specs.Ran.{FilterRan, WritingBroke}
+use Rattle.replay_command_base.specs.Streams.{FilterStreams, AreSame, HasNoFault}
 use Rattle.script_replay.specs.Versions.{script_fault}
 use Rattle.line_io.specs.declared.limits.TheConstants.{SCRIPT_LINE}
 

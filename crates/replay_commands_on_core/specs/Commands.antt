@@ -14,8 +14,8 @@ use Rattle.policy_rules.specs.Policy.{IsProper}
 use Rattle.replay_commands_on_core.specs.Moves.{fen_argument}
 use Rattle.policy_rules.specs.Words.{number_in_range}
 use Rattle.replay_commands_on_core.specs.Words.{settings_of}
-use Rattle.drill.specs.declared.generator.TheConstants.{MODULUS}
-use Rattle.drill.specs.declared.run.TheConstants.{MOST_ROUNDS}
+use Rattle.random_games.specs.declared.generator.TheConstants.{MODULUS}
+use Rattle.random_games.specs.declared.run.TheConstants.{MOST_ROUNDS}
 
 -- what is asked for: a replay, a check, a migration, the games or the positions with settings, a
 -- judgement of the log that this one wrote, a script played to an engine of so many lives or to a

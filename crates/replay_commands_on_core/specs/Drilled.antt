@@ -2,12 +2,12 @@
 use Rattle.std.specs.Prelude.{◌≡◌, ◌⊎◌, ℕ, List}
 use Rattle.std.specs.Io.KnownBytes.{Appends}
 use Rattle.line_io.specs.Source.{Received, TakesPrefix}
-use Rattle.drill.specs.Played.{Drills}
-use Rattle.line_command.specs.declared.ending.Ending.TheVariants as endings
-use Rattle.line_command.specs.Diagnostics.{tail_of}
-use Rattle.line_command.specs.Ran.{WritingBroke}
-use Rattle.line_command.specs.Streams.{FilterStreams, HasNoFault}
-use Rattle.line_command.specs.DiagnosticWritten.{DiagnosticWritten, LinesWritten}
+use Rattle.random_games.specs.Played.{Drills}
+use Rattle.replay_command_base.specs.declared.ending.Ending.TheVariants as endings
+use Rattle.replay_command_base.specs.Diagnostics.{tail_of}
+use Rattle.replay_command_base.specs.Ran.{WritingBroke}
+use Rattle.replay_command_base.specs.Streams.{FilterStreams, HasNoFault}
+use Rattle.replay_command_base.specs.DiagnosticWritten.{DiagnosticWritten, LinesWritten}
 
 -- The course of a drill. Nothing is written to the output if there is no memory.
 pub data PlaysDrill (number count : ℕ) (kept silent : Type 0) (code : ℕ)

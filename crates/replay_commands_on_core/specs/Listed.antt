@@ -4,10 +4,10 @@ use Rattle.std.specs.Io.KnownBytes.{Appends}
 use Rattle.chess_board.specs.Position.{Position}
 use Rattle.fen_text.specs.Fen.{position_of}
 use Rattle.fen_text.specs.declared.fault.FenFault.{FenFault}
-use Rattle.line_command.specs.Diagnostics.{position_fault}
+use Rattle.replay_command_base.specs.Diagnostics.{position_fault}
 use Rattle.replay_commands_on_core.specs.Moves.{FindsNoPosition, Lists, ListsAll, ListsPrefix}
-use Rattle.line_command.specs.Ran.{WritingBroke}
-use Rattle.line_command.specs.Streams.{FilterStreams, HasNoFault}
+use Rattle.replay_command_base.specs.Ran.{WritingBroke}
+use Rattle.replay_command_base.specs.Streams.{FilterStreams, HasNoFault}
 
 -- The moves of a text that spells a position are written, or there was no memory.
 abbrev pub CompletesList : Result Position FenFault → FilterStreams → FilterStreams → ℕ → Type 0

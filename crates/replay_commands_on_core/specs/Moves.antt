@@ -7,10 +7,10 @@ use Rattle.chess_board.specs.declared.board.Move.{Move}
 use Rattle.chess_board.specs.Position.{Position}
 use Rattle.chess_board.specs.Text.{text_of_move, AreLegalMoves}
 use Rattle.fen_text.specs.declared.fault.FenFault.{FenFault}
-use Rattle.line_command.specs.declared.ending.Ending.TheVariants as endings
-use Rattle.line_command.specs.Diagnostics.{one_line, position_fault, tail_of}
-use Rattle.line_command.specs.DiagnosticWritten.{DiagnosticWritten, LinesWritten}
-use Rattle.peer_words.specs.Bytes.{blank}
+use Rattle.replay_command_base.specs.declared.ending.Ending.TheVariants as endings
+use Rattle.replay_command_base.specs.Diagnostics.{one_line, position_fault, tail_of}
+use Rattle.replay_command_base.specs.DiagnosticWritten.{DiagnosticWritten, LinesWritten}
+use Rattle.protocol_tokens.specs.Bytes.{blank}
 
 -- each word after a blank
 abbrev pub behind_blanks : List (List ℕ) → List ℕ

@@ -7,7 +7,7 @@ use Rattle.policy_rules.specs.declared.settings.Settings.{Settings}
 use Rattle.adapter_core.specs.Trace.{Step, LawfulTrace}
 use Rattle.trace_scripts.specs.OneWay.{IsOpened}
 use Rattle.trace_scripts.specs.Script.{script1, script2}
-use Rattle.line_command.specs.Streams.{FilterStreams, HasNoFault}
+use Rattle.replay_command_base.specs.Streams.{FilterStreams, HasNoFault}
 use Rattle.session_judge.specs.declared.listener.Listener.{Listener}
 use Rattle.judge_report.specs.Reports.{report}
 use Rattle.judge_report.specs.Texts.{lawful_line, search_report}

@@ -6,13 +6,13 @@ use Rattle.line_io.specs.Runs.{whole}
 use Rattle.policy_rules.specs.declared.settings.Settings.{Settings}
 use Rattle.adapter_core.specs.Trace.{Step, LawfulTrace}
 use Rattle.trace_scripts.specs.Script.{events}
-use Rattle.line_command.specs.Reads.{Got, IsAll, AreFirst, AreRead}
-use Rattle.line_command.specs.Streams.{FilterStreams}
+use Rattle.replay_command_base.specs.Reads.{Got, IsAll, AreFirst, AreRead}
+use Rattle.replay_command_base.specs.Streams.{FilterStreams}
 use Rattle.script_replay.specs.Playing.{OutputIsScript}
 use Rattle.script_replay.specs.Versions.{script_by, script_events}
 use Rattle.script_replay.specs.Versions.{script_fault, settings_by, version_in}
-use Rattle.line_command.specs.declared.ending.Ending.{Ending}
-use Rattle.line_command.specs.declared.ending.Ending.TheVariants as endings
+use Rattle.replay_command_base.specs.declared.ending.Ending.{Ending}
+use Rattle.replay_command_base.specs.declared.ending.Ending.TheVariants as endings
 use Rattle.line_io.specs.declared.limits.TheConstants.{SCRIPT_LINE}
 
 -- the output got the script of a lawful trace whose events are those of the lines

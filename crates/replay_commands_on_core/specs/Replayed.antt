@@ -10,13 +10,13 @@ use Rattle.policy_rules.specs.Policy.{IsProper}
 use Rattle.policy_rules.specs.declared.settings.Settings.{Settings}
 use Rattle.adapter_core.specs.Trace.{Step, LawfulTrace, state}
 use Rattle.trace_scripts.specs.Script.{events, StepLinesAreShort}
-use Rattle.line_command.specs.declared.ending.Ending.{Ending}
-use Rattle.line_command.specs.Diagnostics.{command_diagnostic}
+use Rattle.replay_command_base.specs.declared.ending.Ending.{Ending}
+use Rattle.replay_command_base.specs.Diagnostics.{command_diagnostic}
 use Rattle.replay_commands_on_core.specs.Laws.{HaveLaws}
-use Rattle.line_command.specs.Ran.{FilterRan, WritingBroke}
-use Rattle.line_command.specs.Reads.{AreFirst, AreRead, Got, IsAll}
+use Rattle.replay_command_base.specs.Ran.{FilterRan, WritingBroke}
+use Rattle.replay_command_base.specs.Reads.{AreFirst, AreRead, Got, IsAll}
 use Rattle.replay_commands_on_core.specs.Replay.{EndsAs}
-use Rattle.line_command.specs.Streams.{FilterStreams, AreSame, HasNoFault}
+use Rattle.replay_command_base.specs.Streams.{FilterStreams, AreSame, HasNoFault}
 use Rattle.script_replay.specs.Versions.{Version, First, Second, script_by, script_events}
 use Rattle.script_replay.specs.Versions.{script_fault, settings_by, version_in}
 use Rattle.line_io.specs.declared.limits.TheConstants.{SCRIPT_LINE}

@@ -15,16 +15,16 @@ use Rattle.adapter_core.specs.Trace.{Step, LawfulTrace, state}
 use Rattle.adapter_core.specs.Parts.{CoreParts}
 use Rattle.adapter_core.specs.Represents.{Represents}
 use Rattle.trace_scripts.specs.Script.{written_text, script_events_in}
-use Rattle.line_command.specs.declared.ending.Ending.{Ending}
-use Rattle.line_command.specs.declared.ending.Ending.TheVariants as endings
+use Rattle.replay_command_base.specs.declared.ending.Ending.{Ending}
+use Rattle.replay_command_base.specs.declared.ending.Ending.TheVariants as endings
 use Rattle.replay_commands_on_core.specs.declared.check.Checker.{Checker}
 use Rattle.script_replay.specs.declared.stage.ScriptStage.{ScriptStage}
 use Rattle.script_replay.specs.declared.stage.ScriptStage.TheVariants as stages
 use Rattle.replay_commands_on_core.specs.Check.{Finds, lines_by}
 use Rattle.replay_commands_on_core.specs.Replayed.{IsProperIn}
 use Rattle.script_replay.specs.Playing.{StepExtends}
-use Rattle.line_command.specs.Streams.{FilterStreams}
-use Rattle.line_command.specs.Reads.{AreRead}
+use Rattle.replay_command_base.specs.Streams.{FilterStreams}
+use Rattle.replay_command_base.specs.Reads.{AreRead}
 use Rattle.script_replay.specs.Versions.{LineKind, MarksEvent, LineSaid, Comes, Passes}
 use Rattle.script_replay.specs.Versions.{Starts, HasNoMark, IsOutOfStep, Cannot, Version}
 use Rattle.script_replay.specs.Versions.{First, Second, kind_of_script_line, kind_says, settings_by}

@@ -10,22 +10,22 @@ ghost use Rattle.policy_rules.specs.Policy.{IsProper};
 ghost use Rattle.policy_rules.specs.declared.settings.Settings.{Settings as AnySettings};
 ghost use Rattle.adapter_core.specs.Ends.{may};
 ghost use Rattle.adapter_core.specs.Represents.{Represents};
-ghost use Rattle.line_command.specs.declared.ending.Ending.TheVariants as endings;
+ghost use Rattle.replay_command_base.specs.declared.ending.Ending.TheVariants as endings;
 ghost use Rattle.replay_commands_on_core.specs.Check.{ChecksAs, Finds};
-ghost use Rattle.line_command.specs.Diagnostics.{command_status};
-ghost use Rattle.line_command.specs.Ran.{FilterRan};
-ghost use Rattle.line_command.specs.Streams.{FilterStreams, filter_streams, with_input};
+ghost use Rattle.replay_command_base.specs.Diagnostics.{command_status};
+ghost use Rattle.replay_command_base.specs.Ran.{FilterRan};
+ghost use Rattle.replay_command_base.specs.Streams.{FilterStreams, filter_streams, with_input};
 ghost use Rattle.replay_commands_on_core.specs.Walked.{CheckEndsAt, FillsDueLines, astray, Followed, Heads, StageIsOpen, IsUnread, CheckMayTake, TakesAny, TakesFirst, fault_in, fit, number_undue, undue};
 ghost use Rattle.line_io.specs.declared.limits.TheConstants.{SCRIPT_LINE};
 
 use crate::expected_lines::ExpectedLines;
 use crate::verdict::write_verdict;
 use adapter_core::Core;
-use line_command::{Ending, report_ending, report_without_buffer};
 use line_io::{
     Event, LineConsumer, Lines, LinesEnd, NoMemory, Out, SCRIPT_LINE, Sink, Source, take_lines,
 };
 use policy_rules::Settings;
+use replay_command_base::{Ending, report_ending, report_without_buffer};
 use script_lines::{Mark, read_header, read_mark};
 use script_replay::{LineSaid, ScriptStage};
 use std::alloc::Global;

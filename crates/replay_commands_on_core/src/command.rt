@@ -4,9 +4,9 @@ ghost use Rattle.std.specs.Option.{option_map};
 ghost use Rattle.replay_commands_on_core.specs.Commands.{Drive, HasProper, command_without_arguments, request_by_command, command_by, replay_command_of, command_named, drill_of, judge_of, moves_of, revive_of, argument_bytes};
 
 use crate::settings::read_settings;
-use drill::{MODULUS, MOST_ROUNDS};
-use peer_words::named;
 use policy_rules::{Settings, read_number};
+use protocol_tokens::named;
+use random_games::{MODULUS, MOST_ROUNDS};
 use session_judge::Listener;
 
 /// The command in the program's arguments.

@@ -5,14 +5,14 @@ ghost use Rattle.chess_board.specs.declared.board.Move.{Move as AnyMove};
 ghost use Rattle.chess_board.specs.Text.{IsOfficer, text_of_move};
 ghost use Rattle.fen_text.specs.Fen.{position_of};
 ghost use Rattle.replay_commands_on_core.specs.Commands.{argument_bytes};
-ghost use Rattle.line_command.specs.Diagnostics.{command_status, one_line};
+ghost use Rattle.replay_command_base.specs.Diagnostics.{command_status, one_line};
 ghost use Rattle.replay_commands_on_core.specs.Moves.{Lists, WritesMoves, fen_argument, move_lines};
 ghost use Rattle.replay_commands_on_core.specs.declared.moves.TheConstants.{LINES_ROOM};
 
 use chess_board::{Move, Position, move_texts_are_exact, move_texts_are_short, write_move};
 use fen_text::read_fen;
-use line_command::{Ending, report_without_buffer, write_lines};
 use line_io::{NoMemory, Out, Sink};
+use replay_command_base::{Ending, report_without_buffer, write_lines};
 use std::alloc::Global;
 
 // A position has at most 512 legal moves, each of at most five bytes and a line feed.

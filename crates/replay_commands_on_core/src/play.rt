@@ -1,12 +1,12 @@
 // The command `drill`.
 ghost use Rattle.std.specs.Prelude.{◌≡◌, ◌≤◌};
 ghost use Rattle.replay_commands_on_core.specs.Drilled.{PlaysDrill};
-ghost use Rattle.line_command.specs.Diagnostics.{command_status};
-ghost use Rattle.drill.specs.declared.run.TheConstants.{MOST_ROUNDS};
+ghost use Rattle.replay_command_base.specs.Diagnostics.{command_status};
+ghost use Rattle.random_games.specs.declared.run.TheConstants.{MOST_ROUNDS};
 
-use drill::drill_line;
-use line_command::{Ending, report_without_buffer, write_lines};
 use line_io::Sink;
+use random_games::drill_line;
+use replay_command_base::{Ending, report_without_buffer, write_lines};
 use std::alloc::Global;
 
 /// Plays the drill of a number with so many rounds, and writes its line.

@@ -4,18 +4,18 @@ ghost use Rattle.line_io.specs.Lines.{empty_reader};
 ghost use Rattle.line_io.specs.Source.{Received};
 ghost use Rattle.policy_rules.specs.Policy.{IsProper};
 ghost use Rattle.policy_rules.specs.declared.settings.Settings.{Settings as AnySettings};
-ghost use Rattle.line_command.specs.Diagnostics.{command_status, command_diagnostic};
-ghost use Rattle.line_command.specs.Ran.{Causes, FilterRan};
+ghost use Rattle.replay_command_base.specs.Diagnostics.{command_status, command_diagnostic};
+ghost use Rattle.replay_command_base.specs.Ran.{Causes, FilterRan};
 ghost use Rattle.replay_commands_on_core.specs.Replay.{EndsAs, Stopped};
 ghost use Rattle.script_replay.specs.Replaying.{IsFresh};
-ghost use Rattle.line_command.specs.Streams.{filter_streams};
-ghost use Rattle.line_command.specs.DiagnosticWritten.{DiagnosticWritten};
+ghost use Rattle.replay_command_base.specs.Streams.{filter_streams};
+ghost use Rattle.replay_command_base.specs.DiagnosticWritten.{DiagnosticWritten};
 ghost use Rattle.line_io.specs.declared.limits.TheConstants.{SCRIPT_LINE};
-ghost use Rattle.line_command.specs.declared.limits.TheConstants.{TEXT_ROOM};
+ghost use Rattle.replay_command_base.specs.declared.limits.TheConstants.{TEXT_ROOM};
 
-use line_command::{Ending, report_without_buffer};
 use line_io::{Lines, LinesEnd, NoMemory, SCRIPT_LINE, Sink, Source, take_lines};
 use policy_rules::Settings;
+use replay_command_base::{Ending, report_without_buffer};
 use script_replay::Player;
 use std::alloc::Global;
 

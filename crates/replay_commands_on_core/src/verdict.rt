@@ -1,12 +1,12 @@
 // The text that `check` writes of what it found.
 ghost use Rattle.std.specs.Prelude.{◌≡◌, ◌+◌, ◌≤◌, length};
 ghost use Rattle.line_io.specs.Out.{with};
-ghost use Rattle.line_command.specs.declared.ending.Ending.TheVariants as endings;
+ghost use Rattle.replay_command_base.specs.declared.ending.Ending.TheVariants as endings;
 ghost use Rattle.replay_commands_on_core.specs.Verdict.{VerdictWrote, check_verdict};
 
 use itoa::Buffer;
-use line_command::Ending;
 use line_io::{Out, Sink, write_all};
+use replay_command_base::Ending;
 
 fn put_difference(line: u64, out: &mut Out)
     requires { length out.old.text + 80 ≤ out.old.room }

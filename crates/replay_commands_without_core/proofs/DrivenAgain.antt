@@ -8,8 +8,8 @@ use Rattle.script_lines.specs.Marks.{Mark, Happens, ToIface, ToEngine, event_mar
 use Rattle.script_lines.specs.Scripts.{MarksAreSpelled, script_of}
 use Rattle.script_lines.proofs.Scripts.{has_short_lines}
 use Rattle.script_lines.proofs.Spelled.{spelled_read}
-use Rattle.line_command.specs.declared.ending.Ending.{Ending}
-use Rattle.line_command.specs.declared.ending.Ending.TheVariants as endings
+use Rattle.replay_command_base.specs.declared.ending.Ending.{Ending}
+use Rattle.replay_command_base.specs.declared.ending.Ending.TheVariants as endings
 use Rattle.cecp_driver.specs.declared.driver.DriverParts.{DriverParts}
 use Rattle.cecp_driver.specs.Driver.{opening_driver}
 use Rattle.cecp_driver.specs.Runs.{IsScriptOfDrive}

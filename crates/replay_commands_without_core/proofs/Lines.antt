@@ -7,9 +7,9 @@ use Rattle.policy_rules.specs.Policy.{IsProper}
 use Rattle.policy_rules.specs.declared.settings.Settings.{Settings}
 use Rattle.script_lines.specs.Marks.{Mark, Happens, mark_spelled}
 use Rattle.script_lines.specs.StepLine.{step_number_line, step_number}
-use Rattle.line_command.specs.declared.ending.Ending.{Ending}
-use Rattle.line_command.specs.declared.ending.Ending.TheVariants as endings
-use Rattle.line_command.specs.Putting.{IsOfLine}
+use Rattle.replay_command_base.specs.declared.ending.Ending.{Ending}
+use Rattle.replay_command_base.specs.declared.ending.Ending.TheVariants as endings
+use Rattle.replay_command_base.specs.Putting.{IsOfLine}
 use Rattle.replay_commands_without_core.specs.declared.migration.Migration.{Migration}
 use Rattle.replay_commands_without_core.specs.Begun.{ScriptIsBegun, Migrates, PutFor, IsMigrationEnd, IsSoundMigration, IsNumber, unput_beginning, step_number_by}
 use Rattle.replay_commands_without_core.specs.Migration.{AreMarked, migrated_beginning, line_migrated, migrated_line_text, lines_migrated, mark_to_migrate, script_with_header, steps_after, steps_over, text_in}

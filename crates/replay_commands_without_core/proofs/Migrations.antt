@@ -7,16 +7,16 @@ use Rattle.line_io.specs.Runs.{whole}
 use Rattle.script_lines.specs.Marks.{Mark}
 use Rattle.trace_scripts.specs.Script.{script1}
 use Rattle.policy_rules.specs.declared.settings.Settings.{Settings}
-use Rattle.line_command.specs.declared.ending.Ending.{Ending}
-use Rattle.line_command.specs.declared.ending.Ending.TheVariants as endings
-use Rattle.line_command.specs.Diagnostics.{command_status, command_diagnostic}
-use Rattle.line_command.specs.Ran.{FilterRan}
-use Rattle.line_command.specs.Reads.{AreRead}
-use Rattle.line_command.specs.Streams.{FilterStreams, AreSame}
-use Rattle.line_command.proofs.Readings.{first_of, all_of}
-use Rattle.line_command.specs.Outcomes.{LineReported, Outcome, WroteLast}
-use Rattle.line_command.specs.Putting.{IsOfLine}
-use Rattle.line_command.specs.Filtered.{FilterEndsBy, IsText, WrotePrefix, WroteAll, WroteWhole}
+use Rattle.replay_command_base.specs.declared.ending.Ending.{Ending}
+use Rattle.replay_command_base.specs.declared.ending.Ending.TheVariants as endings
+use Rattle.replay_command_base.specs.Diagnostics.{command_status, command_diagnostic}
+use Rattle.replay_command_base.specs.Ran.{FilterRan}
+use Rattle.replay_command_base.specs.Reads.{AreRead}
+use Rattle.replay_command_base.specs.Streams.{FilterStreams, AreSame}
+use Rattle.replay_command_base.proofs.Readings.{first_of, all_of}
+use Rattle.replay_command_base.specs.Outcomes.{LineReported, Outcome, WroteLast}
+use Rattle.replay_command_base.specs.Putting.{IsOfLine}
+use Rattle.replay_command_base.specs.Filtered.{FilterEndsBy, IsText, WrotePrefix, WroteAll, WroteWhole}
 use Rattle.replay_commands_without_core.specs.declared.migration.Migration.{Migration}
 use Rattle.replay_commands_without_core.specs.Begun.{IsMigrationEnd, Migrates, PutFor, unbegun_script, migration_meaning}
 use Rattle.replay_commands_without_core.specs.Migration.{AreMarked, IsUnmarked, mark_to_migrate, script_with_header}

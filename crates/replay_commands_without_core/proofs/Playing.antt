@@ -8,10 +8,10 @@ use Rattle.line_io.specs.Lines.{Piece, Whole, TooLong}
 use Rattle.line_io.specs.Out.{Text}
 use Rattle.line_io.proofs.Puts.{put_none}
 use Rattle.script_lines.specs.Marks.{Mark, Happens, ToIface, ToEngine}
-use Rattle.line_command.specs.declared.ending.Ending.{Ending}
-use Rattle.line_command.specs.declared.ending.Ending.TheVariants as endings
-use Rattle.line_command.specs.Putting.{IsInputEnd, IsOfLine, Puts}
-use Rattle.line_command.specs.Putting as line_filter
+use Rattle.replay_command_base.specs.declared.ending.Ending.{Ending}
+use Rattle.replay_command_base.specs.declared.ending.Ending.TheVariants as endings
+use Rattle.replay_command_base.specs.Putting.{IsInputEnd, IsOfLine, Puts}
+use Rattle.replay_command_base.specs.Putting as line_filter
 use Rattle.engine_revival.specs.declared.state.RevivalState.{RevivalState}
 use Rattle.engine_revival.specs.Steps.{opening_revival}
 use Rattle.engine_revival.specs.Script.{AllMayHappen, revival_event_text, may_happen, revival_state_after, state_behind, texts_from}

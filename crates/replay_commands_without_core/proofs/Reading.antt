@@ -13,9 +13,9 @@ use Rattle.script_lines.specs.Marks.{Mark, Happens, IsMarkSpelled, SpellsMark, p
 use Rattle.script_lines.specs.declared.marks.BadMark.{BadMark}
 use Rattle.script_lines.specs.declared.marks.Mark as code
 use Rattle.script_lines.specs.declared.marks.Mark.TheVariants as marks
-use Rattle.line_command.specs.declared.ending.Ending.{Ending}
-use Rattle.line_command.specs.declared.ending.Ending.TheVariants as endings
-use Rattle.line_command.specs.Putting.{FilterCloses, IsOfLine, Puts}
+use Rattle.replay_command_base.specs.declared.ending.Ending.{Ending}
+use Rattle.replay_command_base.specs.declared.ending.Ending.TheVariants as endings
+use Rattle.replay_command_base.specs.Putting.{FilterCloses, IsOfLine, Puts}
 use Rattle.cecp_driver.specs.declared.driver.DriverParts.{DriverParts}
 use Rattle.cecp_driver.specs.Driver.{opening_driver}
 use Rattle.cecp_driver.specs.Script.{DriverTakesAll, IsPeerLine, DriverTakes, given_marks, last_of, may_come, script_text}

@@ -7,19 +7,19 @@ use Rattle.std.proofs.lemmas.List.Concat.{flat_map-append}
 use Rattle.line_io.specs.Event.{Event}
 use Rattle.line_io.specs.Lines.{Piece, items}
 use Rattle.line_io.specs.Runs.{whole}
-use Rattle.line_command.specs.declared.ending.Ending.{Ending}
-use Rattle.line_command.specs.declared.ending.Ending.TheVariants as endings
-use Rattle.line_command.specs.Diagnostics.{command_status, command_diagnostic, tail_of}
-use Rattle.line_command.specs.Ran.{FilterRan}
-use Rattle.line_command.specs.Reads.{AreRead}
-use Rattle.line_command.specs.Streams.{FilterStreams, AreSame}
-use Rattle.line_command.specs.DiagnosticWritten.{DiagnosticWritten}
-use Rattle.line_command.proofs.Readings.{read_prefix, first_of, all_of}
+use Rattle.replay_command_base.specs.declared.ending.Ending.{Ending}
+use Rattle.replay_command_base.specs.declared.ending.Ending.TheVariants as endings
+use Rattle.replay_command_base.specs.Diagnostics.{command_status, command_diagnostic, tail_of}
+use Rattle.replay_command_base.specs.Ran.{FilterRan}
+use Rattle.replay_command_base.specs.Reads.{AreRead}
+use Rattle.replay_command_base.specs.Streams.{FilterStreams, AreSame}
+use Rattle.replay_command_base.specs.DiagnosticWritten.{DiagnosticWritten}
+use Rattle.replay_command_base.proofs.Readings.{read_prefix, first_of, all_of}
 use Rattle.line_io.specs.Source.{Received, Supplied}
-use Rattle.line_command.proofs.Outcomes.{outcome}
-use Rattle.line_command.specs.Outcomes.{LineReported, Outcome, WroteLast}
-use Rattle.line_command.specs.Putting.{IsOfLine}
-use Rattle.line_command.specs.Filtered.{FilterEndsBy, IsText, WrotePrefix, WroteAll, WroteWhole}
+use Rattle.replay_command_base.proofs.Outcomes.{outcome}
+use Rattle.replay_command_base.specs.Outcomes.{LineReported, Outcome, WroteLast}
+use Rattle.replay_command_base.specs.Putting.{IsOfLine}
+use Rattle.replay_command_base.specs.Filtered.{FilterEndsBy, IsText, WrotePrefix, WroteAll, WroteWhole}
 use Rattle.engine_revival.specs.declared.state.RevivalState.{RevivalState}
 use Rattle.engine_revival.specs.Steps.{opening_revival}
 use Rattle.engine_revival.proofs.Talks.{talk_is_lawful}

@@ -4,17 +4,17 @@ use Rattle.std.proofs.Math.Seq.{take-length}
 use Rattle.std.specs.Io.KnownBytes.{Appends}
 use Rattle.line_io.specs.Lines.{Piece, items}
 use Rattle.line_io.specs.Source.{Received, Supplied}
-use Rattle.line_command.specs.declared.ending.Ending.{Ending}
-use Rattle.line_command.specs.declared.ending.Ending.TheVariants as endings
-use Rattle.line_command.specs.Diagnostics.{command_status, tail_of}
-use Rattle.line_command.proofs.Readings.{all_of, first_of}
-use Rattle.line_command.specs.Ran.{FilterRan}
-use Rattle.line_command.specs.Streams.{FilterStreams}
-use Rattle.line_command.specs.DiagnosticWritten.{DiagnosticWritten}
-use Rattle.line_command.specs.Putting.{IsOfLine}
-use Rattle.line_command.specs.Filtered.{FilterEndsBy, IsText, WroteAll, WrotePrefix, WroteWhole}
-use Rattle.line_command.proofs.Outcomes.{outcome}
-use Rattle.line_command.specs.Outcomes.{LineReported, Outcome, WroteLast}
+use Rattle.replay_command_base.specs.declared.ending.Ending.{Ending}
+use Rattle.replay_command_base.specs.declared.ending.Ending.TheVariants as endings
+use Rattle.replay_command_base.specs.Diagnostics.{command_status, tail_of}
+use Rattle.replay_command_base.proofs.Readings.{all_of, first_of}
+use Rattle.replay_command_base.specs.Ran.{FilterRan}
+use Rattle.replay_command_base.specs.Streams.{FilterStreams}
+use Rattle.replay_command_base.specs.DiagnosticWritten.{DiagnosticWritten}
+use Rattle.replay_command_base.specs.Putting.{IsOfLine}
+use Rattle.replay_command_base.specs.Filtered.{FilterEndsBy, IsText, WroteAll, WrotePrefix, WroteWhole}
+use Rattle.replay_command_base.proofs.Outcomes.{outcome}
+use Rattle.replay_command_base.specs.Outcomes.{LineReported, Outcome, WroteLast}
 use Rattle.cecp_driver.specs.declared.driver.DriverParts.{DriverParts}
 use Rattle.cecp_driver.specs.Driver.{opening_driver}
 use Rattle.cecp_driver.proofs.OneRun.{one_script}

@@ -5,9 +5,9 @@ use Rattle.line_io.specs.Out.{Text, with}
 use Rattle.policy_rules.specs.Policy.{IsProper}
 use Rattle.policy_rules.specs.declared.settings.Settings.{Settings}
 use Rattle.script_lines.specs.StepLine.{step_number}
-use Rattle.line_command.specs.declared.ending.Ending.{Ending}
-use Rattle.line_command.specs.declared.ending.Ending.TheVariants as endings
-use Rattle.line_command.specs.Putting.{Putting}
+use Rattle.replay_command_base.specs.declared.ending.Ending.{Ending}
+use Rattle.replay_command_base.specs.declared.ending.Ending.TheVariants as endings
+use Rattle.replay_command_base.specs.Putting.{Putting}
 use Rattle.replay_commands_without_core.specs.declared.migration.Migration.{Migration}
 use Rattle.replay_commands_without_core.specs.Migration.{AreMarked, IsUnmarked, migrated_beginning}
 use Rattle.replay_commands_without_core.specs.Migration.{script_with_header, steps_over}

@@ -5,12 +5,12 @@ use Rattle.line_io.specs.Causes.{Rose}
 use Rattle.line_io.specs.Event.{Event}
 use Rattle.line_io.specs.Lines.{Piece, items}
 use Rattle.line_io.specs.Runs.{whole}
-use Rattle.line_command.specs.declared.ending.Ending.{Ending}
-use Rattle.line_command.specs.Diagnostics.{command_diagnostic}
-use Rattle.line_command.specs.Ran.{FilterRan, WritingBroke}
-use Rattle.line_command.specs.Reads.{Got, IsAll, AreFirst, AreRead}
-use Rattle.line_command.specs.Streams.{FilterStreams, AreSame, HasNoFault}
-use Rattle.line_command.specs.Filtered.{FilterEndsBy}
+use Rattle.replay_command_base.specs.declared.ending.Ending.{Ending}
+use Rattle.replay_command_base.specs.Diagnostics.{command_diagnostic}
+use Rattle.replay_command_base.specs.Ran.{FilterRan, WritingBroke}
+use Rattle.replay_command_base.specs.Reads.{Got, IsAll, AreFirst, AreRead}
+use Rattle.replay_command_base.specs.Streams.{FilterStreams, AreSame, HasNoFault}
+use Rattle.replay_command_base.specs.Filtered.{FilterEndsBy}
 use Rattle.cecp_driver.specs.Driver.{opening_driver}
 use Rattle.cecp_driver.specs.Runs.{IsScriptOfDrive}
 use Rattle.replay_commands_without_core.specs.Scripts.{IsDriven, IsFirstUndriven, drive_filter_meaning}

@@ -7,12 +7,12 @@ use Rattle.line_io.specs.Runs.{whole}
 use Rattle.policy_rules.specs.declared.settings.Settings.{Settings}
 use Rattle.adapter_core.specs.Trace.{Step}
 use Rattle.trace_scripts.specs.Script.{script1, script2}
-use Rattle.line_command.specs.declared.ending.Ending.TheVariants as endings
-use Rattle.line_command.specs.Diagnostics.{command_diagnostic}
-use Rattle.line_command.specs.Ran.{FilterRan, WritingBroke}
-use Rattle.line_command.specs.Reads.{AreFirst, AreRead, Got, IsAll}
-use Rattle.line_command.specs.Streams.{FilterStreams, AreSame, HasNoFault}
-use Rattle.line_command.specs.Filtered.{FilterEndsBy}
+use Rattle.replay_command_base.specs.declared.ending.Ending.TheVariants as endings
+use Rattle.replay_command_base.specs.Diagnostics.{command_diagnostic}
+use Rattle.replay_command_base.specs.Ran.{FilterRan, WritingBroke}
+use Rattle.replay_command_base.specs.Reads.{AreFirst, AreRead, Got, IsAll}
+use Rattle.replay_command_base.specs.Streams.{FilterStreams, AreSame, HasNoFault}
+use Rattle.replay_command_base.specs.Filtered.{FilterEndsBy}
 use Rattle.replay_commands_without_core.specs.Begun.{unbegun_script, migration_meaning}
 use Rattle.replay_commands_without_core.specs.Migration.{AreMarked, IsUnmarked, script_with_header}
 use Rattle.replay_commands_without_core.specs.Traces.{IsMarked}

@@ -4,9 +4,9 @@ use Rattle.line_io.specs.Event.{Event}
 use Rattle.line_io.specs.Lines.{Piece}
 use Rattle.line_io.specs.Out.{Text, with}
 use Rattle.script_lines.specs.Marks.{Mark, Happens}
-use Rattle.line_command.specs.declared.ending.Ending.{Ending}
-use Rattle.line_command.specs.declared.ending.Ending.TheVariants as endings
-use Rattle.line_command.specs.Putting.{Putting}
+use Rattle.replay_command_base.specs.declared.ending.Ending.{Ending}
+use Rattle.replay_command_base.specs.declared.ending.Ending.TheVariants as endings
+use Rattle.replay_command_base.specs.Putting.{Putting}
 use Rattle.engine_revival.specs.declared.state.RevivalState.{RevivalState}
 use Rattle.engine_revival.specs.Steps.{opening_revival}
 use Rattle.engine_revival.specs.Script.{revival_event_text, may_happen, revival_state_after}

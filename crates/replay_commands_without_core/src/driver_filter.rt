@@ -1,15 +1,15 @@
 // The lines of a script, as a driver takes them.
 ghost use Rattle.std.specs.Prelude.{◌≡◌, ◌+◌, ◌≤◌, length, IfOk, IfSome};
 ghost use Rattle.line_io.specs.Event.{event_of};
-ghost use Rattle.line_command.specs.Putting.{IsOfLine};
+ghost use Rattle.replay_command_base.specs.Putting.{IsOfLine};
 ghost use Rattle.cecp_driver.specs.Driver.{opening_driver};
 ghost use Rattle.cecp_driver.specs.Script.{IsPeerLine};
 ghost use Rattle.replay_commands_without_core.specs.Scripts.{Tries};
-ghost use Rattle.line_command.specs.declared.limits.TheConstants.{LINE_ROOM};
+ghost use Rattle.replay_command_base.specs.declared.limits.TheConstants.{LINE_ROOM};
 
 use cecp_driver::Driver;
-use line_command::{Ending, LineFilter};
 use line_io::{Event, NoMemory, Out};
+use replay_command_base::{Ending, LineFilter};
 use script_lines::{Mark, read_mark};
 use std::alloc::Global;
 use std::marker::Model;

@@ -5,9 +5,9 @@ ghost use Rattle.policy_rules.specs.Policy.{IsProper};
 ghost use Rattle.script_lines.specs.declared.header.TheConstants.{HEADER_ROOM};
 ghost use Rattle.replay_commands_without_core.specs.Begun.{ScriptIsBegun, unbegun_script};
 
-use line_command::{Ending, LineFilter};
 use line_io::Out;
 use policy_rules::Settings;
+use replay_command_base::{Ending, LineFilter};
 use script_lines::{Mark, next_number, read_mark, write_header, write_step};
 
 /// A script with a header as it is put, line by line.

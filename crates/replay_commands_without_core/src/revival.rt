@@ -1,12 +1,12 @@
 // The command `revive`.
 ghost use Rattle.std.specs.Prelude.{◌≡◌};
-ghost use Rattle.line_command.specs.Diagnostics.{command_status};
-ghost use Rattle.line_command.specs.Streams.{filter_streams};
+ghost use Rattle.replay_command_base.specs.Diagnostics.{command_status};
+ghost use Rattle.replay_command_base.specs.Streams.{filter_streams};
 ghost use Rattle.replay_commands_without_core.specs.Revived.{ReviveCommandIs};
 
 use crate::reviver::Reviver;
-use line_command::{Ending, report_without_buffer, run_filter};
 use line_io::{Sink, Source};
+use replay_command_base::{Ending, report_without_buffer, run_filter};
 use std::alloc::Global;
 
 /// Plays the script of version 1 in the input to an engine of which up to so many lives are begun,

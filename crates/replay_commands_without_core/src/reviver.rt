@@ -2,15 +2,15 @@
 ghost use Rattle.std.specs.Prelude.{◌≡◌, ◌+◌, ◌≤◌, length, IfOk, IfSome};
 ghost use Rattle.line_io.specs.Event.{event_of};
 ghost use Rattle.line_io.specs.Out.{with};
-ghost use Rattle.line_command.specs.Putting.{IsOfLine};
+ghost use Rattle.replay_command_base.specs.Putting.{IsOfLine};
 ghost use Rattle.script_lines.specs.Marks.{Happens, IsMarkSpelled, mark_spelled};
 ghost use Rattle.engine_revival.specs.Steps.{opening_revival};
 ghost use Rattle.replay_commands_without_core.specs.Reviving.{IsPlayedAs, MarkIsPlayed};
-ghost use Rattle.line_command.specs.declared.limits.TheConstants.{LINE_ROOM};
+ghost use Rattle.replay_command_base.specs.declared.limits.TheConstants.{LINE_ROOM};
 
 use engine_revival::Revival;
-use line_command::{Ending, LineFilter};
 use line_io::{Event, NoMemory, Out};
+use replay_command_base::{Ending, LineFilter};
 use script_lines::{Mark, read_mark};
 use std::alloc::Global;
 use std::marker::Model;

@@ -1,14 +1,14 @@
 // The command `migrate`.
 ghost use Rattle.std.specs.Prelude.{◌≡◌};
-ghost use Rattle.line_command.specs.Diagnostics.{command_status};
-ghost use Rattle.line_command.specs.Streams.{filter_streams};
+ghost use Rattle.replay_command_base.specs.Diagnostics.{command_status};
+ghost use Rattle.replay_command_base.specs.Streams.{filter_streams};
 ghost use Rattle.policy_rules.specs.Policy.{IsProper};
 ghost use Rattle.replay_commands_without_core.specs.Migrated.{Migrated};
 
 use crate::migration::Migration;
-use line_command::{Ending, run_filter};
 use line_io::{Sink, Source};
 use policy_rules::Settings;
+use replay_command_base::{Ending, run_filter};
 use std::alloc::Global;
 
 /// Writes the script of version 1 in the input as one with a header, of these settings, and reports

@@ -10,9 +10,9 @@ use Rattle.replay_commands_on_core.specs.Drilled.{Drilled}
 use Rattle.replay_tool.specs.Driving.{DrivesTheOrdered}
 use Rattle.replay_commands_on_core.specs.Listed.{Listed}
 use Rattle.replay_commands_on_core.specs.OwnScripts.{JudgesOwnTalk, MigratesOwnScripts}
-use Rattle.line_command.specs.Ran.{Refused}
+use Rattle.replay_command_base.specs.Ran.{Refused}
 use Rattle.replay_commands_on_core.specs.Replayed.{Replayed}
-use Rattle.line_command.specs.Streams.{FilterStreams}
+use Rattle.replay_command_base.specs.Streams.{FilterStreams}
 use Rattle.judge_report.specs.Judged.{Judged}
 use Rattle.replay_commands_without_core.specs.Migrated.{Migrated}
 use Rattle.replay_commands_without_core.specs.Revived.{ReviveCommandIs}
@@ -29,7 +29,7 @@ use Rattle.replay_commands_on_core.proofs.Listing as listing
 use Rattle.replay_commands_on_core.proofs.Drilling as drilling
 use Rattle.replay_commands_on_core.proofs.OwnTalk.{judges_own_talk}
 use Rattle.replay_commands_on_core.proofs.OwnMigrations.{migrates_own}
-use Rattle.line_command.proofs.Announcing as announced
+use Rattle.replay_command_base.proofs.Announcing as announced
 
 module _ (unread kept silent : Type 0) (start now : FilterStreams) (code : ℕ) where
   abbrev D : Option ReplayRequest → Type 0

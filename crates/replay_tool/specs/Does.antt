@@ -7,9 +7,9 @@ use Rattle.replay_commands_on_core.specs.Commands as asked
 use Rattle.replay_commands_on_core.specs.Drilled.{PlaysDrill}
 use Rattle.replay_commands_on_core.specs.Moves.{Lists}
 use Rattle.replay_commands_on_core.specs.Laws.{HaveLaws}
-use Rattle.line_command.specs.Ran.{FilterRan, Refused}
+use Rattle.replay_command_base.specs.Ran.{FilterRan, Refused}
 use Rattle.replay_commands_on_core.specs.Replay.{EndsAs}
-use Rattle.line_command.specs.Streams.{FilterStreams}
+use Rattle.replay_command_base.specs.Streams.{FilterStreams}
 use Rattle.replay_commands_without_core.specs.Migrated.{Migrated}
 use Rattle.judge_report.specs.Judged.{Judged}
 use Rattle.replay_commands_without_core.specs.Revived.{ReviveCommandIs}

@@ -7,8 +7,8 @@ use Rattle.line_io.specs.declared.limits.TheConstants.{SCRIPT_LINE}
 use Rattle.policy_rules.specs.declared.settings.Settings.{Settings}
 use Rattle.adapter_core.specs.Alone.{commanded_alone}
 use Rattle.cecp_driver.specs.Driver.{opening_driver}
-use Rattle.line_command.specs.Reads.{Got, IsAll}
-use Rattle.line_command.specs.Streams.{FilterStreams}
+use Rattle.replay_command_base.specs.Reads.{Got, IsAll}
+use Rattle.replay_command_base.specs.Streams.{FilterStreams}
 use Rattle.replay_commands_without_core.specs.Scripts.{IsDriven, driven_events}
 use Rattle.judge_and_driver_laws.specs.Runs.{AllHeard}
 

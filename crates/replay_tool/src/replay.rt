@@ -5,16 +5,16 @@ ghost use Rattle.session_judge.specs.declared.listener.Listener.{Listener as Any
 ghost use Rattle.replay_commands_on_core.specs.Checked.{Checked};
 ghost use Rattle.replay_commands_on_core.specs.Commands as asked;
 ghost use Rattle.replay_commands_on_core.specs.Commands.{replay_command_of, argument_bytes};
-ghost use Rattle.line_command.specs.Diagnostics.{command_status, tail_of};
+ghost use Rattle.replay_command_base.specs.Diagnostics.{command_status, tail_of};
 ghost use Rattle.replay_tool.specs.Does.{ReplayDoes};
 ghost use Rattle.replay_tool.specs.Driving.{DrivesTheOrdered};
 ghost use Rattle.replay_commands_on_core.specs.Drilled.{Drilled};
 ghost use Rattle.replay_commands_on_core.specs.Listed.{Listed};
 ghost use Rattle.replay_commands_on_core.specs.OwnScripts.{JudgesOwnTalk, MigratesOwnScripts};
 ghost use Rattle.replay_commands_on_core.specs.Laws.{HaveLaws};
-ghost use Rattle.line_command.specs.Ran.{Refused};
+ghost use Rattle.replay_command_base.specs.Ran.{Refused};
 ghost use Rattle.replay_commands_on_core.specs.Replayed.{Replayed};
-ghost use Rattle.line_command.specs.Streams.{filter_streams};
+ghost use Rattle.replay_command_base.specs.Streams.{filter_streams};
 ghost use Rattle.judge_report.specs.Judged.{Judged};
 ghost use Rattle.replay_commands_without_core.specs.Migrated.{Migrated};
 ghost use Rattle.replay_commands_without_core.specs.Revived.{ReviveCommandIs};
@@ -24,9 +24,9 @@ ghost use Rattle.session_export.specs.PositionsWritten.{PositionsWritten};
 
 use judge_and_driver_laws::engines_hear_the_ordered;
 use judge_report::run_judge;
-use line_command::{Ending, report_without_buffer};
 use line_io::{Sink, Source, Status};
 use policy_rules::Settings;
+use replay_command_base::{Ending, report_without_buffer};
 use replay_commands_on_core::{
     ReplayCommand, list_moves, play_drill, read_command, run_check, run_replay,
 };
@@ -213,5 +213,5 @@ pub fn refuse_for_memory<D: Sink>(diag: &mut D) -> Status
     }
 }
 
-ghost use Rattle.line_command.specs.DiagnosticWritten.{DiagnosticWritten};
-ghost use Rattle.line_command.specs.declared.ending.Ending.TheVariants as endings;
+ghost use Rattle.replay_command_base.specs.DiagnosticWritten.{DiagnosticWritten};
+ghost use Rattle.replay_command_base.specs.declared.ending.Ending.TheVariants as endings;

@@ -4,7 +4,7 @@ use Rattle.std.proofs.lemmas.List.{map-append}
 use Rattle.std.proofs.lemmas.List.Elements.{filter-append}
 use Rattle.std.proofs.lemmas.List.Folds.{list_any-append}
 use Rattle.line_io.specs.Event.{Event, Iface, IfaceLong, IfaceEnd}
-use Rattle.peer_words.specs.Quit.{is_quit}
+use Rattle.protocol_tokens.specs.Quit.{is_quit}
 use Rattle.engine_revival.specs.Orders.{RevivalOrder as AnyOrder}
 use Rattle.engine_revival.specs.Asked.{order_of_line}
 use Rattle.engine_revival.specs.declared.state.RevivalState.{RevivalState}

@@ -5,7 +5,7 @@ use Rattle.line_io.specs.Event.{Event, Iface, IfaceLong, IfaceEnd, Engine, Engin
 use Rattle.line_io.specs.Lines.{Piece, Whole, TooLong, items}
 use Rattle.line_io.specs.Runs.{whole}
 use Rattle.line_io.specs.Source.{Supplied, Received}
-use Rattle.peer_words.specs.Quit.{is_quit}
+use Rattle.protocol_tokens.specs.Quit.{is_quit}
 use Rattle.engine_revival.specs.Orders.{RevivalOrder as AnyOrder}
 use Rattle.engine_revival.specs.Orders as orders
 use Rattle.engine_revival.specs.Asked.{order_of_line}

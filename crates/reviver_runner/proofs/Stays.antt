@@ -1,14 +1,14 @@
 -- The parts that an order or a line of the present life leaves as they are.
 use Rattle.std.proofs.Common.{◌≡◌, ℕ, List, [], ◌∷◌, ◌++◌, codes, Bool, true, false, cond, nat_lt, ◌||◌, ◌&&◌, not, Option, Some, None, refl, sym, ap, subst, ◌∙◌}
 use Rattle.line_io.specs.Event.{Event, Iface, IfaceEnd, Engine}
-use Rattle.peer_words.specs.Quit.{is_quit}
+use Rattle.protocol_tokens.specs.Quit.{is_quit}
 use Rattle.engine_revival.specs.Orders.{RevivalOrder}
 use Rattle.engine_revival.specs.Orders as orders
 use Rattle.engine_revival.specs.Asked.{order_of_line}
 use Rattle.event_pipe.specs.Message.{is_last_event}
 use Rattle.engine_revival.specs.declared.words.DialogueState.{DialogueState}
 use Rattle.engine_revival.specs.declared.words.DialogueState.TheVariants as upper
-use Rattle.peer_words.specs.declared.kinds.GoKind.TheVariants as kinds
+use Rattle.protocol_tokens.specs.declared.kinds.GoKind.TheVariants as kinds
 use Rattle.engine_revival.specs.declared.words.LifeState.{LifeState}
 use Rattle.engine_revival.specs.declared.words.LifeState.TheVariants as life
 use Rattle.engine_revival.specs.declared.words.LifeSaid.{LifeSaid}

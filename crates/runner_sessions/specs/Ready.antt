@@ -1,7 +1,7 @@
 -- The parts that a run over both pipes needs.
 use Rattle.std.specs.Prelude.{◌≤◌}
 use Rattle.line_io.specs.declared.out.Out.{Out}
-use Rattle.mediator.specs.declared.mediator.TheConstants.{TURN_ROOM}
+use Rattle.event_loop.specs.declared.mediator.TheConstants.{TURN_ROOM}
 use Rattle.driver_runner.specs.declared.driving.Driving.{Driving}
 use Rattle.driver_runner.specs.Drives.{driving_meaning}
 

@@ -14,7 +14,7 @@ use Rattle.game_record.specs.Ending.{ended_of}
 use Rattle.game_record.specs.Line.{is_standard}
 use Rattle.san_text.specs.GameSan.{san_of_ply}
 use Rattle.line_io.specs.Lines.{line_feed}
-use Rattle.peer_words.specs.Bytes.{blank}
+use Rattle.protocol_tokens.specs.Bytes.{blank}
 
 -- `N.` stands before a move of White, and nothing before a move of Black
 abbrev pub move_number_by : Side → ℕ → List (List ℕ)

@@ -10,10 +10,10 @@ use Rattle.std.proofs.lemmas.Bool.{and_parts}
 use Rattle.std.proofs.lemmas.Option.{cond_some}
 use Rattle.std.proofs.lemmas.Slice.Eq.{bytes_eq-Decides}
 use Rattle.std.proofs.lemmas.Fmt.{length-decimal-le}
-use Rattle.peer_words.specs.Tokens.{is_white, is_token, rest_after_token, tokens}
-use Rattle.peer_words.proofs.TokenLists.{tokens_more, tokens_alone, tokens_some}
-use Rattle.peer_words.proofs.Written.{decimal_digits, digits_decimal}
-use Rattle.peer_words.proofs.Runs.{all_of}
+use Rattle.protocol_tokens.specs.Tokens.{is_white, is_token, rest_after_token, tokens}
+use Rattle.protocol_tokens.proofs.TokenLists.{tokens_more, tokens_alone, tokens_some}
+use Rattle.protocol_tokens.proofs.Written.{decimal_digits, digits_decimal}
+use Rattle.protocol_tokens.proofs.Runs.{all_of}
 use Rattle.policy_rules.specs.declared.settings.Settings.{Settings}
 use Rattle.policy_rules.specs.declared.table.Setting.{Setting}
 use Rattle.policy_rules.specs.declared.table.Setting.TheVariants as names

@@ -5,7 +5,7 @@ use Rattle.std.specs.List.{list_all}
 use Rattle.std.specs.Char.{is_ascii_digit}
 use Rattle.std.proofs.lemmas.Bool.Decides.{nat_tests}
 use Rattle.std.proofs.lemmas.Bool.{or_from, and_parts}
-use Rattle.peer_words.proofs.Written.{decimal_digits}
+use Rattle.protocol_tokens.proofs.Written.{decimal_digits}
 use Rattle.line_io.specs.Event.{has_feed}
 use Rattle.policy_rules.specs.declared.settings.Settings.{Settings}
 use Rattle.policy_rules.specs.Policy.{IsProper}

@@ -7,9 +7,9 @@ use Rattle.std.proofs.lemmas.Option.{cond_some}
 use Rattle.std.proofs.lemmas.Slice.Eq.{bytes_eq-Decides}
 use Rattle.std.proofs.lemmas.Fmt.{length-decimal-le}
 use Rattle.std.proofs.lemmas.Bool.{and_parts}
-use Rattle.peer_words.specs.Numbers.{digits}
-use Rattle.peer_words.proofs.Sizes.{digits_small}
-use Rattle.peer_words.proofs.Written.{digits_decimal}
+use Rattle.protocol_tokens.specs.Numbers.{digits}
+use Rattle.protocol_tokens.proofs.Sizes.{digits_small}
+use Rattle.protocol_tokens.proofs.Written.{digits_decimal}
 use Rattle.script_lines.specs.StepLine.{as_written, numeral, step_number_line, SpellsStep, step_of, step_number}
 
 pub same_text : (text : List ℕ) → bytes_eq text text ≡ true

@@ -3,8 +3,8 @@ use Rattle.std.specs.Prelude.{◌≡◌, ℕ, List, ◌∷◌, ◌++◌, codes, 
 use Rattle.std.specs.List.{flat_map}
 use Rattle.std.specs.Option.{option_map}
 use Rattle.std.specs.Str.{bytes_eq}
-use Rattle.peer_words.specs.Bytes.{blank, equals}
-use Rattle.peer_words.specs.Tokens.{rest_after_token, tokens}
+use Rattle.protocol_tokens.specs.Bytes.{blank, equals}
+use Rattle.protocol_tokens.specs.Tokens.{rest_after_token, tokens}
 use Rattle.policy_rules.specs.declared.settings.Settings.{Settings}
 use Rattle.policy_rules.specs.declared.table.Setting.{Setting}
 use Rattle.policy_rules.specs.Policy.{IsProper, usual}

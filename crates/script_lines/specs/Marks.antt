@@ -8,7 +8,7 @@ use Rattle.script_lines.specs.declared.marks.BadMark.{BadMark}
 use Rattle.script_lines.specs.declared.marks.Mark as code
 use Rattle.script_lines.specs.declared.marks.Mark.TheVariants as marks
 use Rattle.line_io.specs.declared.limits.TheConstants.{SCRIPT_LINE}
-use Rattle.peer_words.specs.Bytes.{blank, exclamation_mark, point, question_mark}
+use Rattle.protocol_tokens.specs.Bytes.{blank, exclamation_mark, point, question_mark}
 use Rattle.line_io.specs.Lines.{line_feed}
 
 -- a mark, whatever memory its line lies in

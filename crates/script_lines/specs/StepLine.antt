@@ -2,8 +2,8 @@
 use Rattle.std.specs.Prelude.{◌≡◌, ℕ, ◌%◌, ◌^◌, ◌<◌, List, ◌∷◌, ◌++◌, ◌==◌, ◌&&◌}
 use Rattle.std.specs.Prelude.{codes, decimal, if◌then◌else◌, Option, Some, None}
 use Rattle.std.specs.Str.{bytes_eq}
-use Rattle.peer_words.specs.Bytes.{blank}
-use Rattle.peer_words.specs.Numbers.{digits}
+use Rattle.protocol_tokens.specs.Bytes.{blank}
+use Rattle.protocol_tokens.specs.Numbers.{digits}
 
 abbrev pub hash : ℕ
 hash = 35

@@ -1,8 +1,8 @@
 // The header of a script of version 2 or 3.
 ghost use Rattle.std.specs.Prelude.{◌≡◌, ◌≤◌, ◌+◌, ◌↔◌, ◌∷◌, ◌++◌, length, Some, IfSome};
 ghost use Rattle.line_io.specs.Out.{with};
-ghost use Rattle.peer_words.specs.Bytes.{blank};
-ghost use Rattle.peer_words.specs.Tokens.{tokens};
+ghost use Rattle.protocol_tokens.specs.Bytes.{blank};
+ghost use Rattle.protocol_tokens.specs.Tokens.{tokens};
 ghost use Rattle.policy_rules.specs.declared.settings.Settings.{Settings as SomeSettings};
 ghost use Rattle.policy_rules.specs.Policy.{IsProper};
 ghost use Rattle.policy_rules.specs.Table.{truth_text, setting_value_text};
@@ -12,8 +12,8 @@ ghost use Rattle.script_lines.specs.declared.header.TheConstants.{HEADER_ROOM};
 use arrayvec::ArrayVec;
 use itoa::Buffer;
 use line_io::Out;
-use peer_words::{next_token, split_token};
 use policy_rules::{FIRST_SETTINGS, SETTINGS, Setting, Settings, Value, read_choice};
+use protocol_tokens::{next_token, split_token};
 
 /// Room for any header.
 pub const HEADER_ROOM: usize = 163;

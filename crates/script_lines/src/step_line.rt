@@ -5,7 +5,7 @@ ghost use Rattle.script_lines.specs.StepLine.{SpellsStep, numeral, step_number_l
 
 use itoa::Buffer;
 use line_io::Out;
-use peer_words::read_digits;
+use protocol_tokens::read_digits;
 
 /// The count of the numbers of a script's steps. After the last one they begin again at 0.
 const NUMBERS: u64 = 1_000_000_000_000_000_000;

@@ -4,8 +4,8 @@ use Rattle.std.specs.Bool.{⊤}
 use Rattle.line_io.specs.Lines.{Piece}
 use Rattle.line_io.specs.Source.{Received}
 use Rattle.policy_rules.specs.declared.settings.Settings.{Settings}
-use Rattle.line_command.specs.declared.ending.Ending.{Ending}
-use Rattle.line_command.specs.declared.ending.Ending.TheVariants as endings
+use Rattle.replay_command_base.specs.declared.ending.Ending.{Ending}
+use Rattle.replay_command_base.specs.declared.ending.Ending.TheVariants as endings
 use Rattle.script_replay.specs.declared.player.Player.{Player}
 use Rattle.script_replay.specs.Versions.{LineSaid, Comes, Passes, Starts, HasNoMark, IsOutOfStep, Cannot, fault_said, first_fault, or_later, line_says, place_said, ScriptPlace as ReadingPlace, script_fault, version_in, script_beginning, behind_header, header_lines}
 use Rattle.script_replay.specs.Playing.{OutputIsScript}

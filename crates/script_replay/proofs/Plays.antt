@@ -18,8 +18,8 @@ use Rattle.adapter_core.specs.Trace.{Step, LawfulTrace, state, iface_text, engin
 use Rattle.adapter_core.specs.Parts.{CoreParts}
 use Rattle.adapter_core.specs.Represents.{Represents}
 use Rattle.trace_scripts.specs.Script.{numbered_text, numbered_texts, step_text}
-use Rattle.line_command.specs.declared.ending.Ending.{Ending}
-use Rattle.line_command.specs.declared.ending.Ending.TheVariants as endings
+use Rattle.replay_command_base.specs.declared.ending.Ending.{Ending}
+use Rattle.replay_command_base.specs.declared.ending.Ending.TheVariants as endings
 use Rattle.script_replay.specs.declared.stage.ScriptStage.{ScriptStage}
 use Rattle.script_replay.specs.declared.stage.ScriptStage.TheVariants as stages
 use Rattle.script_replay.specs.Versions.{LineKind, MarksEvent, Numbers, kind_of_script_line, Version, First, Second, version_by, version_in, behind_header, header_lines, settings_by, script_by, LineSaid, Comes, Passes, Starts, HasNoMark, IsOutOfStep, Cannot, event_says, number_says, kind_says, line_says, stage_started, stage_after_event, ScriptPlace, place_said, place_over, fault_said, first_fault, events_said, replayed_events, ends_once_open, script_beginning, fault_by, events_by, script_fault, script_events}

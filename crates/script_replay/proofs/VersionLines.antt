@@ -2,8 +2,8 @@
 use Rattle.std.proofs.Common.{◌≡◌, ℕ, suc, ◌+◌, List, [], ◌∷◌, ◌++◌, length, Option, Some, None, refl, ap, ◌∙◌, arith, subst}
 use Rattle.line_io.specs.Event.{Event}
 use Rattle.line_io.specs.Lines.{Piece, Whole, TooLong, items}
-use Rattle.line_command.specs.declared.ending.Ending.{Ending}
-use Rattle.line_command.specs.Reads.{AreFirst, IsAll}
+use Rattle.replay_command_base.specs.declared.ending.Ending.{Ending}
+use Rattle.replay_command_base.specs.Reads.{AreFirst, IsAll}
 use Rattle.script_replay.specs.Versions.{Version, First, Second, version_in, behind_header, header_lines, ScriptPlace, LineSaid, Comes, Passes, Starts, HasNoMark, IsOutOfStep, Cannot, line_says, place_said, place_over, fault_said, or_later, first_fault, events_said, replayed_events, script_beginning, fault_by, script_fault}
 
 pub no_earlier : (a b : Option Ending) → or_later a b ≡ None → (a ≡ None) × (b ≡ None)

@@ -13,7 +13,7 @@ use Rattle.adapter_core.specs.Trace.{Step, LawfulTrace, iface_text, engine_text}
 use Rattle.adapter_core.specs.Parts.{CoreParts}
 use Rattle.adapter_core.specs.Represents.{Represents}
 use Rattle.trace_scripts.specs.Script.{StepLinesAreShort, IsShortStep, events, step_text}
-use Rattle.line_command.specs.declared.ending.Ending.{Ending}
+use Rattle.replay_command_base.specs.declared.ending.Ending.{Ending}
 use Rattle.script_replay.specs.declared.stage.ScriptStage.{ScriptStage}
 use Rattle.script_replay.specs.declared.stage.ScriptStage.TheVariants as stages
 use Rattle.script_replay.specs.Stages.{IsNumbered, number_of_stage}
@@ -21,7 +21,7 @@ use Rattle.script_replay.specs.Versions.{Version, First, Second, LineSaid, Comes
 use Rattle.script_replay.specs.Versions.{script_beginning, behind_header, place_over, stage_started}
 use Rattle.script_replay.specs.Versions.{stage_after_event, script_by, script_events, script_fault}
 use Rattle.script_replay.specs.Versions.{settings_by, version_in}
-use Rattle.line_command.specs.declared.limits.TheConstants.{TEXT_ROOM}
+use Rattle.replay_command_base.specs.declared.limits.TheConstants.{TEXT_ROOM}
 
 -- a step of this event extends each lawful trace for which the core stood
 pub record StepExtends (old new : CoreParts) (e : Event) (step : Step) : Type 0 where

@@ -11,14 +11,14 @@ use Rattle.policy_rules.specs.declared.settings.Settings.{Settings}
 use Rattle.adapter_core.specs.Trace.{Step, LawfulTrace}
 use Rattle.adapter_core.specs.Represents.{Represents}
 use Rattle.trace_scripts.specs.Script.{events}
-use Rattle.line_command.specs.declared.ending.Ending.{Ending}
-use Rattle.line_command.specs.declared.ending.Ending.TheVariants as endings
+use Rattle.replay_command_base.specs.declared.ending.Ending.{Ending}
+use Rattle.replay_command_base.specs.declared.ending.Ending.TheVariants as endings
 use Rattle.script_replay.specs.declared.player.Player.{Player}
 use Rattle.script_replay.specs.declared.stage.ScriptStage.TheVariants as stages
 use Rattle.script_replay.specs.Playing.{ReplayMayTake, OutputIsScript, ReplayTook}
 use Rattle.script_replay.specs.Versions.{script_by, script_events}
 use Rattle.script_replay.specs.Versions.{script_fault, settings_by, version_in}
-use Rattle.line_command.specs.declared.limits.TheConstants.{TEXT_ROOM}
+use Rattle.replay_command_base.specs.declared.limits.TheConstants.{TEXT_ROOM}
 
 -- a session before its first line
 pub record IsFresh (o : Settings) (player : Player) : Type 0 where

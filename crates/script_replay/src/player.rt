@@ -18,9 +18,9 @@ ghost use Rattle.script_lines.specs.declared.step_text.TheConstants.{STEP_ROOM};
 
 use crate::stage::{LineSaid, ScriptStage};
 use adapter_core::Core;
-use line_command::{Ending, TEXT_ROOM, report_ending};
 use line_io::{Event, Failed, LineConsumer, NoMemory, Out, Sink, write_all};
 use policy_rules::Settings;
+use replay_command_base::{Ending, TEXT_ROOM, report_ending};
 use script_lines::{STEP_ROOM, put_numbered_step, put_step, read_header, write_header};
 use std::alloc::Global;
 
@@ -245,12 +245,12 @@ ghost use Rattle.std.specs.Prelude.{false, OnOk, OnErr};
 ghost use Rattle.std.specs.Io.KnownBytes.{Appends};
 ghost use Rattle.line_io.specs.Causes.{ErrorIsCounted};
 ghost use Rattle.line_io.specs.Source.{TakesPrefix};
-ghost use Rattle.line_command.specs.Diagnostics.{command_status, command_diagnostic};
-ghost use Rattle.line_command.specs.declared.limits.TheConstants.{DIAGNOSTIC_ROOM};
+ghost use Rattle.replay_command_base.specs.Diagnostics.{command_status, command_diagnostic};
+ghost use Rattle.replay_command_base.specs.declared.limits.TheConstants.{DIAGNOSTIC_ROOM};
 ghost use Rattle.script_replay.specs.Playing.{OutputIsScript};
 ghost use Rattle.script_replay.specs.Replaying.{is_cut, player_with_text, ReplayMayGoOn, ReplayAfterLine, ReplayStood, ReplayFinished, ReplayHalted, ReplayLeft};
 ghost use Rattle.script_replay.specs.Stages.{is_first_stage};
-ghost use Rattle.line_command.specs.DiagnosticWritten.{DiagnosticWritten};
+ghost use Rattle.replay_command_base.specs.DiagnosticWritten.{DiagnosticWritten};
 ghost use Rattle.script_replay.specs.Versions.{version_in};
 
 fn is_cut(ending: Ending) -> bool

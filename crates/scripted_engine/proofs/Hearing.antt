@@ -14,7 +14,7 @@ use Rattle.line_io.specs.declared.consumer.LinesEnd.TheVariants as ends
 use Rattle.scripted_engine.specs.Blocks.{Block}
 use Rattle.scripted_engine.specs.Queues.{ScriptedAnswers}
 use Rattle.scripted_engine.specs.Answers.{ScriptAfterLines, GivesAnswer}
-use Rattle.peer_words.specs.Quit.{is_quit}
+use Rattle.protocol_tokens.specs.Quit.{is_quit}
 use Rattle.scripted_engine.specs.Ends.{until_quit, has_quit_line, replies_after, scripted_replies, Answered, scripted_streams}
 use Rattle.line_io.specs.Source.{Received}
 use Rattle.scripted_engine.specs.Heard.{LinesAnswered, ScriptedHalted, answers_of, ending_of}

@@ -9,7 +9,7 @@ use Rattle.line_io.specs.Lines.{Piece, Whole, TooLong, SourceGave, items}
 use Rattle.line_io.specs.Runs.{whole}
 use Rattle.line_io.specs.Taken.{IsOver}
 use Rattle.line_io.specs.Source.{Supplied}
-use Rattle.peer_words.specs.Quit.{is_quit}
+use Rattle.protocol_tokens.specs.Quit.{is_quit}
 use Rattle.scripted_engine.specs.Blocks.{Block}
 use Rattle.scripted_engine.specs.Answers.{scripted_answer}
 use Rattle.scripted_engine.specs.Script.{first_bad, blocks_of}

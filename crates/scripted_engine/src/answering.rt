@@ -4,7 +4,7 @@ ghost use Rattle.scripted_engine.specs.Heard.{ending_of};
 
 use crate::{Scripted, ScriptedEnding};
 use line_io::{LineConsumer, LinesEnd, Sink, write_all};
-use peer_words::is_quit;
+use protocol_tokens::is_quit;
 
 /// Why no more lines are answered.
 #[derive(Clone, Copy)]

@@ -1,6 +1,6 @@
 -- The choice for an open search that was not stopped, by its tests alone.
 use Rattle.std.proofs.Common.{◌≡◌, Bool, true, false, if◌then◌else◌, ◌&&◌, ◌||◌, refl}
-use Rattle.peer_words.specs.declared.kinds.GoKind.{GoKind}
+use Rattle.protocol_tokens.specs.declared.kinds.GoKind.{GoKind}
 use Rattle.search_epochs.specs.declared.words.Orders.{Orders}
 use Rattle.search_epochs.specs.declared.words.Orders.TheVariants as orders
 use Rattle.search_epochs.specs.Dialogue.{choose_search, is_ponder, is_move_kind}

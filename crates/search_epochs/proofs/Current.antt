@@ -1,8 +1,8 @@
 -- The facts of an open current search, by what is kept.
 use Rattle.std.proofs.Common.{◌≡◌, ℕ, Bool, true, false, not, cond, ◌||◌, ◌==◌, refl, sym, ap, subst, ◌∙◌}
 use mathlib.Core.Bool.{not-not}
-use Rattle.peer_words.specs.declared.kinds.GoKind.{GoKind}
-use Rattle.peer_words.specs.declared.kinds.GoKind.TheVariants as kinds
+use Rattle.protocol_tokens.specs.declared.kinds.GoKind.{GoKind}
+use Rattle.protocol_tokens.specs.declared.kinds.GoKind.TheVariants as kinds
 use Rattle.search_epochs.specs.declared.words.EngineState.{EngineState}
 use Rattle.search_epochs.specs.declared.words.EngineState.TheVariants as states
 use Rattle.search_epochs.specs.declared.words.Call.{Call}

@@ -1,7 +1,7 @@
 -- Where orders stand, and which engine they reach.
 use Rattle.std.proofs.Common.{◌≡◌, ℕ, List, [], ◌∷◌, ◌++◌, Bool, true, false, refl, sym, ap, subst, ◌∙◌}
-use Rattle.peer_words.specs.declared.kinds.GoKind.{GoKind}
-use Rattle.peer_words.specs.declared.kinds.GoKind.TheVariants as kinds
+use Rattle.protocol_tokens.specs.declared.kinds.GoKind.{GoKind}
+use Rattle.protocol_tokens.specs.declared.kinds.GoKind.TheVariants as kinds
 use Rattle.search_epochs.specs.Tickets.{Engine, Boot, Getting, Idle, Search, Gone, Word, Uci, Stop, PonderHit, Quit, MaySend, MaySendAll, Paired, before_orders, engine_after_word, sent_all, is_engine_gone, has_quit_order}
 use Rattle.search_epochs.specs.History.{Exchange, LawfulHistory, dialogue, is_closed, closing_orders}
 use Rattle.search_epochs.specs.Laws.{order_needs_idle, IdleEngineGetsOrders, SearchGetsStop, PonderGetsHit, GoneGetsNothing, GoFollowsPosition, QuitOrderIsLast}

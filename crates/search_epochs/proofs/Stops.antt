@@ -1,6 +1,6 @@
 -- At most one `stop` in a search.
 use Rattle.std.proofs.Common.{◌≡◌, ℕ, ◌+◌, ◌≤◌, List, [], ◌∷◌, Bool, true, false, refl, sym, ap, subst, arith}
-use Rattle.peer_words.specs.declared.kinds.GoKind.TheVariants as kinds
+use Rattle.protocol_tokens.specs.declared.kinds.GoKind.TheVariants as kinds
 use Rattle.search_epochs.specs.Tickets.{Engine, Boot, Getting, Idle, Search, Gone, Word, Setup, IsReady, Position, Go, Stop, PonderHit, Quit, MaySendAll, Ticketed, before_orders, engine_after_word, sent_all, is_engine_gone}
 use Rattle.search_epochs.specs.History.{Exchange, AreLawful, LawfulHistory, dialogue, is_closed, closing_orders, stop_orders_after, stop_orders_since_go}
 use Rattle.search_epochs.specs.Laws.{StopOrderComesOnce}

@@ -1,6 +1,6 @@
 -- No ticket is ever above the epoch.
 use Rattle.std.proofs.Common.{ℕ, ◌+◌, List, [], ◌∷◌, Bool, true, false, cond, Option, Some, None, arith}
-use Rattle.peer_words.specs.declared.kinds.GoKind.TheVariants as kinds
+use Rattle.protocol_tokens.specs.declared.kinds.GoKind.TheVariants as kinds
 use Rattle.search_epochs.specs.Tickets.{Engine, Boot, Getting, Idle, Search, Gone, Word, Uci, IsReady, Go, PonderHit, Ticketed, TicketWithin, LastWithin, DialogueTurn, engine_after_heard, said_of_event, closed_ticket, engine_after_word, sent_all, before_orders}
 use Rattle.search_epochs.specs.History.{dialogue}
 use Rattle.search_epochs.specs.Laws.{TicketsAreWithin}

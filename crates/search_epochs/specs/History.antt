@@ -2,7 +2,7 @@
 use Rattle.std.specs.Prelude.{◌≡◌, ℕ, ◌+◌, List, [], ◌∷◌, Bool, true, false, not}
 use Rattle.std.specs.Prelude.{if◌then◌else◌, ◌==◌, ◌||◌, Option, Some, None}
 use Rattle.chess_board.specs.declared.board.Move.{Move}
-use Rattle.peer_words.specs.declared.kinds.GoKind.TheVariants as kinds
+use Rattle.protocol_tokens.specs.declared.kinds.GoKind.TheVariants as kinds
 use Rattle.search_epochs.specs.declared.words.EngineState.{EngineState}
 use Rattle.search_epochs.specs.declared.words.EngineState.TheVariants as states
 use Rattle.search_epochs.specs.declared.words.Call.{Call}

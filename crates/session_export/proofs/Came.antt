@@ -10,8 +10,8 @@ use Rattle.adapter_core.specs.Trace.{Step, LawfulTrace}
 use Rattle.adapter_core.specs.Parts.{CoreParts}
 use Rattle.adapter_core.specs.Represents.{Represents}
 use Rattle.trace_scripts.specs.Script.{events}
-use Rattle.line_command.specs.declared.ending.Ending.{Ending}
-use Rattle.line_command.specs.declared.ending.Ending.TheVariants as endings
+use Rattle.replay_command_base.specs.declared.ending.Ending.{Ending}
+use Rattle.replay_command_base.specs.declared.ending.Ending.TheVariants as endings
 use Rattle.script_replay.specs.declared.stage.ScriptStage.{ScriptStage}
 use Rattle.script_replay.specs.declared.stage.ScriptStage.TheVariants as stages
 use Rattle.script_replay.specs.Stages.{is_first_stage}
@@ -21,7 +21,7 @@ use Rattle.script_replay.proofs.VersionLines.{version_stays}
 use Rattle.script_replay.proofs.Plays.{begun_plain}
 use Rattle.script_replay.proofs.LineFaults.{script_has}
 use Rattle.script_replay.proofs.Players.{first_line, first_long, header_line, next_line, started, unstarted}
-use Rattle.line_command.specs.Putting.{IsInputEnd, FilterThen}
+use Rattle.replay_command_base.specs.Putting.{IsInputEnd, FilterThen}
 use Rattle.session_export.specs.declared.writer.SessionWriter.{SessionWriter}
 use Rattle.session_export.specs.Exporting.{Exporting, event_lines, numbers_of, steps_text, exported_text}
 use Rattle.session_export.specs.Writing.{CameTo, ExportsLine, ExportFaulted, ExportFinished, HasOpened, HasSession, IsTextOf, IsExported, WriterIsUnused, ExportEndsWith, Written, silent_sink, export_meaning}

@@ -14,19 +14,19 @@ use Rattle.adapter_core.proofs.StateInvariants.{stands_first}
 use Rattle.adapter_core.proofs.Unique.{unique}
 use Rattle.trace_scripts.specs.Script.{events}
 use Rattle.trace_scripts.proofs.Scripts.{same_trace}
-use Rattle.line_command.specs.declared.ending.Ending.{Ending}
-use Rattle.line_command.specs.declared.ending.Ending.TheVariants as endings
-use Rattle.line_command.specs.Diagnostics.{command_status, command_diagnostic}
-use Rattle.line_command.specs.Ran.{FilterRan}
-use Rattle.line_command.specs.Reads.{AreRead}
-use Rattle.line_command.specs.Streams.{FilterStreams}
+use Rattle.replay_command_base.specs.declared.ending.Ending.{Ending}
+use Rattle.replay_command_base.specs.declared.ending.Ending.TheVariants as endings
+use Rattle.replay_command_base.specs.Diagnostics.{command_status, command_diagnostic}
+use Rattle.replay_command_base.specs.Ran.{FilterRan}
+use Rattle.replay_command_base.specs.Reads.{AreRead}
+use Rattle.replay_command_base.specs.Streams.{FilterStreams}
 use Rattle.script_replay.specs.Stages.{IsNumbered, is_first_stage}
 use Rattle.script_replay.specs.Versions.{script_events, script_fault, settings_by, version_in}
 use Rattle.script_replay.proofs.VersionLines.{not_none, one_fault, same_fault, no_fault}
-use Rattle.line_command.specs.Outcomes.{LineReported, Outcome, WroteLast}
-use Rattle.line_command.proofs.Outcomes.{outcome}
-use Rattle.line_command.specs.Putting.{IsInputEnd, IsOfLine}
-use Rattle.line_command.specs.Filtered.{FilterEndsBy, EndsRightly, HasReason, IsText, WrotePrefix, WroteAll, WroteWhole}
+use Rattle.replay_command_base.specs.Outcomes.{LineReported, Outcome, WroteLast}
+use Rattle.replay_command_base.proofs.Outcomes.{outcome}
+use Rattle.replay_command_base.specs.Putting.{IsInputEnd, IsOfLine}
+use Rattle.replay_command_base.specs.Filtered.{FilterEndsBy, EndsRightly, HasReason, IsText, WrotePrefix, WroteAll, WroteWhole}
 use Rattle.session_export.specs.declared.writer.SessionWriter.{SessionWriter}
 use Rattle.session_export.specs.Exporting.{Exporting, text_with_end, exported_text}
 use Rattle.session_export.specs.Writing.{ExportFaulted, ExportFinished, HasSession, WriterIsUnused, MayWrite, ExportEndsWith, Written, new_session_writer, export_meaning}

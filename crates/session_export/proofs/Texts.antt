@@ -6,7 +6,7 @@ use Rattle.game_record.specs.Game.{Game}
 use Rattle.san_text.specs.GameText.{game_text}
 use Rattle.adapter_core.specs.Trace.{Step}
 use Rattle.trace_scripts.specs.Script.{events}
-use Rattle.line_command.specs.declared.ending.Ending.TheVariants as endings
+use Rattle.replay_command_base.specs.declared.ending.Ending.TheVariants as endings
 use Rattle.script_replay.specs.Versions.{script_events, settings_by, version_in}
 use Rattle.session_export.specs.Exporting.{text_with_end, event_lines, game_at, game_of, exported_game, steps_text, exported_text}
 use Rattle.session_export.proofs.Numbers.{as_many}

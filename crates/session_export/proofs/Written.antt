@@ -8,13 +8,13 @@ use Rattle.policy_rules.specs.Policy.{IsProper}
 use Rattle.policy_rules.specs.declared.settings.Settings.{Settings}
 use Rattle.adapter_core.specs.Trace.{Step}
 use Rattle.trace_scripts.specs.Script.{events}
-use Rattle.line_command.specs.declared.ending.Ending.TheVariants as endings
-use Rattle.line_command.specs.Diagnostics.{tail_of}
-use Rattle.line_command.specs.Ran.{FilterRan}
-use Rattle.line_command.specs.Streams.{FilterStreams, AreSame}
-use Rattle.line_command.specs.DiagnosticWritten.{DiagnosticWritten}
-use Rattle.line_command.proofs.Outcomes.{memory_ran}
-use Rattle.line_command.specs.Filtered.{FilterEndsBy}
+use Rattle.replay_command_base.specs.declared.ending.Ending.TheVariants as endings
+use Rattle.replay_command_base.specs.Diagnostics.{tail_of}
+use Rattle.replay_command_base.specs.Ran.{FilterRan}
+use Rattle.replay_command_base.specs.Streams.{FilterStreams, AreSame}
+use Rattle.replay_command_base.specs.DiagnosticWritten.{DiagnosticWritten}
+use Rattle.replay_command_base.proofs.Outcomes.{memory_ran}
+use Rattle.replay_command_base.specs.Filtered.{FilterEndsBy}
 use Rattle.script_replay.specs.Versions.{script_events, settings_by, version_in}
 use Rattle.session_export.specs.Outcomes.{AllExported, ExportedToFault, PrefixExported, IsExportedOrEnded, SessionOutcome, WholeExported, WritesText}
 use Rattle.session_export.specs.Writing.{WriterIsUnused}

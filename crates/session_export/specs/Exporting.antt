@@ -6,7 +6,7 @@ use Rattle.chess_board.specs.Play.{start_position}
 use Rattle.game_record.specs.Game.{Game, game_from}
 use Rattle.policy_rules.specs.declared.settings.Settings.{Settings}
 use Rattle.adapter_core.specs.Trace.{Step, state}
-use Rattle.line_command.specs.declared.ending.Ending.{Ending}
+use Rattle.replay_command_base.specs.declared.ending.Ending.{Ending}
 use Rattle.script_replay.specs.Versions.{ScriptPlace, LineSaid, Comes, Passes, Starts}
 use Rattle.script_replay.specs.Versions.{script_beginning, behind_header, header_lines}
 use Rattle.script_replay.specs.Versions.{line_says, place_said, settings_by, version_in}

@@ -4,9 +4,9 @@ use Rattle.chess_board.specs.Play.{start_position}
 use Rattle.game_record.specs.Game.{Game, game_from}
 use Rattle.policy_rules.specs.declared.settings.Settings.{Settings}
 use Rattle.adapter_core.specs.Trace.{Step}
-use Rattle.line_command.specs.declared.ending.Ending.{Ending}
-use Rattle.line_command.specs.declared.ending.Ending.TheVariants as endings
-use Rattle.line_command.specs.Putting.{Putting}
+use Rattle.replay_command_base.specs.declared.ending.Ending.{Ending}
+use Rattle.replay_command_base.specs.declared.ending.Ending.TheVariants as endings
+use Rattle.replay_command_base.specs.Putting.{Putting}
 use Rattle.session_export.specs.declared.writer.SessionWriter.{SessionWriter}
 use Rattle.session_export.specs.Exporting.{Exporting, game_at}
 use Rattle.session_export.specs.Writing as writing

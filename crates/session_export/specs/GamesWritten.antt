@@ -8,12 +8,12 @@ use Rattle.line_io.specs.Source.{TakesPrefix}
 use Rattle.game_record.specs.Game.{Game}
 use Rattle.policy_rules.specs.declared.settings.Settings.{Settings}
 use Rattle.adapter_core.specs.Trace.{Step}
-use Rattle.line_command.specs.declared.ending.Ending.{Ending}
-use Rattle.line_command.specs.Diagnostics.{command_diagnostic}
-use Rattle.line_command.specs.Ran.{FilterRan, WritingBroke}
-use Rattle.line_command.specs.Reads.{AreFirst, AreRead, Got, IsAll}
-use Rattle.line_command.specs.Streams.{FilterStreams, AreSame, HasNoFault}
-use Rattle.line_command.specs.Filtered.{AreAll, FilterEndsBy}
+use Rattle.replay_command_base.specs.declared.ending.Ending.{Ending}
+use Rattle.replay_command_base.specs.Diagnostics.{command_diagnostic}
+use Rattle.replay_command_base.specs.Ran.{FilterRan, WritingBroke}
+use Rattle.replay_command_base.specs.Reads.{AreFirst, AreRead, Got, IsAll}
+use Rattle.replay_command_base.specs.Streams.{FilterStreams, AreSame, HasNoFault}
+use Rattle.replay_command_base.specs.Filtered.{AreAll, FilterEndsBy}
 use Rattle.script_replay.specs.Versions.{script_fault, settings_by, version_in}
 use Rattle.session_export.specs.Outcomes.{IsSession, ExportReportsFault}
 use Rattle.session_export.specs.Games.{games_over}

@@ -7,14 +7,14 @@ use Rattle.line_io.specs.Runs.{whole}
 use Rattle.policy_rules.specs.declared.settings.Settings.{Settings}
 use Rattle.adapter_core.specs.Trace.{Step, LawfulTrace}
 use Rattle.trace_scripts.specs.Script.{events}
-use Rattle.line_command.specs.declared.ending.Ending.{Ending}
-use Rattle.line_command.specs.declared.ending.Ending.TheVariants as endings
-use Rattle.line_command.specs.Diagnostics.{command_diagnostic}
-use Rattle.line_command.specs.Ran.{WritingBroke}
-use Rattle.line_command.specs.Reads.{AreFirst, AreRead, Got, IsAll}
-use Rattle.line_command.specs.Streams.{FilterStreams, AreSame, HasNoFault}
-use Rattle.line_command.specs.Putting.{IsInputEnd}
-use Rattle.line_command.specs.Filtered.{EndsRightly}
+use Rattle.replay_command_base.specs.declared.ending.Ending.{Ending}
+use Rattle.replay_command_base.specs.declared.ending.Ending.TheVariants as endings
+use Rattle.replay_command_base.specs.Diagnostics.{command_diagnostic}
+use Rattle.replay_command_base.specs.Ran.{WritingBroke}
+use Rattle.replay_command_base.specs.Reads.{AreFirst, AreRead, Got, IsAll}
+use Rattle.replay_command_base.specs.Streams.{FilterStreams, AreSame, HasNoFault}
+use Rattle.replay_command_base.specs.Putting.{IsInputEnd}
+use Rattle.replay_command_base.specs.Filtered.{EndsRightly}
 use Rattle.script_replay.specs.Versions.{script_events, script_fault, settings_by, version_in}
 use Rattle.session_export.specs.Exporting.{Exporting, text_with_end, exported_text}
 use Rattle.line_io.specs.declared.limits.TheConstants.{SCRIPT_LINE}

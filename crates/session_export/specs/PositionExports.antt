@@ -6,7 +6,7 @@ use Rattle.line_io.specs.Lines.{Piece}
 use Rattle.game_record.specs.Game.{Game}
 use Rattle.policy_rules.specs.declared.settings.Settings.{Settings}
 use Rattle.adapter_core.specs.Trace.{Step}
-use Rattle.line_command.specs.Putting.{Putting}
+use Rattle.replay_command_base.specs.Putting.{Putting}
 use Rattle.script_replay.specs.Versions.{settings_by, version_in}
 use Rattle.session_export.specs.declared.writer.SessionWriter.{SessionWriter}
 use Rattle.session_export.specs.Exporting.{Exporting, event_lines}

@@ -2,7 +2,7 @@
 use Rattle.std.specs.Prelude.{ℕ, List, [], ◌∷◌, ◌++◌, decimal, if◌then◌else◌}
 use Rattle.std.specs.Str.{bytes_eq}
 use Rattle.line_io.specs.Lines.{line_feed}
-use Rattle.peer_words.specs.Bytes.{blank}
+use Rattle.protocol_tokens.specs.Bytes.{blank}
 use Rattle.fen_text.specs.Written.{position_fen}
 use Rattle.game_record.specs.Game.{Game, current_position}
 use Rattle.policy_rules.specs.declared.settings.Settings.{Settings}

@@ -6,12 +6,12 @@ use Rattle.line_io.specs.Lines.{Piece, items}
 use Rattle.line_io.specs.Runs.{whole}
 use Rattle.policy_rules.specs.declared.settings.Settings.{Settings}
 use Rattle.adapter_core.specs.Trace.{Step}
-use Rattle.line_command.specs.declared.ending.Ending.{Ending}
-use Rattle.line_command.specs.Diagnostics.{command_diagnostic}
-use Rattle.line_command.specs.Ran.{FilterRan, WritingBroke}
-use Rattle.line_command.specs.Reads.{AreFirst, AreRead, Got, IsAll}
-use Rattle.line_command.specs.Streams.{FilterStreams, AreSame, HasNoFault}
-use Rattle.line_command.specs.Filtered.{FilterEndsBy}
+use Rattle.replay_command_base.specs.declared.ending.Ending.{Ending}
+use Rattle.replay_command_base.specs.Diagnostics.{command_diagnostic}
+use Rattle.replay_command_base.specs.Ran.{FilterRan, WritingBroke}
+use Rattle.replay_command_base.specs.Reads.{AreFirst, AreRead, Got, IsAll}
+use Rattle.replay_command_base.specs.Streams.{FilterStreams, AreSame, HasNoFault}
+use Rattle.replay_command_base.specs.Filtered.{FilterEndsBy}
 use Rattle.script_replay.specs.Versions.{script_fault}
 use Rattle.session_export.specs.Outcomes.{IsSession, ExportReportsFault}
 use Rattle.session_export.specs.PositionExports.{new_position_writer, text_of_lines, writes_positions}

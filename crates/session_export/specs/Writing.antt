@@ -10,15 +10,15 @@ use Rattle.adapter_core.specs.Trace.{Step, LawfulTrace}
 use Rattle.adapter_core.specs.Parts.{CoreParts, opening_core_parts}
 use Rattle.adapter_core.specs.Represents.{Represents}
 use Rattle.trace_scripts.specs.Script.{IsShortStep, events}
-use Rattle.line_command.specs.declared.ending.Ending.{Ending}
-use Rattle.line_command.specs.declared.ending.Ending.TheVariants as endings
+use Rattle.replay_command_base.specs.declared.ending.Ending.{Ending}
+use Rattle.replay_command_base.specs.declared.ending.Ending.TheVariants as endings
 use Rattle.script_replay.specs.declared.stage.ScriptStage.{ScriptStage}
 use Rattle.script_replay.specs.declared.stage.ScriptStage.TheVariants as stages
 use Rattle.script_replay.specs.Stages.{IsNumbered, is_first_stage}
 use Rattle.script_replay.specs.Versions.{LineSaid, Comes, Starts, script_events, script_fault}
 use Rattle.script_replay.specs.Versions.{settings_by, stage_started, stage_after_event, version_in}
 use Rattle.script_replay.specs.Playing.{StepExtends, ReplayTook}
-use Rattle.line_command.specs.Putting.{Putting}
+use Rattle.replay_command_base.specs.Putting.{Putting}
 use Rattle.session_export.specs.declared.writer.SessionWriter.{SessionWriter}
 use Rattle.session_export.specs.Following.{IsReached}
 use Rattle.session_export.specs.Exporting.{Exporting, text_with_end, exported_text}

@@ -7,8 +7,8 @@ ghost use Rattle.session_export.specs.Following.{GameFollows};
 ghost use Rattle.session_export.specs.Exporting.{Exporting, game_at};
 
 use game_record::Game;
-use line_command::{Ending, LINE_ROOM};
 use line_io::{Event, NoMemory, Out};
+use replay_command_base::{Ending, LINE_ROOM};
 use std::alloc::Global;
 
 /// The greatest number of bytes put for one step, or for the end. A line may have two of these: a session

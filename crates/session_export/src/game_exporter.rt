@@ -10,8 +10,8 @@ use crate::follow::follow;
 use crate::over::is_over;
 use crate::{SessionWriter, StepExporter};
 use game_record::Game;
-use line_command::Ending;
 use line_io::{Event, NoMemory, Out};
+use replay_command_base::Ending;
 use san_text::write_game;
 use std::alloc::Global;
 

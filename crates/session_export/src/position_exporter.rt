@@ -2,15 +2,15 @@
 ghost use Rattle.std.specs.Prelude.{◌≡◌, ◌+◌, ◌≤◌, ◌∷◌, ◌++◌, [], length, decimal};
 ghost use Rattle.line_io.specs.Lines.{line_feed};
 ghost use Rattle.line_io.specs.Out.{with};
-ghost use Rattle.peer_words.specs.Bytes.{blank};
+ghost use Rattle.protocol_tokens.specs.Bytes.{blank};
 
 use crate::{SessionWriter, StepExporter};
 use arrayvec::ArrayVec;
 use fen_text::write_fen;
 use game_record::Game;
 use itoa::Buffer;
-use line_command::Ending;
 use line_io::{Event, NoMemory, Out};
+use replay_command_base::Ending;
 use std::alloc::Global;
 
 /// A session whose positions are written.

@@ -1,14 +1,14 @@
 // The command `positions`.
 ghost use Rattle.std.specs.Prelude.{◌≡◌};
-ghost use Rattle.line_command.specs.Diagnostics.{command_status};
-ghost use Rattle.line_command.specs.Streams.{filter_streams};
+ghost use Rattle.replay_command_base.specs.Diagnostics.{command_status};
+ghost use Rattle.replay_command_base.specs.Streams.{filter_streams};
 ghost use Rattle.policy_rules.specs.Policy.{IsProper};
 ghost use Rattle.session_export.specs.PositionsWritten.{PositionsWritten};
 
 use crate::position_exporter::PositionWriter;
-use line_command::{Ending, report_without_buffer, run_filter};
 use line_io::{Sink, Source};
 use policy_rules::Settings;
+use replay_command_base::{Ending, report_without_buffer, run_filter};
 use std::alloc::Global;
 
 /// Writes the positions of the session whose script is the input, and reports how that ended.

@@ -2,7 +2,7 @@
 ghost use Rattle.std.specs.Prelude.{◌≡◌, ◌+◌, ◌≤◌, [], length, true, false, Option, Some, None, IfOk, IfSome};
 ghost use Rattle.line_io.specs.Event.{event_of};
 ghost use Rattle.line_io.specs.Lines.{Whole};
-ghost use Rattle.line_command.specs.Putting.{IsOfLine};
+ghost use Rattle.replay_command_base.specs.Putting.{IsOfLine};
 ghost use Rattle.policy_rules.specs.Policy.{IsProper};
 ghost use Rattle.game_record.specs.Game.{Game as AnyGame};
 ghost use Rattle.adapter_core.specs.Ends.{may};
@@ -16,9 +16,9 @@ ghost use Rattle.session_export.specs.declared.exporter.TheConstants.{EXPORT_ROO
 
 use crate::exporter::StepExporter;
 use adapter_core::Core;
-use line_command::{Ending, LineFilter};
 use line_io::{Event, NoMemory, Out};
 use policy_rules::Settings;
+use replay_command_base::{Ending, LineFilter};
 use script_lines::read_header;
 use script_replay::{LineSaid, ScriptStage};
 use std::alloc::Global;

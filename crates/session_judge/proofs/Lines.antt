@@ -6,11 +6,11 @@ use Rattle.std.specs.Option.{MatchOption}
 use Rattle.std.proofs.lemmas.List.Elements.{filter-append}
 use Rattle.chess_board.specs.Position.{Position}
 use Rattle.chess_board.specs.Spelling.{move_spelled_by}
-use Rattle.peer_words.specs.Tokens.{is_white, tokens}
-use Rattle.peer_words.proofs.TokenLists.{tokens_white}
+use Rattle.protocol_tokens.specs.Tokens.{is_white, tokens}
+use Rattle.protocol_tokens.proofs.TokenLists.{tokens_white}
 use Rattle.uci_lines.specs.Spells.{begins_white}
-use Rattle.uci_as_engine.specs.Lines.{Line, position_line_in, line_in, line_from, line_to, start_position_in, position_after_texts, played_if_legal, is_moves_token, before_moves, behind_moves}
-use Rattle.uci_as_engine.proofs.Played.{led_none}
+use Rattle.uci_interface_lines.specs.Lines.{Line, position_line_in, line_in, line_from, line_to, start_position_in, position_after_texts, played_if_legal, is_moves_token, before_moves, behind_moves}
+use Rattle.uci_interface_lines.proofs.Played.{led_none}
 use Rattle.session_judge.specs.DialogueEvents.{end_of}
 use Rattle.session_judge.specs.Played.{LeadsTo, LineExtends, LineGoesOn}
 

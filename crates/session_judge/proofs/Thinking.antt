@@ -2,8 +2,8 @@
 use Rattle.std.proofs.Common.{◌≡◌, ℕ, List, [], ◌∷◌, ◌++◌, codes, Bool, true, false, not, Option, Some, None, refl, sym, ap, ◌∙◌}
 use Rattle.std.specs.List.{list_all}
 use Rattle.std.proofs.lemmas.Bool.{and_parts}
-use Rattle.peer_words.specs.Tokens.{first_token, rest_after_token, tokens}
-use Rattle.peer_words.proofs.TokenLists.{tokens_some}
+use Rattle.protocol_tokens.specs.Tokens.{first_token, rest_after_token, tokens}
+use Rattle.protocol_tokens.proofs.TokenLists.{tokens_some}
 use Rattle.uci_lines.specs.Cuts.{Found, found_token, is_known}
 use Rattle.uci_lines.specs.Engine.{engine_message, found_message, said_after}
 use Rattle.uci_lines.specs.Spells.{IsNoneOf}

@@ -2,7 +2,7 @@
 -- says, a move that is shown.
 use Rattle.std.specs.Prelude.{ℕ, List, codes, ◌||◌, if◌then◌else◌, Option, Some, None}
 use Rattle.line_io.specs.Event as events
-use Rattle.peer_words.specs.Tokens.{first_token}
+use Rattle.protocol_tokens.specs.Tokens.{first_token}
 use Rattle.chess_board.specs.declared.board.Move.{Move}
 use Rattle.chess_board.specs.Position.{Position}
 use Rattle.chess_board.specs.Spelling.{move_spelled_by}
@@ -13,8 +13,8 @@ use Rattle.uci_lines.specs.Engine.{engine_message}
 use Rattle.uci_lines.specs.Messages.{EngineMsg}
 use Rattle.uci_lines.specs.Messages as says
 use Rattle.uci_lines.specs.Written.{is_written_move}
-use Rattle.uci_as_engine.specs.Kinds.{kind_asked}
-use Rattle.uci_as_engine.specs.Lines.{Line, position_line_in}
+use Rattle.uci_interface_lines.specs.Kinds.{kind_asked}
+use Rattle.uci_interface_lines.specs.Lines.{Line, position_line_in}
 use Rattle.session_judge.specs.declared.dialogue_event.OrderKind.{OrderKind}
 use Rattle.session_judge.specs.declared.dialogue_event.OrderKind.TheVariants as orders
 use Rattle.session_judge.specs.declared.dialogue_event.OrderWord.{OrderWord}

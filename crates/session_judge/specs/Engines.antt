@@ -1,6 +1,6 @@
 -- The engine, as the marks of a log show it.
 use Rattle.std.specs.Prelude.{Bool, true, false, not}
-use Rattle.peer_words.specs.declared.kinds.GoKind.TheVariants as kinds
+use Rattle.protocol_tokens.specs.declared.kinds.GoKind.TheVariants as kinds
 use Rattle.session_judge.specs.declared.dialogue_event.OrderKind.TheVariants as orders
 use Rattle.session_judge.specs.declared.dialogue_event.DialogueEvent.{DialogueEvent}
 use Rattle.session_judge.specs.declared.dialogue_event.DialogueEvent.TheVariants as dialogue_events

@@ -1,9 +1,9 @@
 -- Lines that go on where another one ends.
 use Rattle.std.specs.Prelude.{◌≡◌, ◌≢◌, ℕ, List, [], ◌++◌, drop, true, Some}
-use Rattle.peer_words.specs.Tokens.{tokens}
+use Rattle.protocol_tokens.specs.Tokens.{tokens}
 use Rattle.chess_board.specs.Position.{Position}
 use Rattle.uci_lines.specs.Spells.{begins_white}
-use Rattle.uci_as_engine.specs.Lines.{position_line_in, behind_moves}
+use Rattle.uci_interface_lines.specs.Lines.{position_line_in, behind_moves}
 use Rattle.session_judge.specs.DialogueEvents.{end_of}
 
 -- A `position` line that has moves leads to this position.

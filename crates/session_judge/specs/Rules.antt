@@ -3,8 +3,8 @@
 use Rattle.std.specs.Prelude.{Bool, true, false, not, ◌&&◌, if◌then◌else◌, Option, Some, None}
 use Rattle.chess_board.specs.declared.board.Move.{Move}
 use Rattle.chess_board.specs.Place.{legal}
-use Rattle.peer_words.specs.declared.kinds.GoKind.{GoKind}
-use Rattle.peer_words.specs.declared.kinds.GoKind.TheVariants as kinds
+use Rattle.protocol_tokens.specs.declared.kinds.GoKind.{GoKind}
+use Rattle.protocol_tokens.specs.declared.kinds.GoKind.TheVariants as kinds
 use Rattle.search_epochs.specs.Tickets.{same_move}
 use Rattle.session_judge.specs.declared.dialogue_event.OrderKind.{OrderKind}
 use Rattle.session_judge.specs.declared.dialogue_event.OrderKind.TheVariants as orders

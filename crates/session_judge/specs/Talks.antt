@@ -3,8 +3,8 @@ use Rattle.std.specs.Prelude.{ℕ, false, true, if◌then◌else◌, Option, Som
 use Rattle.chess_board.specs.declared.board.Move.{Move}
 use Rattle.chess_board.specs.Position.{Position}
 use Rattle.chess_board.specs.Play.{start_position}
-use Rattle.peer_words.specs.declared.kinds.GoKind.{GoKind}
-use Rattle.peer_words.specs.declared.kinds.GoKind.TheVariants as kinds
+use Rattle.protocol_tokens.specs.declared.kinds.GoKind.{GoKind}
+use Rattle.protocol_tokens.specs.declared.kinds.GoKind.TheVariants as kinds
 use Rattle.session_judge.specs.declared.dialogue_event.OrderKind.{OrderKind}
 use Rattle.session_judge.specs.declared.dialogue_event.OrderKind.TheVariants as orders
 use Rattle.session_judge.specs.declared.dialogue_event.DialogueEvent.{DialogueEvent}

@@ -8,9 +8,9 @@ ghost use Rattle.session_judge.specs.DialogueEvents.{dialogue_event_of, order_by
 use crate::played::PlayedLine;
 use chess_board::{Move, Position, read_move, write_move};
 use line_io::Event;
-use peer_words::{GoKind, named, split_token};
+use protocol_tokens::{GoKind, named, split_token};
 use script_lines::Mark;
-use uci_as_engine::go_kind;
+use uci_interface_lines::go_kind;
 use uci_lines::{EngineMsg, read_engine};
 
 /// The kind of an order by its first token (UCI, April 2006, "GUI to engine").

@@ -3,7 +3,7 @@ ghost use Rattle.std.specs.Prelude.{◌≡◌};
 ghost use Rattle.session_judge.specs.Engines.{engine_after, is_idle, is_phase_pondering, is_running, is_searching};
 
 use crate::dialogue_event::{DialogueEvent, OrderKind};
-use peer_words::GoKind;
+use protocol_tokens::GoKind;
 
 /// The state of the engine, as it is while the engine lives.
 #[derive(Clone, Copy)]

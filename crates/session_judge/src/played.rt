@@ -1,15 +1,15 @@
 // The line of the game that is searched in.
 ghost use Rattle.std.specs.Prelude.{◌≡◌, IfSome};
 ghost use Rattle.uci_lines.specs.Spells.{begins_white};
-ghost use Rattle.uci_as_engine.specs.Lines.{position_line_in};
+ghost use Rattle.uci_interface_lines.specs.Lines.{position_line_in};
 ghost use Rattle.session_judge.specs.DialogueEvents.{end_of};
 ghost use Rattle.session_judge.specs.Played.{LineExtends, LineGoesOn, LeadsTo};
 
 use chess_board::Position;
-use peer_words::{is_white, next_token};
+use protocol_tokens::{is_white, next_token};
 use std::alloc::Global;
 use std::marker::Model;
-use uci_as_engine::{play_all, spoken};
+use uci_interface_lines::{play_all, spoken};
 
 /// The last `position` line that has moves, and the position to which it leads, so that of a line which only adds moves
 /// to it no more than these are played. It changes no answer: without memory for a line all its moves are played.

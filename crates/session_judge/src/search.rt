@@ -1,6 +1,6 @@
 // Searches, as a log shows them.
 use chess_board::Move;
-use peer_words::GoKind;
+use protocol_tokens::GoKind;
 
 /// A search. They are numbered from 1, and the number stays at the last value of its type. `kind` is that of its `go`,
 /// and Move once `ponderhit` was written in it. `begun` and `ended` are the lines of its `go` and of its `bestmove`.

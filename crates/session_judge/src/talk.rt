@@ -13,7 +13,7 @@ use crate::listener::Listener;
 use crate::rule::Rule;
 use crate::search::Search;
 use chess_board::{Move, Position};
-use peer_words::GoKind;
+use protocol_tokens::GoKind;
 
 /// The last number of a search, and of a crossing.
 const LAST_NUMBER: u64 = u64::MAX;

@@ -8,7 +8,7 @@ use Rattle.event_pipe.specs.declared.message.Peer.TheVariants as peers
 use Rattle.event_pipe.specs.declared.message.MessageBody.TheVariants as says
 use Rattle.event_pipe.specs.Message.{sent_event}
 use Rattle.tap_runner.specs.Lines.{tap_line_limit}
-use Rattle.peer_words.specs.Bytes.{blank}
+use Rattle.protocol_tokens.specs.Bytes.{blank}
 
 -- the bridge has the place of the interface in the channel
 abbrev pub mark_letter : Peer → ℕ

@@ -13,8 +13,8 @@ use Rattle.chess_board.specs.Text.{text_of_move}
 use Rattle.chess_board.proofs.Count.{count_below-le}
 use Rattle.chess_board.proofs.LegalMoves.{is_legal}
 use Rattle.chess_board.proofs.TextLengths.{move_fits, move_length}
-use Rattle.peer_words.specs.Tokens.{is_white, tokens}
-use Rattle.peer_words.proofs.Sizes.{digits_small}
+use Rattle.protocol_tokens.specs.Tokens.{is_white, tokens}
+use Rattle.protocol_tokens.proofs.Sizes.{digits_small}
 use Rattle.san_text.proofs.Lengths.{short}
 use Rattle.cecp_lines.specs.declared.reply.Spelling.{Spelling}
 use Rattle.cecp_lines.specs.declared.reply.Spelling.TheVariants.{Coordinates, San}

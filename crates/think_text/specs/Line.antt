@@ -21,7 +21,7 @@ use Rattle.uci_lines.specs.declared.messages.Score.TheVariants.{Cp, Mate}
 use Rattle.uci_lines.specs.Info.{Info as AnyInfo}
 use Rattle.uci_lines.specs.Messages.{Info}
 use Rattle.uci_lines.specs.Engine.{engine_message}
-use Rattle.peer_words.specs.Bytes.{blank}
+use Rattle.protocol_tokens.specs.Bytes.{blank}
 
 -- some line of the engine reports this
 abbrev pub InfoIsHeard : AnyInfo → Type 0

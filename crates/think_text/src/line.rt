@@ -2,14 +2,14 @@
 ghost use Rattle.std.specs.Option.{option_map, unwrap_or};
 ghost use Rattle.std.specs.Prelude.{◌≡◌, ◌+◌, ◌≤◌, ◌∷◌, ◌/◌, [], true, length, is_some, MatchOption};
 ghost use Rattle.line_io.specs.Out.{with};
-ghost use Rattle.peer_words.specs.Tokens.{tokens};
+ghost use Rattle.protocol_tokens.specs.Tokens.{tokens};
 ghost use Rattle.chess_board.specs.Place.{legal};
 ghost use Rattle.cecp_lines.specs.Replies.{Thinking, reply_of};
 ghost use Rattle.uci_lines.specs.Moves.{longest_move_run};
 ghost use Rattle.uci_lines.specs.Info.{info_of};
 ghost use Rattle.uci_lines.specs.Scores.{IsCentis};
 ghost use Rattle.think_text.specs.Line.{InfoIsHeard, IsPlayableAsHint, ThinkingLineHasRoom, legal_run, position_after_pv_move, value_of, spaced_moves, thinking_line, text_with_line, written};
-ghost use Rattle.peer_words.specs.Bytes.{blank};
+ghost use Rattle.protocol_tokens.specs.Bytes.{blank};
 
 use crate::texts::{bytes_of, hint_text, put_move, written};
 use crate::value::value_of;

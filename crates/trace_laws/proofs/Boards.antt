@@ -11,7 +11,7 @@ use Rattle.chess_board.specs.Board.{Pieces}
 use Rattle.chess_board.specs.Position.{Position}
 use Rattle.chess_board.specs.Play.{IsPosition, position_if_built, fits_board}
 use Rattle.chess_board.proofs.Built.{built-is}
-use Rattle.peer_words.specs.Tokens.{tokens}
+use Rattle.protocol_tokens.specs.Tokens.{tokens}
 use Rattle.fen_text.specs.Squares.{pieces_if_both, exactly, squares_in, rank_in_text, pieces_on_ranks, ranks_in, pieces_in_field, pieces_if_fitting, board_in_field}
 use Rattle.fen_text.specs.Fields.{en_passant_of, is_passed_square}
 use Rattle.fen_text.specs.Fen.{or_fault, position_from_fields, position_of}

@@ -4,8 +4,8 @@ use Rattle.line_io.specs.Event.{Event}
 use Rattle.line_io.specs.Event as events
 use Rattle.chess_board.specs.declared.board.Move.{Move}
 use Rattle.chess_board.specs.Place.{legal}
-use Rattle.peer_words.specs.declared.kinds.GoKind.{GoKind}
-use Rattle.peer_words.specs.declared.kinds.GoKind.TheVariants as kinds
+use Rattle.protocol_tokens.specs.declared.kinds.GoKind.{GoKind}
+use Rattle.protocol_tokens.specs.declared.kinds.GoKind.TheVariants as kinds
 use Rattle.cecp_lines.specs.Messages as messages
 use Rattle.cecp_lines.specs.Reading.{message_or_fault}
 use Rattle.uci_lines.specs.Messages.{EngineMsg}

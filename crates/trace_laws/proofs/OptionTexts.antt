@@ -3,7 +3,7 @@ use Rattle.std.proofs.Common.{◌≡◌, ℕ, List, [], ◌∷◌, ◌++◌, Boo
 use Rattle.std.specs.Prelude.{ℤ}
 use Rattle.std.specs.List.{AllByRecursion, flat_map}
 use Rattle.std.specs.Fmt.{signed_decimal}
-use Rattle.peer_words.specs.Tokens.{rest_after_token, trimmed}
+use Rattle.protocol_tokens.specs.Tokens.{rest_after_token, trimmed}
 use Rattle.uci_lines.specs.Cuts.{Found, is_word, is_known}
 use Rattle.uci_lines.specs.Messages as says
 use Rattle.uci_lines.specs.Messages.{EngineMsg, OptionKind}

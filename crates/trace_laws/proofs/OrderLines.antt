@@ -25,8 +25,8 @@ use Rattle.clock_map.specs.declared.request.SearchRequest.{SearchRequest}
 use Rattle.clock_map.specs.Search.{order_by_kind, time_of}
 use Rattle.clock_map.specs.declared.clocks.Clocks.{Clocks}
 use Rattle.chess_board.specs.declared.board.Side.{Side}
-use Rattle.peer_words.specs.declared.kinds.GoKind.{GoKind}
-use Rattle.peer_words.specs.declared.kinds.GoKind.TheVariants as kinds
+use Rattle.protocol_tokens.specs.declared.kinds.GoKind.{GoKind}
+use Rattle.protocol_tokens.specs.declared.kinds.GoKind.TheVariants as kinds
 use Rattle.option_map.specs.declared.fault.OptionFault.{OptionFault}
 use Rattle.policy_rules.specs.declared.settings.Settings.{Settings}
 use Rattle.option_map.specs.Settings.{OptionSetting}

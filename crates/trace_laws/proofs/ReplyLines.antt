@@ -8,7 +8,7 @@ use Rattle.chess_board.specs.declared.board.Move.{Move}
 use Rattle.chess_board.specs.declared.board.Side.{Side}
 use Rattle.chess_board.specs.Position.{Position}
 use Rattle.chess_board.specs.Text.{text_of_move}
-use Rattle.peer_words.specs.Tokens.{trimmed}
+use Rattle.protocol_tokens.specs.Tokens.{trimmed}
 use Rattle.cecp_lines.specs.Messages.{IfaceMsg}
 use Rattle.cecp_lines.specs.Messages as says
 use Rattle.cecp_lines.specs.declared.reply.Spelling.{Spelling}

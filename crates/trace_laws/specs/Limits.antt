@@ -1,6 +1,6 @@
 -- The limits of every core that stands for a lawful trace.
 use Rattle.std.specs.Prelude.{◌≡◌, ℕ, ◌≤◌, List, length, Bool, false}
-use Rattle.peer_words.specs.declared.kinds.GoKind.{GoKind}
+use Rattle.protocol_tokens.specs.declared.kinds.GoKind.{GoKind}
 use Rattle.option_map.specs.Held.{held_batch_text}
 use Rattle.option_map.specs.declared.held.TheConstants.{MOST_ORDERS, MOST_BYTES}
 use Rattle.policy_rules.specs.declared.settings.Settings.{Settings}

@@ -3,9 +3,9 @@ use Rattle.std.proofs.Common.{◌≡◌, ℕ, ◌<◌, ◌^◌, List, ◌++◌, 
 use Rattle.std.specs.Str.{bytes_eq}
 use Rattle.std.proofs.lemmas.Slice.Eq.{bytes_eq-Decides}
 use Rattle.std.proofs.lemmas.Option.{cond_some}
-use Rattle.peer_words.specs.Numbers.{count}
-use Rattle.peer_words.proofs.Written.{count_decimal, decimal_token}
-use Rattle.peer_words.proofs.Runs.{black}
+use Rattle.protocol_tokens.specs.Numbers.{count}
+use Rattle.protocol_tokens.proofs.Written.{count_decimal, decimal_token}
+use Rattle.protocol_tokens.proofs.Runs.{black}
 use Rattle.uci_lines.specs.Orders.{optional_number}
 use Rattle.uci_lines.specs.Behind.{after, exact_by, exact_count, count_with_rest, count_at_start, number_behind, number_or, perhaps_number}
 use Rattle.uci_lines.proofs.Prefixes.{BeginsWhite, prefix, behind, joined, prefix_is, behind_is}

@@ -1,8 +1,8 @@
 -- The tokens of a text that is cut: those before, the one at the cut, those after.
 use Rattle.std.proofs.Common.{◌≡◌, ℕ, List, [], ◌∷◌, ◌++◌, Bool, true, false, Option, Some, None, refl, sym, ap, ◌∙◌}
 use Rattle.std.specs.Option.{option_map}
-use Rattle.peer_words.specs.Tokens.{is_white, trim_left, trimmed, tokens}
-use Rattle.peer_words.proofs.TokenLists.{tokens_some, tokens_white, tokens_trimmed}
+use Rattle.protocol_tokens.specs.Tokens.{is_white, trim_left, trimmed, tokens}
+use Rattle.protocol_tokens.proofs.TokenLists.{tokens_some, tokens_white, tokens_trimmed}
 use Rattle.uci_lines.specs.Cuts.{Found, onto_part, found_token}
 use Rattle.uci_lines.proofs.Prefixes.{prefix, behind, prefix-white, behind-white, prefix-byte, behind-byte}
 use Rattle.uci_lines.proofs.Cutting.{part_at, step, here, black_first, prefix_kept}

@@ -5,8 +5,8 @@ use Rattle.std.proofs.lemmas.List.{take_more, append-nil}
 use Rattle.std.specs.List.{before_first, list_all}
 use Rattle.std.specs.Option.{option_map}
 use Rattle.std.proofs.lemmas.Bool.{and_parts}
-use Rattle.peer_words.specs.Tokens.{is_white, is_token, trim_left, token_end, first_token}
-use Rattle.peer_words.proofs.Runs.{black as bytes_of}
+use Rattle.protocol_tokens.specs.Tokens.{is_white, is_token, trim_left, token_end, first_token}
+use Rattle.protocol_tokens.proofs.Runs.{black as bytes_of}
 use Rattle.uci_lines.proofs.Prefixes.{BeginsWhite, joined, prefix_black, begins, prefix-white, prefix-byte, prefix_is, behind_is}
 use Rattle.uci_lines.specs.Cuts.{Found, onto_part, found_token}
 

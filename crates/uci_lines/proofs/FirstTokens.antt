@@ -4,9 +4,9 @@ use Rattle.std.proofs.lemmas.Bool.Decides.{nat_tests}
 use Rattle.std.specs.List.{list_all}
 use Rattle.std.specs.Option.{option_map}
 use Rattle.std.proofs.lemmas.Bool.{not-true, not_from_false, and_parts}
-use Rattle.peer_words.specs.Tokens.{is_white, is_token, tokens}
-use Rattle.peer_words.proofs.TokenLists.{tokens_white}
-use Rattle.peer_words.proofs.Runs.{black}
+use Rattle.protocol_tokens.specs.Tokens.{is_white, is_token, tokens}
+use Rattle.protocol_tokens.proofs.TokenLists.{tokens_white}
+use Rattle.protocol_tokens.proofs.Runs.{black}
 use Rattle.uci_lines.specs.Cuts.{Found, onto_part, found_token}
 use Rattle.uci_lines.specs.Spells.{begins_white, ends_white, IsNoneOf, FirstTokenPasses}
 use Rattle.uci_lines.proofs.Prefixes.{BeginsWhite, prefix, behind, prefix-white, behind-white, prefix-byte, behind-byte, prefix_is, behind_is}

@@ -2,7 +2,7 @@
 use Rattle.std.proofs.Common.{◌≡◌, ℕ, zero, suc, ◌<◌, arith, length-append, inl, inr, List, [], ◌∷◌, ◌++◌, Bool, true, false, ◌||◌, Option, Some, None, codes, cond, length, drop, refl, sym, ap, ◌∙◌, subst}
 use Rattle.std.proofs.Math.Seq.{drop-append_seam}
 use Rattle.chess_board.specs.declared.board.Move.{Move}
-use Rattle.peer_words.specs.Tokens.{is_token, trimmed}
+use Rattle.protocol_tokens.specs.Tokens.{is_token, trimmed}
 use Rattle.uci_lines.specs.Cuts.{Found, found_token, is_word, is_choice}
 use Rattle.uci_lines.specs.Choices.{values, before_choice, from_choice}
 use Rattle.chess_board.specs.Spelling.{move_spelled_by}

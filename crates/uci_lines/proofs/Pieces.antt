@@ -5,7 +5,7 @@ use Rattle.std.proofs.lemmas.Bool.Decides.{nat_tests}
 use Rattle.std.specs.List.{onto_first, list_all}
 use Rattle.std.specs.Option.{option_map}
 use Rattle.std.proofs.lemmas.Bool.{and_parts, or_parts}
-use Rattle.peer_words.specs.Tokens.{is_white, is_token, trimmed, first_token, rest_after_token}
+use Rattle.protocol_tokens.specs.Tokens.{is_white, is_token, trimmed, first_token, rest_after_token}
 use Rattle.uci_lines.specs.Cuts.{Found, onto_part, found_token, is_word, is_choice}
 use Rattle.uci_lines.specs.Choices.{pieces, values_among, values, before_choice, from_choice}
 use Rattle.uci_lines.proofs.Prefixes.{BeginsWhite, prefix, behind, prefix-white, behind-white, prefix-byte, behind-byte, first_is, rest_is}

@@ -2,8 +2,8 @@
 use Rattle.std.proofs.Common.{◌≡◌, ℕ, ◌+◌, List, [], ◌∷◌, ◌++◌, Bool, true, false, not, drop, refl, sym, ap, ◌∙◌, one-add}
 use Rattle.std.specs.List.{before_first, list_all}
 use Rattle.std.proofs.lemmas.Bool.{and_parts, not-true}
-use Rattle.peer_words.specs.Tokens.{is_white, is_token, token_end, first_token, rest_after_token, trimmed}
-use Rattle.peer_words.proofs.Runs.{starts_black, black}
+use Rattle.protocol_tokens.specs.Tokens.{is_white, is_token, token_end, first_token, rest_after_token, trimmed}
+use Rattle.protocol_tokens.proofs.Runs.{starts_black, black}
 
 -- nothing, or a text that begins with white space
 abbrev pub BeginsWhite : List ℕ → Type 0

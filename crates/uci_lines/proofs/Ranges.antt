@@ -1,7 +1,7 @@
 -- The last number after a word.
 use Rattle.std.proofs.Common.{◌≡◌, ℕ, ℤ, List, [], ◌∷◌, ◌++◌, Bool, true, false, Option, Some, None, codes, cond, refl, sym, ap, ◌∙◌, subst}
 use Rattle.std.specs.Option.{option_or}
-use Rattle.peer_words.specs.Numbers.{signed_number}
+use Rattle.protocol_tokens.specs.Numbers.{signed_number}
 use Rattle.uci_lines.specs.Cuts.{is_word}
 use Rattle.uci_lines.specs.Options.{SpinRange, first_signed, limited, range_from}
 use Rattle.uci_lines.specs.Spells.{IsLast}

@@ -2,7 +2,7 @@
 use Rattle.std.proofs.Common.{◌≡◌, ℕ, ℤ, int_lt, ◌↔◌, List, Bool, true, false, ◌||◌, Option, Some, None, codes, cond, refl, sym, ap, ◌∙◌, subst}
 use Rattle.std.specs.Int.{int_min, int_max}
 use Rattle.chess_board.specs.declared.board.Move.{Move}
-use Rattle.peer_words.specs.Tokens.{tokens, trimmed, first_token, rest_after_token}
+use Rattle.protocol_tokens.specs.Tokens.{tokens, trimmed, first_token, rest_after_token}
 use Rattle.uci_lines.specs.Cuts.{Found, found_token, is_word, is_known, is_choice}
 use Rattle.uci_lines.specs.Choices.{values, before_choice, choice_text}
 use Rattle.chess_board.specs.Spelling.{move_spelled_by}

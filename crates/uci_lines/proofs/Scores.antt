@@ -2,9 +2,9 @@
 use Rattle.std.proofs.Common.{◌≡◌, ℕ, ◌^◌, ◌<◌, Bool, true, false, cond, List, [], ◌∷◌, Option, Some, None, refl, subst}
 use Rattle.std.specs.Prelude.{ℤ, nat_abs, IfSome, codes}
 use Rattle.std.specs.Option.{option_or, option_map}
-use Rattle.peer_words.specs.Tokens.{tokens, trimmed, first_token, rest_after_token}
-use Rattle.peer_words.specs.Numbers.{centis}
-use Rattle.peer_words.proofs.Sizes.{centis_small}
+use Rattle.protocol_tokens.specs.Tokens.{tokens, trimmed, first_token, rest_after_token}
+use Rattle.protocol_tokens.specs.Numbers.{centis}
+use Rattle.protocol_tokens.proofs.Sizes.{centis_small}
 use Rattle.uci_lines.specs.declared.messages.Score.{Score}
 use Rattle.uci_lines.specs.declared.messages.Score.TheVariants.{Cp, Mate}
 use Rattle.uci_lines.specs.declared.info.InfoField.{InfoField}

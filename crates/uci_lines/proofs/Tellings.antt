@@ -3,7 +3,7 @@ use Rattle.std.proofs.Common.{◌≡◌, ◌≢◌, ℕ, zero, suc, ◌<◌, ◌
 use Rattle.std.specs.Option.{option_or, option_map}
 use Rattle.std.proofs.lemmas.Bool.{both_ways}
 use Rattle.chess_board.specs.declared.board.Move.{Move}
-use Rattle.peer_words.specs.Numbers.{count, centis}
+use Rattle.protocol_tokens.specs.Numbers.{count, centis}
 use Rattle.uci_lines.specs.declared.messages.Score.TheVariants.{Cp, Mate}
 use Rattle.uci_lines.specs.declared.info.InfoField.{InfoField}
 use Rattle.uci_lines.specs.declared.info.InfoField.TheVariants as fields

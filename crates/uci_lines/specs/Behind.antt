@@ -3,8 +3,8 @@ use Rattle.std.specs.Prelude.{ℕ, List, [], ◌∷◌, drop, decimal}
 use Rattle.std.specs.Prelude.{if◌then◌else◌, ◌==◌, Option, Some, None}
 use Rattle.std.specs.List.{before_first}
 use Rattle.std.specs.Str.{bytes_eq}
-use Rattle.peer_words.specs.Tokens.{is_white, token_end}
-use Rattle.peer_words.specs.Numbers.{count}
+use Rattle.protocol_tokens.specs.Tokens.{is_white, token_end}
+use Rattle.protocol_tokens.specs.Numbers.{count}
 
 -- what follows a word at the start
 abbrev pub after : List ℕ → List ℕ → Option (List ℕ)

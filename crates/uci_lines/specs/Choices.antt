@@ -2,7 +2,7 @@
 use Rattle.std.specs.Prelude.{ℕ, List, [], ◌∷◌, codes, length, drop, Bool}
 use Rattle.std.specs.Prelude.{true, ◌&&◌, if◌then◌else◌, Option, Some, None}
 use Rattle.std.specs.List.{before_first, onto_first}
-use Rattle.peer_words.specs.Tokens.{is_white, trimmed, first_token, rest_after_token}
+use Rattle.protocol_tokens.specs.Tokens.{is_white, trimmed, first_token, rest_after_token}
 use Rattle.uci_lines.specs.Cuts.{Found, found_token, is_word, is_choice}
 
 -- A text, cut before each token that is `default` or `var`. The first piece is what is before all

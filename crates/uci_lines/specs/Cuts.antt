@@ -4,7 +4,7 @@ use Rattle.std.specs.Prelude.{◌||◌, if◌then◌else◌, Option, Some, None}
 use Rattle.std.specs.List.{before_first}
 use Rattle.std.specs.Option.{option_map}
 use Rattle.std.specs.Str.{bytes_eq}
-use Rattle.peer_words.specs.Tokens.{is_white, token_end}
+use Rattle.protocol_tokens.specs.Tokens.{is_white, token_end}
 use Rattle.uci_lines.specs.declared.cut.Delimiter.{Delimiter}
 use Rattle.uci_lines.specs.declared.cut.Delimiter.TheVariants.{Message, Kind, Default}
 use Rattle.uci_lines.specs.declared.cut.Delimiter.TheVariants.{Choice, Ponder}

@@ -1,6 +1,6 @@
 -- The meaning of a line of the engine.
 use Rattle.std.specs.Prelude.{ℕ, List, codes, true, if◌then◌else◌, Option, Some, None}
-use Rattle.peer_words.specs.Tokens.{first_token, rest_after_token}
+use Rattle.protocol_tokens.specs.Tokens.{first_token, rest_after_token}
 use Rattle.chess_board.specs.declared.board.Move.{Move}
 use Rattle.uci_lines.specs.Cuts.{Found, found_token, is_word, is_known}
 use Rattle.chess_board.specs.Spelling.{move_spelled_by}

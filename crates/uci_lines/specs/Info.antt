@@ -1,6 +1,6 @@
 -- The engine's report on its search.
 use Rattle.std.specs.Prelude.{ℕ, Bool, List, Option}
-use Rattle.peer_words.specs.Tokens.{tokens}
+use Rattle.protocol_tokens.specs.Tokens.{tokens}
 use Rattle.chess_board.specs.declared.board.Move.{Move}
 use Rattle.uci_lines.specs.declared.messages.Score.{Score}
 use Rattle.uci_lines.specs.declared.messages.Info as code

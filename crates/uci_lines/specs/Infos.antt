@@ -2,8 +2,8 @@
 use Rattle.std.specs.Prelude.{ℕ, List, [], ◌∷◌, codes, Bool, true}
 use Rattle.std.specs.Prelude.{false, if◌then◌else◌, Option, None}
 use Rattle.std.specs.Option.{option_or, option_map}
-use Rattle.peer_words.specs.Tokens.{tokens}
-use Rattle.peer_words.specs.Numbers.{count, centis}
+use Rattle.protocol_tokens.specs.Tokens.{tokens}
+use Rattle.protocol_tokens.specs.Numbers.{count, centis}
 use Rattle.chess_board.specs.declared.board.Move.{Move}
 use Rattle.uci_lines.specs.declared.messages.Score.{Score}
 use Rattle.uci_lines.specs.declared.messages.Score.TheVariants.{Cp, Mate}

@@ -3,8 +3,8 @@ use Rattle.std.specs.Prelude.{ℤ, int_lt, ℕ, List, [], ◌∷◌, codes, Bool
 use Rattle.std.specs.Prelude.{false, if◌then◌else◌, Option, Some, None}
 use Rattle.std.specs.Int.{int_min, int_max}
 use Rattle.std.specs.Option.{option_or}
-use Rattle.peer_words.specs.Tokens.{tokens, trimmed, first_token, rest_after_token}
-use Rattle.peer_words.specs.Numbers.{signed_number}
+use Rattle.protocol_tokens.specs.Tokens.{tokens, trimmed, first_token, rest_after_token}
+use Rattle.protocol_tokens.specs.Numbers.{signed_number}
 use Rattle.uci_lines.specs.declared.range.SpinRange.{SpinRange as Numbers}
 use Rattle.uci_lines.specs.Cuts.{Found, found_token, is_word}
 use Rattle.uci_lines.specs.Choices.{values, default_value}

@@ -3,8 +3,8 @@ use Rattle.std.specs.Prelude.{◌≡◌, ◌≢◌, ◌⊎◌, ℕ, ℤ, int_lt,
 use Rattle.std.specs.Prelude.{codes, Bool, true, false, not, Option, Some, None}
 use Rattle.std.specs.Int.{int_min, int_max}
 use Rattle.std.specs.List.{list_all}
-use Rattle.peer_words.specs.Tokens.{is_white, is_token, tokens, trimmed, first_token, rest_after_token}
-use Rattle.peer_words.specs.Numbers.{count, centis, signed_number}
+use Rattle.protocol_tokens.specs.Tokens.{is_white, is_token, tokens, trimmed, first_token, rest_after_token}
+use Rattle.protocol_tokens.specs.Numbers.{count, centis, signed_number}
 use Rattle.chess_board.specs.declared.board.Move.{Move}
 use Rattle.chess_board.specs.Text.{SpellsMove as MoveSpells}
 use Rattle.uci_lines.specs.declared.messages.Score.TheVariants.{Cp, Mate}

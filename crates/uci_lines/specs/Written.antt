@@ -5,7 +5,7 @@ use Rattle.std.specs.Prelude.{nat_le, is_some, Option, Some, None, Result, Ok, E
 use Rattle.std.specs.List.{list_all, slice_split}
 use Rattle.std.specs.Option.{option_map}
 use Rattle.std.specs.Str.{bytes_eq}
-use Rattle.peer_words.specs.Tokens.{trimmed}
+use Rattle.protocol_tokens.specs.Tokens.{trimmed}
 use Rattle.chess_board.specs.declared.board.Move.{Move}
 use Rattle.chess_board.specs.Position.{Position}
 use Rattle.chess_board.specs.Text.{text_of_move}
@@ -14,7 +14,7 @@ use Rattle.fen_text.specs.Fen.{position_of}
 use Rattle.fen_text.specs.Written.{position_fen}
 use Rattle.uci_lines.specs.Behind.{after}
 use Rattle.chess_board.specs.Spelling.{move_spelled_by}
-use Rattle.peer_words.specs.Bytes.{blank}
+use Rattle.protocol_tokens.specs.Bytes.{blank}
 use Rattle.chess_board.specs.Play.{top_count}
 
 -- a text that is not empty and neither begins nor ends with white space

@@ -2,12 +2,12 @@
 ghost use Rattle.std.specs.Prelude.{◌≡◌, drop};
 ghost use Rattle.std.specs.List.{before_first};
 ghost use Rattle.std.specs.Option.{option_map};
-ghost use Rattle.peer_words.specs.Tokens.{is_white, token_end};
+ghost use Rattle.protocol_tokens.specs.Tokens.{is_white, token_end};
 ghost use Rattle.uci_lines.specs.Orders.{optional_now};
 ghost use Rattle.uci_lines.specs.Behind.{after, exact_count, number_behind, perhaps_number};
 
 use itoa::Buffer;
-use peer_words::{read_count, split_at_white};
+use protocol_tokens::{read_count, split_at_white};
 
 /// The rest behind a word at the start.
 pub(crate) fn after<'a>(word: &[u8], text: &'a [u8]) -> Option<&'a [u8]>

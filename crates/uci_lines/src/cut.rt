@@ -1,11 +1,11 @@
 // Lines that are cut at certain tokens.
 ghost use Rattle.std.specs.Prelude.{◌≡◌, true, drop};
 ghost use Rattle.std.specs.List.{before_first};
-ghost use Rattle.peer_words.specs.Tokens.{is_white, token_end};
+ghost use Rattle.protocol_tokens.specs.Tokens.{is_white, token_end};
 ghost use Rattle.std.specs.Option.{option_map};
 ghost use Rattle.uci_lines.specs.Cuts.{found_token, delimits, found_of};
 
-use peer_words::{is_white, split_at_white};
+use protocol_tokens::{is_white, split_at_white};
 
 /// The tokens at which a line is cut.
 #[derive(Clone, Copy)]

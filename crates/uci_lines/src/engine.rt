@@ -10,7 +10,7 @@ use crate::info::read_info;
 use crate::messages::EngineMsg;
 use crate::option::read_option;
 use chess_board::read_move;
-use peer_words::split_token;
+use protocol_tokens::split_token;
 
 fn read_name(text: &[u8]) -> EngineMsg<'_>
     ensures value { uci_message_of result ≡ name_said text.now }

@@ -1,6 +1,6 @@
 // The engine's report on its search (UCI, "info").
 ghost use Rattle.std.specs.Prelude.{◌≡◌, ◌≤◌, length};
-ghost use Rattle.peer_words.specs.Tokens.{tokens};
+ghost use Rattle.protocol_tokens.specs.Tokens.{tokens};
 ghost use Rattle.uci_lines.specs.Infos.{ends_info, field_named, first_count, score_of, first_score, first_move, newer_run, hear, facts_in, facts_from};
 ghost use Rattle.uci_lines.specs.Moves.{longest_move_run};
 ghost use Rattle.uci_lines.specs.Writable.{can_write};
@@ -11,7 +11,7 @@ use crate::cut::is_word;
 use crate::messages::{Info, Score};
 use crate::moves::{after_moves, next_move};
 use chess_board::{Move, read_move};
-use peer_words::{next_token, read_centis, read_count};
+use protocol_tokens::{next_token, read_centis, read_count};
 
 /// The words of an `info` line.
 #[derive(Clone, Copy)]

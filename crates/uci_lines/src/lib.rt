@@ -7,11 +7,11 @@
 //! An example, which a test runs on the runtime `rt`:
 //!
 //! ```
-//! let is_read = match read_engine(b"info depth 9 score cp 25 pv e2e4 e7e5") {
-//!     EngineMsg::Info(info) => info.depth == Some(9) && info.score == Some(Score::Cp(25)),
-//!     _ => false,
+//! let depth = match read_engine(b"info depth 9 score cp 25 pv e2e4 e7e5") {
+//!     EngineMsg::Info(info) => info.depth,
+//!     _ => None,
 //! };
-//! assert!(rt; is_read);
+//! assert!(rt; depth == Some(9));
 //! ```
 #![tactic(auto)]
 
@@ -35,4 +35,4 @@ pub use moves::next_move;
 pub use option::next_value;
 pub use order_read::{BadOrder, positions_may_stand, read_order};
 pub use orders::{GoControl, Order, write_order};
-pub use peer_words::GoKind;
+pub use protocol_tokens::GoKind;

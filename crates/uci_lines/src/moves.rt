@@ -1,11 +1,11 @@
 // Moves in the engine's lines.
 ghost use Rattle.std.specs.Prelude.{◌≡◌, ◌∷◌, ◌<◌, ◌≤◌, [], length, MatchOption, IfSome};
-ghost use Rattle.peer_words.specs.Tokens.{tokens};
+ghost use Rattle.protocol_tokens.specs.Tokens.{tokens};
 ghost use Rattle.chess_board.specs.Text.{IsOfficer};
 ghost use Rattle.uci_lines.specs.Moves.{longest_move_run, after_run};
 
 use chess_board::{Move, read_move};
-use peer_words::next_token;
+use protocol_tokens::next_token;
 
 /// The first token of a text, and the text after it, as `next_token`: most moves are four bytes before a blank.
 fn next_text(text: &[u8]) -> Option<(&[u8], &[u8])>

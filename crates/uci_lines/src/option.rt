@@ -1,7 +1,7 @@
 // The declarations of options (UCI, "option").
 ghost use Rattle.std.specs.Prelude.{◌≡◌, ◌∷◌, [], true, codes, length, ◌≤◌, ◌<◌, MatchOption, IfSome};
 ghost use Rattle.std.specs.Option.{option_map};
-ghost use Rattle.peer_words.specs.Tokens.{tokens, trimmed};
+ghost use Rattle.protocol_tokens.specs.Tokens.{tokens, trimmed};
 ghost use Rattle.uci_lines.specs.Cuts.{found_token, is_word, is_choice};
 ghost use Rattle.uci_lines.specs.Choices.{values, before_choice, from_choice, default_value};
 ghost use Rattle.uci_lines.specs.Options.{is_on, text_after, shape_named, option_with, option_said};
@@ -11,7 +11,7 @@ ghost use Rattle.uci_lines.specs.Messages.{option_kind_of, declared_by, uci_mess
 use crate::cut::{Delimiter, find_word, is_word};
 use crate::messages::{EngineMsg, OptionKind, OptionMsg};
 use crate::range::read_range;
-use peer_words::{split_token, trim};
+use protocol_tokens::{split_token, trim};
 
 fn is_on(text: &[u8]) -> bool
     ensures { result ≡ is_on (found_token (is_word (codes "default")) true text.now) }

@@ -1,12 +1,12 @@
 // The numbers of a spin.
 ghost use Rattle.std.specs.Prelude.{◌≡◌};
 ghost use Rattle.std.specs.Option.{option_map};
-ghost use Rattle.peer_words.specs.Tokens.{tokens};
+ghost use Rattle.protocol_tokens.specs.Tokens.{tokens};
 ghost use Rattle.uci_lines.specs.Options.{range_of_spin, limited, first_signed, range_from, no_range};
 
 use crate::cut::is_word;
 use crate::messages::OptionKind;
-use peer_words::{next_token, read_signed};
+use protocol_tokens::{next_token, read_signed};
 
 /// The three numbers, as far as they were read.
 #[derive(Clone, Copy)]

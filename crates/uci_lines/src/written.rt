@@ -6,7 +6,7 @@ ghost use Rattle.uci_lines.specs.Written.{is_trimmed_text, option_value_cut, is_
 use crate::behind::after;
 use chess_board::{read_move, write_move};
 use fen_text::{read_fen, write_fen};
-use peer_words::trim;
+use protocol_tokens::trim;
 
 /// True if a text is not empty, and neither begins nor ends with white space.
 pub(crate) fn is_text(text: &[u8]) -> bool

@@ -3,7 +3,7 @@ use Rattle.std.proofs.Common.{◌≡◌, ◌∙◌, ℕ, Bool, true, false, ◌|
 use Rattle.std.proofs.lemmas.List.{append_assoc}
 use Rattle.std.specs.List.{list_any, flat_map, onto_first}
 use Rattle.std.specs.Option.{ok_or}
-use Rattle.peer_words.specs.Quit.{is_quit}
+use Rattle.protocol_tokens.specs.Quit.{is_quit}
 use Rattle.cecp_lines.specs.Quit.{is_quit_message}
 use Rattle.cecp_lines.specs.Reading.{is_empty_text, option_message_of}
 use Rattle.cecp_lines.specs.declared.iface.IfaceFault.TheVariants.{BadArgument}
@@ -14,7 +14,7 @@ use Rattle.event_pipe.specs.Message.{is_last_event}
 use Rattle.event_pipe.specs.Rule.{has_last_event}
 use Rattle.line_io.specs.Event.{has_feed}
 use Rattle.line_io.specs.Lines.{Whole, TooLong, is_feed, parts_by_feed, piece_of, line_feed}
-use Rattle.mediator.specs.First.{AreOpening, first_events}
+use Rattle.event_loop.specs.First.{AreOpening, first_events}
 use Rattle.bridge_command_line.specs.WineravineArguments.{first_lines, has_feed_within, wineravine_log_name, cecp_option_line, options_set}
 
 option_is_no_quit : (o : List ℕ) → is_quit (codes "option " ++ o) ≡ false

@@ -11,7 +11,7 @@ use Rattle.program_lifecycle.specs.Outside.{Outside}
 use Rattle.program_lifecycle.specs.Program.{StatusIsReported, IsReportedTo}
 use Rattle.program_lifecycle.specs.declared.ending.ProgramEnding.TheVariants as endings
 use Rattle.bridge_runner.specs.Program.{RunsAsAsked}
-use Rattle.peer_words.specs.Bytes.{carriage_return}
+use Rattle.protocol_tokens.specs.Bytes.{carriage_return}
 use Rattle.program_command_line.specs.About.{version_line}
 use Rattle.bridge_command_line.specs.Values.{argument_or_empty}
 use Rattle.bridge_command_line.specs.WineravineArguments.{WineravineArgumentsAreTaken, AskForHelp, AskForVersion, AreWrong}

@@ -17,8 +17,8 @@ use bridge_command_line::{
 };
 use bridge_runner::run_bridge;
 use child_engine::Host;
+use event_loop::RunRequest;
 use line_io::{Sink, Source, Status};
-use mediator::RunRequest;
 use program_command_line::version_line;
 use program_lifecycle::{Failures, Interface, ProgramEnding, finish};
 use std::alloc::Global;

@@ -13,7 +13,7 @@ PLACES = {
     "reader_of_interface": ("reader", ["line_io", "event_pipe"]),
     "reader_of_engine": ("reader", ["line_io", "event_pipe"]),
     "channel": ("channel", ["event_pipe"]),
-    "loop": ("loop", ["mediator"]),
+    "loop": ("loop", ["event_loop"]),
     "core": ("core: one step an event", ["adapter_core", "desk_rules", "search_epochs"]),
     "lines_in": ("lines read", ["cecp_lines", "uci_lines"]),
     "lines_out": ("replies and orders written", ["cecp_lines", "uci_lines"]),

@@ -3,8 +3,8 @@
 use crate::expect::expect;
 use adapter_core::Core;
 use line_io::Event;
-use peer_words::GoKind;
 use policy_rules::Settings;
+use protocol_tokens::GoKind;
 use script_lines::{Mark, read_mark};
 use search_epochs::EngineState;
 use std::process::Abort;

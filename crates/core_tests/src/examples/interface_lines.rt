@@ -1,5 +1,5 @@
 // Lines of the Chess Engine Communication Protocol, from both of its sides.
-use cecp_as_interface::{read_reply, write_iface};
+use cecp_engine_lines::{read_reply, write_iface};
 use cecp_lines::{IfaceFault, IfaceMsg, Reply, read_iface, write_reply};
 use chess_board::read_move;
 use line_io::Out;
@@ -18,7 +18,7 @@ fn an_interface_is_heard(rt: HostRuntime) {
     assert!(rt; line.bytes() == b"pong 1".as_slice());
 }
 
-/// cecp_as_interface: a line is written for an engine, and its replies are read.
+/// cecp_engine_lines: a line is written for an engine, and its replies are read.
 #[test]
 fn an_engine_replies(rt: HostRuntime) {
     let mut line = Out::make(rt.alloc(), 200).expect(&rt, "memory for a line");

@@ -2,14 +2,16 @@
 ghost use Rattle.std.specs.Prelude.{◌≤◌, length};
 ghost use Rattle.uci_lines.specs.Messages.{uci_message_of};
 ghost use Rattle.uci_lines.specs.Writable.{CanWriteEngineMsg};
-ghost use Rattle.uci_as_engine.specs.Said.{said_text};
+ghost use Rattle.uci_interface_lines.specs.Said.{said_text};
 
 use crate::expect::expect_text;
 use chess_board::{Move, Square};
 use line_io::Out;
 use std::alloc::Global;
 use std::process::Abort;
-use uci_as_engine::{write_engine, written_messages_are_read_again, written_messages_fit_the_line};
+use uci_interface_lines::{
+    write_engine, written_messages_are_read_again, written_messages_fit_the_line,
+};
 use uci_lines::{EngineMsg, OptionKind, OptionMsg};
 
 const E2E4: Move = Move {
@@ -28,7 +30,7 @@ fn expect_written(rt: &impl Abort, alloc: Global, msg: &EngineMsg, want: &str)
 }
 
 #[test]
-#[tactic(auto, unfolding(uci_as_engine::specs::Said::said_text))]
+#[tactic(auto, unfolding(uci_interface_lines::specs::Said::said_text))]
 fn writes_what_an_engine_says(rt: HostRuntime) {
     written_messages_are_read_again();
     written_messages_fit_the_line();

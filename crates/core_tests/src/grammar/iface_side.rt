@@ -3,7 +3,7 @@ use crate::expect::{expect, expect_text};
 use crate::rows::{
     bytes_in, bytes_of, cut, first, move_in, move_of, number_of, signed_of, small_of,
 };
-use cecp_as_interface::{read_reply, write_iface, written_messages_are_read_again};
+use cecp_engine_lines::{read_reply, write_iface, written_messages_are_read_again};
 use cecp_lines::{IfaceMsg, Outcome, Reason, Reply, Spelling, UserError};
 use line_io::Out;
 use std::process::Abort;

@@ -1,8 +1,8 @@
 // Orders as interfaces spell them.
 use crate::expect::expect;
 use fen_text::write_fen;
-use peer_words::GoKind;
-use uci_as_engine::{go_kind, spoken};
+use protocol_tokens::GoKind;
+use uci_interface_lines::{go_kind, spoken};
 
 const START: &str = "rnbqkbnr/pppppppp/8/8/8/8/PPPPPPPP/RNBQKBNR w KQkq - 0 1";
 

@@ -1,6 +1,6 @@
 // Tokens and numbers as both protocols have them.
 use crate::expect::{expect, expect_text};
-use peer_words::{
+use protocol_tokens::{
     is_white, named, next_token, read_centis, read_count, read_digits, read_number, read_seconds,
     read_signed, split_at_white, split_token, trim, trim_end, trim_start,
 };

@@ -4,8 +4,8 @@ ghost use Rattle.std.specs.Prelude.{◌<◌};
 
 use crate::expect::expect;
 use crate::scripts::streams::Streams;
-use line_command::{Ending, report_without_buffer};
 use line_io::MemSink;
+use replay_command_base::{Ending, report_without_buffer};
 use replay_tool::{refuse_for_memory, replay_main};
 use std::alloc::Global;
 use std::process::Abort;

@@ -1,7 +1,7 @@
 // The loop and both pipes over sources and sinks in memory.
 ghost use Rattle.std.specs.Prelude.{◌≡◌, []};
 ghost use Rattle.event_pipe.specs.Ends.{IsSender, IsFreshReceiver, events_sent};
-ghost use Rattle.mediator.specs.Ran.{MediatorIsReady};
+ghost use Rattle.event_loop.specs.Ran.{MediatorIsReady};
 ghost use Rattle.driver_runner.specs.Drives.{driving_meaning};
 ghost use Rattle.runner_sessions.specs.Ready.{IsLogReady};
 
@@ -9,9 +9,9 @@ use crate::expected::{expect_bytes, expect_true};
 use crate::streams::{letters_before, sink, source};
 use cecp_driver::Driver;
 use driver_runner::Driving;
+use event_loop::{MediatorParts, RunEnd, TURN_ROOM, Turns, mediate, run_pipes};
 use event_pipe::{Pipe, PipeSend, PipeTake, ReadEnd, read_pipe};
 use line_io::{MemSink, MemSource, Out};
-use mediator::{MediatorParts, RunEnd, TURN_ROOM, Turns, mediate, run_pipes};
 use program_lifecycle::{HandedStreams, Interface, LoopEnd};
 use std::alloc::Global;
 use std::process::Abort;

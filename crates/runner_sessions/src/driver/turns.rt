@@ -5,7 +5,7 @@ use driver_state_machine::{
     BoardChange, DriverAction, DriverCall, DriverState, GoClocks, Reach, ToEngine, ToIface,
     WantedSearch,
 };
-use peer_words::GoKind;
+use protocol_tokens::GoKind;
 use std::process::Abort;
 
 const CLOCKS: GoClocks = GoClocks {

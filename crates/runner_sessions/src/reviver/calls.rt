@@ -6,7 +6,7 @@ use engine_revival::{
     ready_is_answered, searches_are_given, talk_is_lawful,
 };
 use line_io::{Event, Out};
-use peer_words::GoKind;
+use protocol_tokens::GoKind;
 use std::alloc::Global;
 use std::process::Abort;
 

@@ -1,5 +1,5 @@
 use Rattle.std.proofs.Common.{◌∙◌, sym, refl}
-use Rattle.peer_words.specs.Tokens.{tokens}
+use Rattle.protocol_tokens.specs.Tokens.{tokens}
 use Rattle.cecp_driver.proofs.Pushing.{push_none}
 use Rattle.cecp_driver.proofs.ordered.push_all.Goals as goal
 

@@ -1,6 +1,6 @@
 -- The rest of the moves leads as far as all do.
 use Rattle.std.proofs.Common.{◌≡◌, length, Some}
-use Rattle.peer_words.specs.Tokens.{tokens}
+use Rattle.protocol_tokens.specs.Tokens.{tokens}
 use Rattle.cecp_driver.specs.Ordered.{game_after_texts}
 use Rattle.cecp_driver.proofs.ordered.push_all.Given as goal
 

@@ -1,5 +1,5 @@
 use Rattle.std.proofs.Common.{arith, ap, length}
-use Rattle.peer_words.proofs.Lengths.{trimmed_length}
+use Rattle.protocol_tokens.proofs.Lengths.{trimmed_length}
 use Rattle.desk_rules.proofs.answers.put_refused.Goals as goal
 
 pub put_error-requires-clause-line : goal.put_error-requires-clause-line

@@ -2,7 +2,7 @@ use Rattle.std.proofs.Common.{◌≡◌, ◌∷◌, [], List, ℕ, ap, sym, ◌�
 use Rattle.cecp_lines.specs.Replies as cecp
 use Rattle.cecp_lines.specs.declared.reply.Reason.{Reason}
 use Rattle.cecp_lines.specs.declared.reply.Reason.TheVariants as reasons
-use Rattle.peer_words.specs.Tokens.{trimmed}
+use Rattle.protocol_tokens.specs.Tokens.{trimmed}
 use Rattle.line_io.specs.Out.{Text, with}
 use Rattle.uci_lines.specs.Orders.{Order}
 use Rattle.option_map.specs.declared.fault.OptionFault.{OptionFault}

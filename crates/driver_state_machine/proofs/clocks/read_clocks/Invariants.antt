@@ -1,5 +1,5 @@
 use Rattle.std.proofs.Common.{◌≡◌, length}
-use Rattle.peer_words.specs.Tokens.{tokens}
+use Rattle.protocol_tokens.specs.Tokens.{tokens}
 use Rattle.driver_state_machine.specs.Clocks.{clocks_from, no_clocks}
 use Rattle.driver_state_machine.proofs.clocks.read_clocks.Given as goal
 

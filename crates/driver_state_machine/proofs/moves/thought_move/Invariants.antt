@@ -1,5 +1,5 @@
 use Rattle.std.proofs.Common.{◌≡◌, length, Option}
-use Rattle.peer_words.specs.Tokens.{tokens}
+use Rattle.protocol_tokens.specs.Tokens.{tokens}
 use Rattle.chess_board.specs.declared.board.Move.{Move}
 use Rattle.driver_state_machine.specs.Moves.{IsThought}
 use Rattle.driver_state_machine.proofs.moves.thought_move.Given as goal

@@ -1,5 +1,5 @@
 use Rattle.std.proofs.Common.{◌≡◌, length}
-use Rattle.peer_words.specs.Tokens.{tokens}
+use Rattle.protocol_tokens.specs.Tokens.{tokens}
 use Rattle.engine_revival.specs.Orders.{are_same_names, words_before_value}
 use Rattle.engine_revival.proofs.names.have_same_words.Given as goal
 

@@ -1,6 +1,6 @@
 use Rattle.std.proofs.Common.{◌≡◌, codes, length}
-use Rattle.peer_words.specs.Tokens.{tokens}
-use Rattle.uci_as_engine.specs.Kinds.{has_token_word}
+use Rattle.protocol_tokens.specs.Tokens.{tokens}
+use Rattle.uci_interface_lines.specs.Kinds.{has_token_word}
 use Rattle.engine_revival.proofs.orders.has_value.Given as goal
 
 -- `value` is among the tokens that are left, if it is among all

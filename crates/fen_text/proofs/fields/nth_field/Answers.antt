@@ -3,7 +3,7 @@ use Rattle.std.proofs.Common.{rules}
 use borrow.Author.Tests.{tests}
 use Rattle.std.proofs.lemmas.Iterator.Consumers.{nth_from_yields_List, YieldsList-from_filter}
 use Rattle.std.proofs.lemmas.Iterator.Splits.{YieldsList-from_slice_split}
-use Rattle.peer_words.specs.Tokens.{is_white}
+use Rattle.protocol_tokens.specs.Tokens.{is_white}
 use Rattle.fen_text.proofs.Cut.{is_field}
 use Rattle.fen_text.proofs.fields.nth_field.Goals as goal
 

@@ -1,9 +1,9 @@
 use Rattle.std.proofs.Common.{ℕ, subst}
 use Rattle.std.specs.Prelude.{◌≡◌}
-use Rattle.line_command.specs.Diagnostics.{command_status}
-use Rattle.line_command.specs.Ran.{FilterRan}
-use Rattle.line_command.specs.Streams.{filter_streams}
-use Rattle.line_command.specs.Filtered.{FilterEndsBy}
+use Rattle.replay_command_base.specs.Diagnostics.{command_status}
+use Rattle.replay_command_base.specs.Ran.{FilterRan}
+use Rattle.replay_command_base.specs.Streams.{filter_streams}
+use Rattle.replay_command_base.specs.Filtered.{FilterEndsBy}
 use Rattle.session_judge.specs.declared.talk.JudgedTalk.{JudgedTalk}
 use Rattle.judge_report.specs.Judging.{judges}
 use Rattle.judge_report.proofs.Judgements.{judged}

@@ -1,5 +1,5 @@
 use Rattle.replay_commands_on_core.specs.Drilled.{Plays}
-use Rattle.line_command.proofs.Announcing.{writes_as}
+use Rattle.replay_command_base.proofs.Announcing.{writes_as}
 use Rattle.replay_commands_on_core.proofs.play.play_drill.Goals as goal
 
 pub returns-in-Ok : goal.returns-in-Ok

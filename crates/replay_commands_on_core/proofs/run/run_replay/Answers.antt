@@ -1,6 +1,6 @@
 use Rattle.std.proofs.Common.{refl}
-use Rattle.line_command.specs.declared.ending.Ending.TheVariants as endings
-use Rattle.line_command.specs.Streams.{FilterStreams, filter_streams}
+use Rattle.replay_command_base.specs.declared.ending.Ending.TheVariants as endings
+use Rattle.replay_command_base.specs.Streams.{FilterStreams, filter_streams}
 use Rattle.replay_commands_on_core.proofs.Ended.{ended}
 use Rattle.replay_commands_on_core.proofs.run.run_replay.Goals as goal
 

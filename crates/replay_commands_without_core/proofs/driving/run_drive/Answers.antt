@@ -1,9 +1,9 @@
 use Rattle.std.proofs.Common.{◌≡◌, refl, subst}
-use Rattle.line_command.specs.Diagnostics.{command_status}
-use Rattle.line_command.specs.Ran.{FilterRan}
-use Rattle.line_command.specs.Streams.{FilterStreams, filter_streams}
-use Rattle.line_command.proofs.Outcomes.{outcome}
-use Rattle.line_command.specs.Filtered.{FilterEndsBy}
+use Rattle.replay_command_base.specs.Diagnostics.{command_status}
+use Rattle.replay_command_base.specs.Ran.{FilterRan}
+use Rattle.replay_command_base.specs.Streams.{FilterStreams, filter_streams}
+use Rattle.replay_command_base.proofs.Outcomes.{outcome}
+use Rattle.replay_command_base.specs.Filtered.{FilterEndsBy}
 use Rattle.cecp_driver.specs.declared.driver.DriverParts.{DriverParts}
 use Rattle.cecp_driver.specs.Driver.{opening_driver}
 use Rattle.replay_commands_without_core.specs.Scripts.{drive_filter_meaning}

@@ -1,10 +1,10 @@
 use Rattle.std.proofs.Common.{◌≡◌, refl, subst}
-use Rattle.line_command.specs.Diagnostics.{command_status}
-use Rattle.line_command.specs.Ran.{FilterRan}
-use Rattle.line_command.specs.Streams.{FilterStreams, filter_streams}
+use Rattle.replay_command_base.specs.Diagnostics.{command_status}
+use Rattle.replay_command_base.specs.Ran.{FilterRan}
+use Rattle.replay_command_base.specs.Streams.{FilterStreams, filter_streams}
 use Rattle.engine_revival.specs.declared.state.RevivalState.{RevivalState}
-use Rattle.line_command.proofs.Outcomes.{outcome}
-use Rattle.line_command.specs.Filtered.{FilterEndsBy}
+use Rattle.replay_command_base.proofs.Outcomes.{outcome}
+use Rattle.replay_command_base.specs.Filtered.{FilterEndsBy}
 use Rattle.engine_revival.specs.Steps.{opening_revival}
 use Rattle.replay_commands_without_core.specs.Reviving.{revives}
 use Rattle.replay_commands_without_core.proofs.Playing.{begins}

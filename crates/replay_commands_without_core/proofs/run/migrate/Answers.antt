@@ -1,11 +1,11 @@
 use Rattle.std.proofs.Common.{◌≡◌, refl, subst}
 use Rattle.replay_commands_without_core.specs.Begun.{unbegun_script, migration_meaning}
 use Rattle.replay_commands_without_core.specs.declared.migration.Migration.{Migration}
-use Rattle.line_command.specs.Diagnostics.{command_status}
-use Rattle.line_command.specs.Ran.{FilterRan}
-use Rattle.line_command.specs.Streams.{FilterStreams, filter_streams}
-use Rattle.line_command.proofs.Outcomes.{outcome}
-use Rattle.line_command.specs.Filtered.{FilterEndsBy}
+use Rattle.replay_command_base.specs.Diagnostics.{command_status}
+use Rattle.replay_command_base.specs.Ran.{FilterRan}
+use Rattle.replay_command_base.specs.Streams.{FilterStreams, filter_streams}
+use Rattle.replay_command_base.proofs.Outcomes.{outcome}
+use Rattle.replay_command_base.specs.Filtered.{FilterEndsBy}
 use Rattle.replay_commands_without_core.proofs.Migrations.{migrated_by}
 use Rattle.replay_commands_without_core.proofs.run.migrate.Goals as goal
 

@@ -1,5 +1,5 @@
 use Rattle.std.proofs.Common.{refl}
-use Rattle.line_command.specs.Streams.{FilterStreams, filter_streams}
+use Rattle.replay_command_base.specs.Streams.{FilterStreams, filter_streams}
 use Rattle.session_export.proofs.Outcomes.{may_write, nothing_written}
 use Rattle.session_export.specs.PositionExports.{exports_positions}
 use Rattle.session_export.proofs.PositionsAgain.{positions_written, want_of_memory}

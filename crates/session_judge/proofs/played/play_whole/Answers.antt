@@ -1,6 +1,6 @@
 use Rattle.std.proofs.Common.{sym, ◌∙◌}
-use Rattle.peer_words.specs.Tokens.{tokens}
-use Rattle.uci_as_engine.specs.Views.{spoken_line}
+use Rattle.protocol_tokens.specs.Tokens.{tokens}
+use Rattle.uci_interface_lines.specs.Views.{spoken_line}
 use Rattle.session_judge.proofs.Lines.{said_leads, some_tokens}
 use Rattle.session_judge.proofs.played.play_whole.Goals as goal
 

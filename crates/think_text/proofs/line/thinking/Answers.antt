@@ -1,7 +1,7 @@
 use Rattle.std.proofs.Common.{◌≡◌, ℕ, List, length, sym, ap, ◌∙◌, subst, arith}
 use Rattle.std.proofs.lemmas.List.{length-append}
 use Rattle.line_io.specs.Out.{Text, with}
-use Rattle.peer_words.specs.Tokens.{tokens}
+use Rattle.protocol_tokens.specs.Tokens.{tokens}
 use Rattle.uci_lines.specs.Moves.{longest_move_run}
 use Rattle.uci_lines.specs.Info.{info_of}
 use Rattle.chess_board.specs.declared.board.Move.{Move}

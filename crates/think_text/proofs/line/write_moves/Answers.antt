@@ -1,6 +1,6 @@
 use Rattle.std.proofs.Common.{◌≡◌, ◌∷◌, List, length, ap, arith}
 use Rattle.std.proofs.lemmas.List.{length-append}
-use Rattle.peer_words.specs.Tokens.{tokens}
+use Rattle.protocol_tokens.specs.Tokens.{tokens}
 use Rattle.uci_lines.specs.Moves.{longest_move_run}
 use Rattle.chess_board.specs.declared.board.Move.{Move}
 use Rattle.think_text.specs.Line.{legal_run, position_after_pv_move, spaced_moves, written}

@@ -1,6 +1,6 @@
 -- The rest of the moves completes the text.
 use Rattle.std.proofs.Common.{◌≡◌, ◌++◌, length}
-use Rattle.peer_words.specs.Tokens.{tokens}
+use Rattle.protocol_tokens.specs.Tokens.{tokens}
 use Rattle.uci_lines.specs.Moves.{longest_move_run}
 use Rattle.think_text.specs.Line.{legal_run, spaced_moves}
 use Rattle.think_text.proofs.line.write_moves.Given as goal

@@ -1,7 +1,7 @@
 use Rattle.std.proofs.Common.{◌≡◌, ◌&&◌, ◌∙◌, Bool, true, false, List, ℕ, Some, take, drop, sym, ap, refl, arith, ◌+◌}
 use Rattle.std.proofs.lemmas.List.{take_rest}
 use Rattle.std.specs.List.{before_first}
-use Rattle.peer_words.specs.Tokens.{is_white, token_end}
+use Rattle.protocol_tokens.specs.Tokens.{is_white, token_end}
 use Rattle.uci_lines.specs.Cuts.{found_token, delimits}
 use Rattle.uci_lines.proofs.Cutting.{shifted, passed, found}
 use Rattle.uci_lines.proofs.cut.find_word.Goals as goal

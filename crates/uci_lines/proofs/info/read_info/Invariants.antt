@@ -1,5 +1,5 @@
 use Rattle.std.proofs.Common.{◌≡◌, length}
-use Rattle.peer_words.specs.Tokens.{tokens}
+use Rattle.protocol_tokens.specs.Tokens.{tokens}
 use Rattle.uci_lines.specs.Info.{info_of}
 use Rattle.uci_lines.specs.Writable.{can_write}
 use Rattle.uci_lines.specs.Infos.{facts_from, no_facts}

@@ -1,5 +1,5 @@
 use Rattle.std.proofs.Common.{◌≡◌, ◌≤◌, length}
-use Rattle.peer_words.specs.Tokens.{tokens}
+use Rattle.protocol_tokens.specs.Tokens.{tokens}
 use Rattle.uci_lines.specs.Moves.{after_run}
 use Rattle.uci_lines.proofs.moves.after_moves.Given as goal
 

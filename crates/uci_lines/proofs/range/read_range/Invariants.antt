@@ -1,5 +1,5 @@
 use Rattle.std.proofs.Common.{◌≡◌, length}
-use Rattle.peer_words.specs.Tokens.{tokens}
+use Rattle.protocol_tokens.specs.Tokens.{tokens}
 use Rattle.uci_lines.specs.Options.{range_of_spin, range_from, no_range}
 use Rattle.uci_lines.proofs.range.read_range.Given as goal
 

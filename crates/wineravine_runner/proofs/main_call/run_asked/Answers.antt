@@ -1,7 +1,7 @@
 use Rattle.std.proofs.Common.{◌∙◌, ℕ, List, sym, ap, subst, map, string_bytes}
 use Rattle.program_lifecycle.specs.Outside.{outside_of}
 use Rattle.program_lifecycle.proofs.Asked.{asks_reported}
-use Rattle.mediator.specs.First.{AreOpening}
+use Rattle.event_loop.specs.First.{AreOpening}
 use Rattle.bridge_runner.specs.Program.{BridgeRuns}
 use Rattle.program_command_line.specs.Arguments.{argument_bytes_of}
 use Rattle.bridge_command_line.specs.WineravineArguments.{wineravine_argument_values}

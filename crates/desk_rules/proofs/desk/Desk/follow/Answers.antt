@@ -1,6 +1,6 @@
 use Rattle.std.proofs.Common.{subst}
 use Rattle.chess_board.proofs.LegalMoves.{is_legal}
-use Rattle.peer_words.specs.declared.kinds.GoKind.TheVariants as kinds
+use Rattle.protocol_tokens.specs.declared.kinds.GoKind.TheVariants as kinds
 use Rattle.cecp_lines.specs.Messages.{message_of}
 use Rattle.game_record.specs.Game.{current_position}
 use Rattle.desk_rules.specs.declared.effect.Effect as code

@@ -1,6 +1,6 @@
 use Rattle.std.proofs.Common.{Some, refl}
 use Rattle.line_io.specs.Lines.{TooLong}
-use Rattle.line_command.specs.declared.ending.Ending.TheVariants as endings
+use Rattle.replay_command_base.specs.declared.ending.Ending.TheVariants as endings
 use Rattle.judge_report.proofs.Reading.{reads}
 use Rattle.judge_report.proofs.report.Report.read_long.Goals as goal
 

@@ -3,7 +3,7 @@ use Rattle.line_io.specs.Lines.{Held}
 use Rattle.line_io.specs.Taken.{Taken, reading_place}
 use Rattle.line_io.specs.declared.consumer.LinesEnd.{LinesEnd}
 use Rattle.line_io.specs.declared.consumer.LinesEnd.TheVariants as ends
-use Rattle.line_command.specs.declared.ending.Ending.{Ending}
+use Rattle.replay_command_base.specs.declared.ending.Ending.{Ending}
 use Rattle.replay_commands_on_core.specs.Walked.{checks}
 use Rattle.replay_commands_on_core.proofs.Audits.{audit_ended, audit_endless, audit_failed, audit_left, ends_other, few_lines, may_end}
 use Rattle.replay_commands_on_core.proofs.Checkers.{first_walk}

@@ -3,7 +3,7 @@ use Rattle.std.specs.Prelude.{Contains}
 use Rattle.chess_board.specs.declared.board.Move.{Move}
 use Rattle.line_io.specs.Out.{Text}
 use Rattle.replay_commands_on_core.specs.Moves.{move_lines}
-use Rattle.line_command.proofs.Announcing.{writes_as}
+use Rattle.replay_command_base.proofs.Announcing.{writes_as}
 use Rattle.replay_commands_on_core.proofs.moves.Listing.write_moves.Goals as goal
 
 pub put_moves-requires-clause-officers : goal.put_moves-requires-clause-officers

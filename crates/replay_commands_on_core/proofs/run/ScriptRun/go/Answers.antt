@@ -1,10 +1,10 @@
 use Rattle.std.proofs.Common.{ℕ, ap, refl, subst}
-use Rattle.line_command.specs.declared.ending.Ending.TheVariants as endings
+use Rattle.replay_command_base.specs.declared.ending.Ending.TheVariants as endings
 use Rattle.line_io.specs.Lines.{Held}
 use Rattle.line_io.specs.Taken.{Taken, reading_place}
 use Rattle.line_io.specs.declared.consumer.LinesEnd.{LinesEnd}
 use Rattle.line_io.specs.declared.consumer.LinesEnd.TheVariants as ends
-use Rattle.line_command.specs.declared.ending.Ending.{Ending}
+use Rattle.replay_command_base.specs.declared.ending.Ending.{Ending}
 use Rattle.script_replay.specs.Replaying.{replays}
 use Rattle.replay_commands_on_core.proofs.Finishes.{causes_by, causes_left, go_ended, go_endless, go_failed, go_left}
 use Rattle.replay_commands_on_core.proofs.run.ScriptRun.go.Goals as goal

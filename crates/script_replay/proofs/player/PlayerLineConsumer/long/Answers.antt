@@ -1,6 +1,6 @@
 use Rattle.std.proofs.Common.{◌∙◌, Some, sym}
 use Rattle.line_io.specs.Lines.{TooLong}
-use Rattle.line_command.specs.declared.ending.Ending.TheVariants as endings
+use Rattle.replay_command_base.specs.declared.ending.Ending.TheVariants as endings
 use Rattle.script_replay.proofs.Hearing.{came_by, may_plain}
 use Rattle.script_replay.proofs.Players.{first_long, next_long}
 use Rattle.script_replay.proofs.player.PlayerLineConsumer.long.Goals as goal

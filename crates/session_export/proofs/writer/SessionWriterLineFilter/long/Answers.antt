@@ -1,7 +1,7 @@
 use Rattle.std.proofs.Common.{◌++◌, ◌∷◌, [], ◌∙◌, Some, sym}
 use Rattle.line_io.specs.Lines.{TooLong}
 use Rattle.line_io.proofs.Puts.{put_none}
-use Rattle.line_command.specs.declared.ending.Ending.TheVariants as endings
+use Rattle.replay_command_base.specs.declared.ending.Ending.TheVariants as endings
 use Rattle.session_export.proofs.Came.{long_first, long_later, then_by}
 use Rattle.session_export.proofs.writer.SessionWriterLineFilter.long.Goals as goal
 

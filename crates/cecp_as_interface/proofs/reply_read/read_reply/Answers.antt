@@ -1,8 +1,0 @@
-use Rattle.cecp_as_interface.proofs.Exact.{reported_exact}
-use Rattle.cecp_as_interface.proofs.reply_read.read_reply.Goals as goal
-
-pub returns : goal.returns
-returns c = record {
-  value = c.read_longer.ensures;
-  reported = reported_exact c.args.line.now c.read_longer.result c.read_longer.ensures;
-}

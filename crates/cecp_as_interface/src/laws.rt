@@ -1,7 +1,0 @@
-// Laws about the definitions that contracts cite, each a clause of a function that does nothing.
-ghost use Rattle.cecp_as_interface.specs.Texts.{IfaceMessagesReadBack};
-
-/// The text that `write_iface` writes of a message is a line that spells it, so `read_iface` gives it back.
-pub fn written_messages_are_read_again()
-    ensures { IfaceMessagesReadBack }
-{}

@@ -1,8 +1,0 @@
-use Rattle.std.proofs.Common.{◌≡◌, false, refl, sym, ap, subst}
-use Rattle.game_record.specs.Game.{Game}
-use Rattle.drill.specs.Rounds.{Drill, is_spent}
-use Rattle.drill.proofs.Start.{start_open}
-use Rattle.drill.proofs.round.Drill.renew.Goals as goal
-
-pub returns-clause-open : goal.returns-clause-open
-returns-clause-open c = subst (λ (g : Game). is_spent g ≡ false) (sym (ap (λ (s : Drill). s.game) c.begin_anew.ensures.stand)) (rw start_open refl)

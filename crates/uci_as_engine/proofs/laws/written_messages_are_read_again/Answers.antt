@@ -1,5 +1,0 @@
-use Rattle.uci_as_engine.proofs.MessagesAgain.{read_back}
-use Rattle.uci_as_engine.proofs.laws.written_messages_are_read_again.Goals as goal
-
-pub returns : goal.returns
-returns c = read_back

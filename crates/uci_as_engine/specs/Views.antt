@@ -1,7 +1,0 @@
--- The view of a read `position` line in contracts.
-use Rattle.peer_words.specs.Tokens.{tokens}
-use Rattle.uci_as_engine.specs.declared.line.Spoken.{Spoken}
-use Rattle.uci_as_engine.specs.Lines.{Line}
-
-abbrev pub spoken_line : Spoken → Line
-spoken_line spoken = record { start = spoken.start; moves = tokens spoken.moves.now; end = spoken.end }
