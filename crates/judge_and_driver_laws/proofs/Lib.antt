@@ -6,6 +6,8 @@ pub mod Games
 pub mod Steps
 pub mod Settles
 pub mod Scripts
+pub mod TapTalk
+pub mod Tapped
 pub mod Marked
 mod Fed
 mod Spelled

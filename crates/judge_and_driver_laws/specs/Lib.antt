@@ -1,4 +1,5 @@
 pub mod Logs
+pub mod Tapped
 pub mod Scripts
 pub mod Wire
 pub mod Runs

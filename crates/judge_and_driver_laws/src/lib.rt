@@ -8,7 +8,7 @@ mod laws;
 ghost use Rattle.judge_and_driver_laws.specs.Logs.{LogsAreClean, NoOrderCrosses, SearchesTheDesk};
 ghost use Rattle.judge_and_driver_laws.specs.Scripts.{Scripts1AreClean, Scripts2AreClean};
 
-pub use laws::{engines_hear_the_ordered, lines_are_cecp};
+pub use laws::{engines_hear_the_ordered, lines_are_cecp, taps_are_clean};
 use policy_rules::Settings;
 
 /// A law: in the log of a lawful trace no mark breaks a rule of the dialogue with the engine, no order crosses a line of the

@@ -43,34 +43,38 @@ module _ (o : Settings) (unread kept : Type 0) (start now : FilterStreams) where
   quiet = refl
 
   pub broke : (found answer : Ending) → Finds o found start now → answer ≡ endings.WritingFailed → TakesPrefix start.output.taken now.output.taken (check_verdict found)
-      → Rose start.output.faults now.output.faults → check_verdict found ≢ [] → Ends answer
-  broke found answer f e p rose some = subst Ends (sym e) (record {
+      → Rose start.output.faults now.output.faults → check_verdict found ≢ [] → (found ≢ endings.ReadingFailed → now.input.faults ≡ start.input.faults) → Ends answer
+  broke found answer f e p rose some same = subst Ends (sym e) (record {
     found = found;
     finds = f;
     reading = λ r. absurd (some (ap check_verdict r ∙ quiet));
+    read = same;
     part = p;
     unreported = inl (some, rose);
   })
 
   -- what is due was written, and its diagnostic could not be
-  all_part : (x : Ending) → Finds o x start now → Appends start.output.taken now.output.taken (check_verdict x) → (x ≡ endings.ReadingFailed → Rose start.input.faults now.input.faults) → Rose start.diag.faults now.diag.faults → WritesPart o start now
-  all_part x f a read rose = record {
+  all_part : (x : Ending) → Finds o x start now → Appends start.output.taken now.output.taken (check_verdict x) → (x ≡ endings.ReadingFailed → Rose start.input.faults now.input.faults) → (x ≢ endings.ReadingFailed → now.input.faults ≡ start.input.faults)
+      → Rose start.diag.faults now.diag.faults → WritesPart o start now
+  all_part x f a read same rose = record {
     found = x;
     finds = f;
     reading = read;
+    read = same;
     part = (length (check_verdict x), subst (Appends start.output.taken now.output.taken) (sym (take_all (length (check_verdict x)) (check_verdict x) (omega arith))) a);
     unreported = inr rose;
   }
 
   -- the ending is that writing failed, or the diagnostic of another could not be written
-  ends_part : (e : Ending) → Ends e → (e ≡ endings.ReadingFailed → Rose start.input.faults now.input.faults) → (e ≢ endings.WritingFailed → Rose start.diag.faults now.diag.faults) → (unread × kept) ⊎ WritesPart o start now
-  ends_part endings.NoMemory x read rose = inl x
-  ends_part endings.WritingFailed x read rose = inr x
-  ends_part endings.Usage x read rose = absurd x.0
-  ends_part (endings.Unlawful n) x read rose = absurd x.0
-  ends_part (endings.OutOfStep n) x read rose = absurd x.0
-  ends_part (endings.NoPosition fault) x read rose = absurd x.0
-  ends_part e x read rose = inr (all_part e x.0 x.1 read (rose (λ w. cc)))
+  ends_part : (e : Ending) → Ends e → (e ≡ endings.ReadingFailed → Rose start.input.faults now.input.faults) → (e ≢ endings.ReadingFailed → e ≢ endings.WritingFailed → now.input.faults ≡ start.input.faults)
+      → (e ≢ endings.WritingFailed → Rose start.diag.faults now.diag.faults) → (unread × kept) ⊎ WritesPart o start now
+  ends_part endings.NoMemory x read same rose = inl x
+  ends_part endings.WritingFailed x read same rose = inr x
+  ends_part endings.Usage x read same rose = absurd x.0
+  ends_part (endings.Unlawful n) x read same rose = absurd x.0
+  ends_part (endings.OutOfStep n) x read same rose = absurd x.0
+  ends_part (endings.NoPosition fault) x read same rose = absurd x.0
+  ends_part e x read same rose = inr (all_part e x.0 x.1 read (λ n. same n (λ w. cc)) (rose (λ w. cc)))
 
   abbrev R : ℕ → Type 0
   R code = FilterRan Ends start now code
@@ -95,7 +99,7 @@ module _ (o : Settings) (unread kept : Type 0) (start now : FilterStreams) where
   }
   ran code found answer f (inr w) t rose same = record {
     ending = answer;
-    ends = broke found answer f w.0 w.1 w.2 w.3;
+    ends = broke found answer f w.0 w.1 w.2 w.3 same;
     announces = t;
     reading = λ e. let z = sym w.0 ∙ e in cc;
     writing = λ e. w.2;
@@ -190,7 +194,7 @@ module _ (o : Settings) (unread kept : Type 0) (start now : FilterStreams) where
     unreported code e (inr x) z other = x.1
 
     writing : (code : ℕ) → R code → code ≡ 5 → WritingBroke start now × ((unread × kept) ⊎ WritesPart o start now)
-    writing code r z = (rises code r.ending r.announces z r.writing, ends_part r.ending r.ends r.reading (unreported code r.ending r.announces z))
+    writing code r z = (rises code r.ending r.announces z r.writing, ends_part r.ending r.ends r.reading r.read (unreported code r.ending r.announces z))
 
     -- EXACT
 

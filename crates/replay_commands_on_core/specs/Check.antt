@@ -163,7 +163,9 @@ IsUnreported found start now =
 pub record WritesPart (o : Settings) (start now : FilterStreams) : Type 0 where
   pub found : Ending
   pub finds : Finds o found start now
+  -- the input failed if and only if that is what was found
   pub reading : found ≡ endings.ReadingFailed → Rose start.input.faults now.input.faults
+  pub read : found ≢ endings.ReadingFailed → now.input.faults ≡ start.input.faults
   pub part : TakesPrefix start.output.taken now.output.taken (check_verdict found)
   pub unreported : IsUnreported found start now
 

@@ -15,6 +15,7 @@ ghost use Rattle.replay_commands_on_core.specs.Laws.{HaveLaws};
 ghost use Rattle.replay_command_base.specs.Ran.{Refused};
 ghost use Rattle.replay_commands_on_core.specs.Replayed.{Replayed};
 ghost use Rattle.replay_command_base.specs.Streams.{filter_streams};
+ghost use Rattle.judge_and_driver_laws.specs.Tapped.{AllTapsAreClean};
 ghost use Rattle.judge_report.specs.Judged.{Judged};
 ghost use Rattle.replay_commands_without_core.specs.Migrated.{Migrated};
 ghost use Rattle.replay_commands_without_core.specs.Revived.{ReviveCommandIs};
@@ -22,7 +23,7 @@ ghost use Rattle.replay_commands_without_core.specs.Driven.{DriveCommandIs};
 ghost use Rattle.session_export.specs.GamesWritten.{GamesWritten};
 ghost use Rattle.session_export.specs.PositionsWritten.{PositionsWritten};
 
-use judge_and_driver_laws::engines_hear_the_ordered;
+use judge_and_driver_laws::{engines_hear_the_ordered, taps_are_clean};
 use judge_report::run_judge;
 use line_io::{Sink, Source, Status};
 use policy_rules::Settings;
@@ -162,6 +163,7 @@ pub fn replay_main<I: Source, O: Sink, D: Sink>(
         → JudgesOwnTalk listener
         (filter_streams (I.state input.old) (O.state output.old) (D.state diag.old))
         (filter_streams (I.state input.new) (O.state output.new) (D.state diag.new)) result.code }
+    ensures judge_tap { AllTapsAreClean }
     ensures revive { (lives : ℕ) → replay_command_of (argument_bytes arguments.now) ≡ Some
         (asked.Revive lives)
         → ReviveCommandIs lives ((input.new ≡ input.old) × (output.new ≡ output.old))
@@ -198,6 +200,7 @@ pub fn replay_main<I: Source, O: Sink, D: Sink>(
         (filter_streams (I.state input.new) (O.state output.new) (D.state diag.new)) result.code }
 {
     engines_hear_the_ordered();
+    taps_are_clean();
     Status {
         code: run_arguments(alloc, arguments, input, output, diag).code(),
     }

@@ -8,10 +8,15 @@ use Rattle.adapter_core.proofs.Unique.{unique}
 use Rattle.trace_laws.specs.Laws.{HasLaws}
 use Rattle.trace_laws.proofs.Asked.{last_stands, searches_have}
 use Rattle.trace_laws.proofs.Dialogues.{stop_once}
+use Rattle.trace_laws.proofs.EarlyAnswers.{come_in_time, refused_change_nothing}
+use Rattle.trace_laws.proofs.EarlyWaiting.{early_wait}
+use Rattle.trace_laws.proofs.FirstAndLast.{uci_first, quit_last}
 use Rattle.trace_laws.proofs.Heard as heard
 use Rattle.trace_laws.proofs.Places.{idle_gets_them, search_gets_stop, ponder_gets_hit, gone_gets_nothing, go_follows_position}
 use Rattle.trace_laws.proofs.Pongs.{pings_have_pongs, pongs_wait, none_is_held}
 use Rattle.trace_laws.proofs.Reached.{exist, may_come, within_limits}
+use Rattle.trace_laws.proofs.Resigning.{gone_owes, games_end_aloud, resigns_once}
+use Rattle.trace_laws.proofs.Searched.{searches_are, moves_answer}
 use Rattle.trace_laws.proofs.Shown.{show_once}
 use Rattle.trace_laws.proofs.Steadily as steadily
 
@@ -43,5 +48,15 @@ hold o = record {
   no_ping_held = none_is_held o;
   last_asked_stands = last_stands o;
   searches_have_settings = searches_have o;
+  uci_first = uci_first o;
+  quit_last = quit_last o;
+  searches_are_the_desks = searches_are o;
+  moves_answer_the_desk = moves_answer o;
+  early_lines_wait = early_wait o;
+  early_lines_in_time = come_in_time o;
+  refused_early_lines = refused_change_nothing o;
+  gone_owes_nothing = gone_owes o;
+  games_end_aloud = games_end_aloud o;
+  resigns_once = resigns_once o;
   within_limits = within_limits o;
 }

@@ -7,6 +7,13 @@ pub mod Pongs
 pub mod Calls
 pub mod Steadily
 pub mod Asked
+pub mod FirstAndLast
+pub mod Stays
+pub mod Searched
+pub mod ResignLines
+pub mod Resigning
+pub mod EarlyWaiting
+pub mod EarlyAnswers
 pub mod All
 pub mod Numerals
 pub mod Pieces

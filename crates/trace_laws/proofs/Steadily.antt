@@ -70,13 +70,17 @@ boot_answer s (Shows best hint) f b = absurd (not_answered s.dialogue.epoch s.di
 boot_answer s Forfeits f b = absurd (not_answered s.dialogue.epoch s.dialogue.engine b f.1)
 boot_answer s d f b = refl
 
-boot_before : (s : State) (step : Step) → Lasts s → IsLawfulStep s step → (trace_state_after s step).dialogue.engine ≡ Boot → s.dialogue.engine ≡ Boot
+-- before the orders
+pub boot_mid : (s : State) (step : Step) → Lasts s → IsLawfulStep s step → is_open step.event ≡ false → (trace_state_after s step).dialogue.engine ≡ Boot → (mid s step.event).engine ≡ Boot
+boot_mid s step last l o x =
+    let m = mid s step.event in
+    all_boot m.epoch m.engine (map dialogue_word_of step.orders) (may_all s.dialogue s.ends.closed (exchange s step) (lawful_in s step last l o)) x
+
+pub boot_before : (s : State) (step : Step) → Lasts s → IsLawfulStep s step → (trace_state_after s step).dialogue.engine ≡ Boot → s.dialogue.engine ≡ Boot
 boot_before s step last l x = by (is_open step.event) refl where
   by : (b : Bool) → is_open step.event ≡ b → s.dialogue.engine ≡ Boot
   by true o = last.begins (opening_may s step.event o l.may_come)
-  by false o =
-      let m = mid s step.event in
-      heard_boot s.dialogue.engine _ (all_boot m.epoch m.engine (map dialogue_word_of step.orders) (may_all s.dialogue s.ends.closed (exchange s step) (lawful_in s step last l o)) x)
+  by false o = heard_boot s.dialogue.engine _ (boot_mid s step last l o x)
 
 hintless : (o : Settings) (t : List Step) → LawfulTrace o t → (state o t).dialogue.engine ≡ Boot → (state o t).desk.hint ≡ None
 hintless o [] l b = refl

@@ -5,9 +5,13 @@ use Rattle.adapter_core.specs.Shown.{MovesAreShownInTime, MovesAreShownOnce}
 use Rattle.adapter_core.specs.Shown.{RefusedLinesChangeNothing}
 use Rattle.adapter_core.specs.Represents.{IsOneDialogue, IsSilentToEngine, IsSilentToIface}
 use Rattle.trace_laws.specs.Dialogue.{SearchesServe, SearchesShowOnce, StopLineComesOnce}
+use Rattle.trace_laws.specs.EarlyLines.{EarlyLinesWait, EarlyLinesComeInTime, RefusedEarlyLinesChangeNothing}
 use Rattle.trace_laws.specs.Existence.{EventsMayCome, TracesExist}
+use Rattle.trace_laws.specs.FirstAndLast.{UciIsFirst, QuitIsLast}
 use Rattle.trace_laws.specs.Limits.{CoresAreWithinLimits}
 use Rattle.trace_laws.specs.Pings.{NoneIsHeld, PingsHavePongs, PongsWait}
+use Rattle.trace_laws.specs.Resigning.{GoneEngineOwesNothing, GamesEndAloud, ResignsOnce}
+use Rattle.trace_laws.specs.Searched.{SearchesAreTheDesks, MovesAnswerTheDesk}
 use Rattle.trace_laws.specs.Values.{LastAskedStands, SearchesHaveSettings}
 use Rattle.trace_laws.specs.Wire.{EndsAreOnWire, EngineIsOnWire, GoLineFollowsPosition}
 use Rattle.trace_laws.specs.Wire.{GoneEngineGetsNoLine, IdleEngineGetsLines, PonderGetsHitLine, SearchGetsStopLine}
@@ -52,5 +56,21 @@ pub record HasLaws (o : Settings) : Type 0 where
   -- search begins it was written
   pub last_asked_stands : LastAskedStands o
   pub searches_have_settings : SearchesHaveSettings o
+  -- `uci` is the first order and written once, and nothing is written behind a `quit`
+  pub uci_first : UciIsFirst o
+  pub quit_last : QuitIsLast o
+  -- the position of an open current search is the desk's, and a shown move answers it
+  pub searches_are_the_desks : SearchesAreTheDesks o
+  pub moves_answer_the_desk : MovesAnswerTheDesk o
+  -- settings that come early wait, in Boot alone, and are answered as if they came right after it was
+  -- left; one that is refused then changes nothing
+  pub early_lines_wait : EarlyLinesWait o
+  pub early_lines_in_time : EarlyLinesComeInTime o
+  pub refused_early_lines : RefusedEarlyLinesChangeNothing o
+  -- an engine that is gone owes no move if it resigns then, a game is given up aloud, and the
+  -- engine resigns once at most until it is given a side anew
+  pub gone_owes_nothing : GoneEngineOwesNothing o
+  pub games_end_aloud : GamesEndAloud o
+  pub resigns_once : ResignsOnce o
   -- what a core holds
   pub within_limits : CoresAreWithinLimits o

@@ -4,5 +4,9 @@ pub mod Limits
 pub mod Dialogue
 pub mod Pings
 pub mod Values
+pub mod FirstAndLast
+pub mod Searched
+pub mod Resigning
+pub mod EarlyLines
 pub mod Laws
 pub mod OneLine

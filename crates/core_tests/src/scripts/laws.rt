@@ -1,4 +1,4 @@
-use judge_and_driver_laws::{logs_are_clean, scripts_are_clean};
+use judge_and_driver_laws::{logs_are_clean, scripts_are_clean, taps_are_clean};
 use policy_rules::Settings;
 use session_judge::crossings_are_the_difference;
 
@@ -6,5 +6,6 @@ use session_judge::crossings_are_the_difference;
 fn laws_can_be_called(_rt: HostRuntime) {
     logs_are_clean(Settings::usual());
     scripts_are_clean(Settings::usual());
+    taps_are_clean();
     crossings_are_the_difference();
 }

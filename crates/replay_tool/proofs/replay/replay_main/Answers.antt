@@ -25,6 +25,9 @@ returns-clause-judge g c = does.judged _ _ _ _ _ _ _ (does.at_code _ _ _ _ _ _ _
 pub returns-clause-judge_own : goal.returns-clause-judge_own
 returns-clause-judge_own g c = does.judged_own _ _ _ _ _ _ _ (does.at_code _ _ _ _ _ _ _ _ c.code.ensures c.run_arguments.ensures)
 
+pub returns-clause-judge_tap : goal.returns-clause-judge_tap
+returns-clause-judge_tap g c = c.taps_are_clean.ensures
+
 pub returns-clause-revive : goal.returns-clause-revive
 returns-clause-revive g c = does.revived _ _ _ _ _ _ _ (does.at_code _ _ _ _ _ _ _ _ c.code.ensures c.run_arguments.ensures)
 
