@@ -26,7 +26,7 @@ use Rattle.desk_rules.proofs.EarlyLines.{none_early}
 use Rattle.desk_rules.proofs.Effects.{comes_fits}
 use Rattle.desk_rules.proofs.Quiet.{quiet_pings, effect_pings, owed_ping, ping_call}
 use Rattle.adapter_core.specs.Ends.{may, ends_after, is_open}
-use Rattle.adapter_core.specs.Parts.{CoreParts, situation_of_parts, advance, opening_core_parts, step_choice, is_step_unsent, IsReadyFor}
+use Rattle.adapter_core.specs.Parts.{CoreParts, situation_of_parts, advance, opening_core_parts, step_choice, is_batch_unsent, IsReadyFor}
 use Rattle.adapter_core.specs.Represents.{CoreInvariant}
 use Rattle.adapter_core.proofs.Closing.{line_event, open_before, Closes, closing}
 use Rattle.adapter_core.proofs.Serving.{still, chosen_serves, not_gone_served, call_settled}
@@ -100,10 +100,10 @@ module _ (v : CoreParts) (e : Event) (k : CoreInvariant v) (m : may v.ends e ≡
       subst (λ (z : Bool). SearchServesCall g (call_after z h d)) (b ∙ sym c) (still h v.held d v.dialogue refl fits (k.serves b) g x)
 
   served : (rests : Bool) → closed_now ≡ false → (g : GoKind)
-      → current (settled_state mid.state (cond rests chosen.None (dialogues.settle mid (call_after closed_now h d) (is_step_unsent (orders_waiting h v.held d) d) (played_of (what_of d)) (is_move_now (what_of d))))) ≡ Some g → SearchServesCall g (call_after closed_now h d)
+      → current (settled_state mid.state (cond rests chosen.None (dialogues.settle mid (call_after closed_now h d) (is_batch_unsent h (orders_waiting h v.held d) d mid (call_after closed_now h d)) (played_of (what_of d)) (is_move_now (what_of d))))) ≡ Some g → SearchServesCall g (call_after closed_now h d)
   served true c g x = still_situation c g x
   served false c g x =
-      chosen_serves mid.state mid.spent (call_after closed_now h d) (is_step_unsent (orders_waiting h v.held d) d) (is_pondered mid.pondered (played_of (what_of d))) (is_move_now (what_of d)) (still_situation c) g x
+      chosen_serves mid.state mid.spent (call_after closed_now h d) (is_batch_unsent h (orders_waiting h v.held d) d mid (call_after closed_now h d)) (is_pondered mid.pondered (played_of (what_of d))) (is_move_now (what_of d)) (still_situation c) g x
 
   serves_after : closed_now ≡ false → (g : GoKind) → current (settled_state mid.state o) ≡ Some g → SearchServesCall g (call_of_desk closed_now (is_gone (settled_state mid.state o)) (advance v e).desk)
   unfolding advance

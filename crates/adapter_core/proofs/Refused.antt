@@ -24,7 +24,8 @@ use Rattle.policy_rules.specs.Scores.{Score}
 use Rattle.search_epochs.specs.declared.words.Call.{Call}
 use Rattle.search_epochs.specs.declared.words.EngineState.{EngineState}
 use Rattle.search_epochs.specs.declared.words.EngineState.TheVariants as states
-use Rattle.search_epochs.specs.Tickets.{DialogueTurn, Engine, Boot, Getting, Idle, Search, Gone, Word, Ticketed, Quiet, IsLiveOnlyAt, owed, before_orders, engine_after_orders, is_move, is_no_call, is_engine_idle, has_no_order, is_hint_played, is_move_now, is_due, is_ponder_hit, orders_stop, ticket_ponders, leaves_boot, only}
+use Rattle.search_epochs.specs.Tickets.{DialogueTurn, Engine, Boot, Getting, Idle, Search, Gone, Word, Ticketed, Quiet, IsLiveOnlyAt, owed, before_orders, engine_after_orders, is_move, is_no_call, is_engine_idle, has_no_order, is_hint_played, is_move_now, is_due, is_ponder_hit, orders_stop, ticket_ponders, leaves_boot, only, unfenced_after}
+use Rattle.search_epochs.proofs.Turns.{none_fenced}
 use Rattle.search_epochs.proofs.Same.{only_orders}
 use Rattle.search_epochs.proofs.Whole.{no_hint_quiet}
 use Rattle.desk_rules.specs.declared.effect.Refusal.{Refusal}
@@ -139,10 +140,19 @@ no_hit : (a b c : Bool) → b ≡ false → (a && b && c) ≡ false
 no_hit true b c e = ap (λ (x : Bool). x && c) e
 no_hit false b c e = refl
 
-not_due : (idle boot : Bool) (held : List Order) → boot ≡ false → (idle ≡ true → held ≡ []) → (idle && (boot || not (has_no_order (map dialogue_word_of held)))) ≡ false
-not_due false boot held b f = refl
-not_due true true held b f = cc
-not_due true false held b f = ap (λ (os : List Order). not (has_no_order (map dialogue_word_of os))) (f refl)
+no_fence : (fences unfenced nothing : Bool) → nothing ≡ true → (fences && (unfenced && not nothing)) ≡ false
+no_fence false unfenced nothing e = refl
+no_fence true false nothing e = refl
+no_fence true true true e = refl
+no_fence true true false e = cc
+
+not_due : (idle boot : Bool) (held : List Order) (fences unfenced nothing : Bool) → boot ≡ false → (idle ≡ true → held ≡ []) → (idle ≡ true → nothing ≡ true)
+    → (idle && ((boot || not (has_no_order (map dialogue_word_of held))) || (fences && (unfenced && not nothing)))) ≡ false
+not_due false boot held fences unfenced nothing b f g = refl
+not_due true true held fences unfenced nothing b f g = cc
+not_due true false held fences unfenced nothing b f g =
+    ap (λ (os : List Order). not (has_no_order (map dialogue_word_of os)) || (fences && (unfenced && not nothing))) (f refl)
+    ∙ no_fence fences unfenced nothing (g refl)
 
 not_begun : (idle nothing : Bool) → (idle ≡ true → nothing ≡ true) → (idle && not nothing) ≡ false
 not_begun false nothing f = refl
@@ -201,11 +211,11 @@ module _ (s : State) (step : Step) (holds : Lasts s) (l : IsLawfulStep s step) (
   not_open = ap is_open spelled.event
 
   abbrev turn_by : Effect → DialogueTurn
-  turn_by d = record { what = what_of d; hint = s.desk.hint; begins_epoch = begins_epoch h d; call = call_after (closed_after s e) h d; waiting = map dialogue_word_of (orders_waiting h s.held d) }
+  turn_by d = record { what = what_of d; hint = s.desk.hint; begins_epoch = begins_epoch h d; call = call_after (closed_after s e) h d; waiting = map dialogue_word_of (orders_waiting h s.held d); fences = s.settings.fence_stops }
 
   -- what it is to the dialogue
   abbrev quiet : DialogueTurn
-  quiet = record { what = Quiet; hint = s.desk.hint; begins_epoch = false; call = call_before h; waiting = map dialogue_word_of s.held }
+  quiet = record { what = Quiet; hint = s.desk.hint; begins_epoch = false; call = call_before h; waiting = map dialogue_word_of s.held; fences = s.settings.fence_stops }
 
   same_call : call_after (closed_after s e) h (Refuses r line) ≡ call_before h
   unfolding desk_after_effect
@@ -215,12 +225,15 @@ module _ (s : State) (step : Step) (holds : Lasts s) (l : IsLawfulStep s step) (
 
   turn_is : turn_of_event s e ≡ quiet
   unfolding asked_by_effect
-  turn_is = ap turn_by q ∙ ap (λ (c : Call). let t : DialogueTurn = record { what = Quiet; hint = s.desk.hint; begins_epoch = false; call = c; waiting = map dialogue_word_of s.held } in t) same_call
+  turn_is = ap turn_by q ∙ ap (λ (c : Call). let t : DialogueTurn = record { what = Quiet; hint = s.desk.hint; begins_epoch = false; call = c; waiting = map dialogue_word_of s.held; fences = s.settings.fence_stops } in t) same_call
+
+  quiet_mid : before_orders s.dialogue quiet ≡ s.dialogue
+  quiet_mid =
+      ap (λ (o : Option ℕ). let t : Ticketed = record { engine = s.dialogue.engine; epoch = s.dialogue.epoch; last = o; unfenced = unfenced_after s.dialogue.engine None s.dialogue.unfenced } in t) (other_ticket s.dialogue.engine None s.dialogue.last refl)
+      ∙ ap (λ (b : Bool). let t : Ticketed = record { engine = s.dialogue.engine; epoch = s.dialogue.epoch; last = s.dialogue.last; unfenced = b } in t) (none_fenced s.dialogue.engine s.dialogue.unfenced)
 
   mid_is : mid s e ≡ s.dialogue
-  mid_is =
-      ap (before_orders s.dialogue) turn_is
-      ∙ ap (λ (o : Option ℕ). let t : Ticketed = record { engine = s.dialogue.engine; epoch = s.dialogue.epoch; last = o } in t) (other_ticket s.dialogue.engine None s.dialogue.last refl)
+  mid_is = ap (before_orders s.dialogue) turn_is ∙ quiet_mid
 
   abbrev only_by : Ticketed → DialogueTurn → List Word
   only_by m u = only m.engine m.epoch (owed m u.call) u.waiting (is_due s.dialogue u) (is_ponder_hit s.dialogue u) (is_move_now u.what)
@@ -228,7 +241,8 @@ module _ (s : State) (step : Step) (holds : Lasts s) (l : IsLawfulStep s step) (
   none_is_only : only_by s.dialogue quiet ≡ []
   none_is_only =
       none_only s.dialogue.engine s.dialogue.epoch (owed s.dialogue (call_before h)) (map dialogue_word_of s.held) (is_due s.dialogue quiet) (is_ponder_hit s.dialogue quiet)
-      (not_due (is_engine_idle s.dialogue.engine) (leaves_boot s.dialogue.engine Quiet) s.held (quiet_boot s.dialogue.engine) (λ i. (holds.rests spelled.is_open i).0))
+      (not_due (is_engine_idle s.dialogue.engine) (leaves_boot s.dialogue.engine Quiet) s.held s.settings.fence_stops (before_orders s.dialogue quiet).unfenced (is_no_call (owed (before_orders s.dialogue quiet) (call_before h))) (quiet_boot s.dialogue.engine)
+      (λ i. (holds.rests spelled.is_open i).0) (λ i. ap (λ (m : Ticketed). is_no_call (owed m (call_before h))) quiet_mid ∙ (holds.rests spelled.is_open i).1))
       (no_hit (ticket_ponders s.dialogue) (is_hint_played s.desk.hint Quiet) _ (no_hint_quiet s.desk.hint))
       (not_stopped s.dialogue.epoch s.dialogue.engine (holds.live spelled.is_open))
       (not_begun (is_engine_idle s.dialogue.engine) (is_no_call (owed s.dialogue (call_before h))) (λ i. (holds.rests spelled.is_open i).1))

@@ -12,7 +12,7 @@ use Rattle.search_epochs.specs.declared.words.Call.{Call}
 use Rattle.search_epochs.specs.declared.words.Orders.{Orders}
 use Rattle.search_epochs.specs.declared.words.Orders.TheVariants as chosen
 use Rattle.search_epochs.specs.Tickets.{is_move, is_move_now}
-use Rattle.search_epochs.specs.Dialogue.{Dialogue, owed_by_dialogue, settle, after_settled, played_of, is_hit_order, is_batch_order}
+use Rattle.search_epochs.specs.Dialogue.{Dialogue, owed_by_dialogue, is_unfenced, settle, after_settled, played_of, is_hit_order, is_batch_order}
 use Rattle.desk_rules.specs.declared.effect.Context.{Context}
 use Rattle.desk_rules.specs.declared.desk.Desk.{Desk}
 use Rattle.desk_rules.specs.Desk.{at, call_of_desk, is_gone}
@@ -61,7 +61,7 @@ pub went_on : (context : Context) (v : CoreParts) (d : Effect) (e : Event) (ends
     → row_shown ≡ with (empty ROOM) (reply_lines (cond ends.closed [] (reply_row (at context v.desk) d)))
     → call ≡ call_of_desk ends.closed gone desk
     → owes ≡ is_move (owed_by_dialogue v.dialogue call)
-    → unsent ≡ is_step_unsent v.held d
+    → unsent ≡ (is_step_unsent v.held d || (context.settings.fence_stops && is_unfenced v.dialogue call))
     → orders ≡ cond (opens || ends.closed) chosen.None (settle v.dialogue call unsent (played_of (what_of d)) (is_move_now (what_of d)))
     → dialogue ≡ after_settled v.dialogue (cond (opens || ends.closed) chosen.None (settle v.dialogue call unsent (played_of (what_of d)) (is_move_now (what_of d))))
     → clears ≡ (rose && not (is_hit_order orders))

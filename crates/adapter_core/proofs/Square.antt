@@ -13,10 +13,11 @@ use Rattle.search_epochs.specs.declared.words.Call.{Call}
 use Rattle.search_epochs.specs.declared.words.Call.TheVariants as calls
 use Rattle.search_epochs.specs.declared.words.Orders.{Orders}
 use Rattle.search_epochs.specs.declared.words.Orders.TheVariants as chosen
-use Rattle.search_epochs.specs.Tickets.{Ticketed, DialogueTurn, Engine, Boot, Getting, Idle, Search, Gone, Word, Uci, Quit, AllSetup, Settled, before_orders, engine_after_orders, ticket_ponders, ponders_at, engine_after_word, sent_all, is_due, is_ponder_hit, is_move, is_move_now, has_go, leaves_boot, is_call_spent}
+use Rattle.search_epochs.specs.Tickets.{Ticketed, DialogueTurn, Engine, Boot, Getting, Idle, Search, Gone, Word, Uci, Quit, AllSetup, Settled, before_orders, engine_after_orders, ticket_ponders, ponders_at, engine_after_word, sent_all, is_due, is_ponder_hit, is_move, is_move_now, has_go, has_stop, leaves_boot, is_call_spent, needs_fence}
 use Rattle.search_epochs.specs.Dialogue as dialogues
 use Rattle.search_epochs.specs.Dialogue.{forget, dialogue_between_steps, words, settle, after_settled, is_pondered, played_of, is_hit_order, is_batch_order}
-use Rattle.search_epochs.proofs.Whole.{mid_kept, kept_mid, is_unsent, settled_by, whole_mid, ponders_before, triple, hit_kept}
+use Rattle.search_epochs.proofs.Whole.{mid_kept, kept_mid, is_unsent, settled_by, whole_mid, ponders_before, same_parts, hit_kept}
+use Rattle.search_epochs.proofs.Fences.{go_fenced}
 use Rattle.search_epochs.proofs.Turns.{TicketWithin}
 use Rattle.search_epochs.proofs.Rests.{rested, hit_chosen, batch_chosen, begun}
 use Rattle.search_epochs.proofs.Histories.{quit_sent}
@@ -64,11 +65,13 @@ for_owed false c g x = x
 -- the dialogue where no orders are chosen
 rest : (t : Ticketed) (u : DialogueTurn) (h' : Option Move) (ws : List Word) → TicketWithin t.epoch t.engine → (u.begins_epoch ≡ false → h' ≡ u.hint)
     → sent_all (before_orders t u).epoch (before_orders t u).engine ws ≡ (before_orders t u).engine
+    → has_stop ws ≡ false
     → after_settled (kept_mid t u) chosen.None ≡ dialogue_between_steps (engine_after_orders (before_orders t u) ws) h'
-rest t u h' ws w same e =
+rest t u h' ws w same e n =
     let m = before_orders t u in
     let hints : ticket_ponders m ≡ true → cond (ticket_ponders t) u.hint None ≡ h' = λ p. (let b = ponders_before t u w p in ap (λ c. cond c u.hint None) b.1 ∙ sym (same b.0)) in
-    triple (ap (forget m.epoch) (sym e)) refl (rested m.epoch m.engine (cond (ticket_ponders t) u.hint None) h' hints ∙ ap (λ (x : Engine). cond (ponders_at m.epoch x) h' None) (sym e))
+    same_parts (ap (forget m.epoch) (sym e)) refl (rested m.epoch m.engine (cond (ticket_ponders t) u.hint None) h' hints ∙ ap (λ (x : Engine). cond (ponders_at m.epoch x) h' None) (sym e))
+    (ap (λ b. b || m.unfenced) (sym n))
 
 open_engine : (s : State) (e : Event) → is_open e ≡ true → may s.ends e ≡ true → (s.ends.opened ≡ false → s.dialogue.engine ≡ Boot) → (mid s e).engine ≡ Boot
 unfolding classify
@@ -103,15 +106,15 @@ module _ (s : State) (to_iface to_engine : Text) (e : Event) (holds : StateInvar
   setup : AllSetup (map dialogue_word_of waits)
   setup = all_setup waits held
 
-  unsent_kept : parts.is_step_unsent waits (effect s e) ≡ is_unsent s.dialogue (turn_of_event s e)
+  unsent_kept : parts.is_batch_unsent (situation_of_state s) waits (effect s e) dialogue_mid (turn_of_event s e).call ≡ is_unsent s.dialogue (turn_of_event s e)
   unsent_kept =
-      ap (λ b. b || not (none_held waits)) (boots_are s.dialogue.epoch s.dialogue.engine (situation_of_state s) s.held (effect s e) refl fits)
-      ∙ ap (λ b. leaves_boot s.dialogue.engine (what_of (effect s e)) || not b) (no_words waits)
+      ap (λ b. (b || not (none_held waits)) || needs_fence (mid s e) (turn_of_event s e)) (boots_are s.dialogue.epoch s.dialogue.engine (situation_of_state s) s.held (effect s e) refl fits)
+      ∙ ap (λ b. (leaves_boot s.dialogue.engine (what_of (effect s e)) || not b) || needs_fence (mid s e) (turn_of_event s e)) (no_words waits)
 
   -- in an open session the choice is the dialogue's
   chosen_by : is_open e ≡ false → closed_after s e ≡ false → choice_situation ≡ settled_by s.dialogue (turn_of_event s e)
   chosen_by o c =
-      not_skipped (is_open e) (closed_after s e) (settle dialogue_mid (turn_of_event s e).call (parts.is_step_unsent waits (effect s e)) (played_of (what_of (effect s e))) (is_move_now (what_of (effect s e)))) o c
+      not_skipped (is_open e) (closed_after s e) (settle dialogue_mid (turn_of_event s e).call (parts.is_batch_unsent (situation_of_state s) waits (effect s e) dialogue_mid (turn_of_event s e).call) (played_of (what_of (effect s e))) (is_move_now (what_of (effect s e)))) o c
       ∙ ap (λ b. settle dialogue_mid (turn_of_event s e).call b (played_of (what_of (effect s e))) (is_move_now (what_of (effect s e)))) unsent_kept
 
   hit_situation : begins_epoch (situation_of_state s) (effect s e) ≡ true → is_hit_order choice_situation ≡ is_ponder_hit s.dialogue (turn_of_event s e)
@@ -203,11 +206,15 @@ module _ (s : State) (to_iface to_engine : Text) (e : Event) (holds : StateInvar
       let g' : has_go (words (map dialogue_word_of waits) (settled_by s.dialogue (turn_of_event s e))) ≡ true = ap has_go (sym (words_settled o c ∙ ap (words (map dialogue_word_of waits)) (chosen_by o c))) ∙ g in
       chosen_by o c ∙ begun m.epoch m.engine (owed_after s e) (is_unsent s.dialogue (turn_of_event s e)) (is_pondered (cond (ticket_ponders s.dialogue) s.desk.hint None) (played_of (turn_of_event s e).what)) (is_move_now (turn_of_event s e).what) (map dialogue_word_of waits) setup g'
 
+  settled_words : is_open e ≡ false → closed_after s e ≡ false → Settled (mid s e).engine (mid s e).epoch (owed_after s e) (turn_of_event s e).waiting (is_due s.dialogue (turn_of_event s e)) (is_ponder_hit s.dialogue (turn_of_event s e)) (is_move_now (turn_of_event s e).what) (map dialogue_word_of orders_situation)
+  settled_words o c = subst (λ (ws : List Word). Settled (mid s e).engine (mid s e).epoch (owed_after s e) (turn_of_event s e).waiting (is_due s.dialogue (turn_of_event s e)) (is_ponder_hit s.dialogue (turn_of_event s e)) (is_move_now (turn_of_event s e).what) ws) (sym (words_settled o c)) ((whole o c).0)
+
   settled : is_open e ≡ false → closed_after s e ≡ false → AreSettled s e orders_situation
   settled o c = record {
-    words = subst (λ (ws : List Word). Settled (mid s e).engine (mid s e).epoch (owed_after s e) (turn_of_event s e).waiting (is_due s.dialogue (turn_of_event s e)) (is_ponder_hit s.dialogue (turn_of_event s e)) (is_move_now (turn_of_event s e).what) ws) (sym (words_settled o c)) ((whole o c).0);
+    words = settled_words o c;
     batch = λ d. orders_settled o c ∙ ap (order_list s.settings waits (desk_of s e)) (batched o c d);
     search = λ g. orders_settled o c ∙ ap (order_list s.settings waits (desk_of s e)) (begins o c g);
+    fenced = λ f g. go_fenced s.dialogue (turn_of_event s e) (is_ponder_hit s.dialogue (turn_of_event s e)) (is_move_now (turn_of_event s e).what) _ (settled_words o c) f g;
   }
 
   abbrev orders_by : Bool → Bool → Bool → Orders → List Order
@@ -251,14 +258,14 @@ module _ (s : State) (to_iface to_engine : Text) (e : Event) (holds : StateInvar
   opens_on : (opens closed : Bool) → opens ≡ true → may s.ends e ≡ true → is_open e ≡ true → GoesOn (map dialogue_word_of (orders_by opens s.ends.closed closed (choice_by opens closed))) (choice_by opens closed)
   opens_on true closed x m o =
       let b = open_engine s e o m holds.begins in
-      rest s.dialogue (turn_of_event s e) (desk_of s e).hint (Uci ∷ []) ticket same_hint (ap (λ (g : Engine). engine_after_word (mid s e).epoch g Uci) b ∙ sym b)
+      rest s.dialogue (turn_of_event s e) (desk_of s e).hint (Uci ∷ []) ticket same_hint (ap (λ (g : Engine). engine_after_word (mid s e).epoch g Uci) b ∙ sym b) refl
   opens_on false closed x m o = cc
 
   ends_on : (before gone : Bool) → GoesOn (map dialogue_word_of (cond (before || gone) [] (orders.Quit ∷ []))) chosen.None
   ends_on before gone =
       elim (before || gone) as (λ b. GoesOn (map dialogue_word_of (cond b [] (orders.Quit ∷ []))) chosen.None) [
-        | true ↦ rest s.dialogue (turn_of_event s e) (desk_of s e).hint [] ticket same_hint refl
-        | false ↦ rest s.dialogue (turn_of_event s e) (desk_of s e).hint (Quit ∷ []) ticket same_hint (quit_sent (mid s e).epoch (mid s e).engine)
+        | true ↦ rest s.dialogue (turn_of_event s e) (desk_of s e).hint [] ticket same_hint refl refl
+        | false ↦ rest s.dialogue (turn_of_event s e) (desk_of s e).hint (Quit ∷ []) ticket same_hint (quit_sent (mid s e).epoch (mid s e).engine) refl
       ]
 
   goes_on : (opens closed : Bool) → is_open e ≡ opens → closed_after s e ≡ closed → may s.ends e ≡ true → GoesOn (map dialogue_word_of orders_situation) choice_situation

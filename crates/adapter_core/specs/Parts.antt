@@ -1,6 +1,6 @@
 -- The parts of the core, and how an event changes them.
 use Rattle.std.specs.Prelude.{List, [], ◌∷◌, Bool, true, false, not}
-use Rattle.std.specs.Prelude.{◌||◌, if◌then◌else◌, ◌≤◌, length, ◌≡◌, ◌+◌}
+use Rattle.std.specs.Prelude.{◌||◌, ◌&&◌, if◌then◌else◌, ◌≤◌, length, ◌≡◌, ◌+◌}
 use Rattle.line_io.specs.Event.{Event}
 use Rattle.line_io.specs.Out.{empty, with}
 use Rattle.uci_lines.specs.Orders.{Order}
@@ -17,7 +17,7 @@ use Rattle.search_epochs.specs.declared.words.Orders.{Orders}
 use Rattle.search_epochs.specs.declared.words.Orders.TheVariants as chosen
 use Rattle.search_epochs.specs.Tickets.{is_move, is_move_now}
 use Rattle.search_epochs.specs.Dialogue as dialogues
-use Rattle.search_epochs.specs.Dialogue.{owed_by_dialogue, mid_dialogue, settle, after_settled}
+use Rattle.search_epochs.specs.Dialogue.{owed_by_dialogue, is_unfenced, mid_dialogue, settle, after_settled}
 use Rattle.search_epochs.specs.Dialogue.{played_of, is_hit_order, is_batch_order}
 use Rattle.desk_rules.specs.declared.effect.Context.{Context}
 use Rattle.desk_rules.specs.declared.desk.Desk.{Desk}
@@ -72,6 +72,11 @@ none_held (order ∷ held) = false
 abbrev pub is_step_unsent : List Order → Effect → Bool
 is_step_unsent held d = is_boots d || not (none_held held)
 
+-- a batch is unsent: orders wait, Boot was left, or with FenceStops on a `stop` is unfenced and
+-- something is owed
+abbrev pub is_batch_unsent : Situation → List Order → Effect → dialogues.Dialogue → Call → Bool
+is_batch_unsent h held d mid call = is_step_unsent held d || (h.settings.fence_stops && is_unfenced mid call)
+
 -- The part of a call that counts: in Idle the search that it asks for, and else whether it asks for a Move.
 abbrev pub seen_call : EngineState → Call → Call
 seen_call states.Idle call = call
@@ -81,8 +86,8 @@ seen_call e call = if is_move call then calls.Move else calls.Nothing
 abbrev pub step_choice : Bool → Bool → Situation → List Order → Effect → dialogues.Dialogue → Orders
 step_choice opens closed h held d mid =
     if opens || closed then chosen.None
-    else settle mid (call_after closed h d) (is_step_unsent held d) (played_of (what_of d))
-    (is_move_now (what_of d))
+    else settle mid (call_after closed h d) (is_batch_unsent h held d mid (call_after closed h d))
+    (played_of (what_of d)) (is_move_now (what_of d))
 
 -- the orders of a step, under these settings, if these are held
 abbrev pub step_orders : Settings → Bool → Bool → Bool → Bool → List Order → Desk → Orders

@@ -58,7 +58,7 @@ opening_state o = record {
   desk = opening_desk;
   scores = [];
   held = [];
-  dialogue = record { engine = dialogues.Boot; epoch = 0; last = None };
+  dialogue = record { engine = dialogues.Boot; epoch = 0; last = None; unfenced = false };
 }
 
 -- the situation when an event comes
@@ -87,6 +87,7 @@ turn_of_event s e = record {
   begins_epoch = begins_epoch (situation_of_state s) (effect s e);
   call = call_after (closed_after s e) (situation_of_state s) (effect s e);
   waiting = map dialogue_word_of (orders_waiting (situation_of_state s) s.held (effect s e));
+  fences = s.settings.fence_stops;
 }
 
 -- the dialogue after the event, before the orders
@@ -150,6 +151,9 @@ pub record AreSettled (s : State) (e : Event) (os : List Order) : Type 0 where
   -- a search is for what is owed, in the position and by the clocks after the event
   pub search : has_go (map dialogue_word_of os) ≡ true
       → os ≡ search_orders s.settings (desk_of s e) (owed_after s e)
+  -- with FenceStops on it is written only where no `stop` is unfenced
+  pub fenced : s.settings.fence_stops ≡ true → has_go (map dialogue_word_of os) ≡ true
+      → (mid s e).unfenced ≡ false
 
 -- a step that may follow
 pub record IsLawfulStep (s : State) (step : Step) : Type 0 where

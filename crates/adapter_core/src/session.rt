@@ -114,7 +114,7 @@ impl CoreParts {
             .commit(context, event_effect, stage.closed, &mut self.to_iface);
         let call = seen_call(&self.desk, self.dialogue.state(), stage);
         let owes = is_move(self.dialogue.owed(call));
-        let unsent = is_unsent(&self.held, effect);
+        let unsent = is_unsent(context.settings, &self.held, effect, &self.dialogue, call);
         let orders = choose(&mut self.dialogue, stage, call, unsent, effect);
         let clears = event_effect.begins_epoch && !is_hit(orders);
         self.desk.resign_when_gone(

@@ -1,9 +1,9 @@
 // The parts of a step.
-ghost use Rattle.std.specs.Prelude.{◌≡◌, ◌≤◌, ◌||◌, length, cond, []};
+ghost use Rattle.std.specs.Prelude.{◌≡◌, ◌≤◌, ◌||◌, ◌&&◌, length, cond, []};
 ghost use Rattle.line_io.specs.Event.{event_of};
 ghost use Rattle.line_io.specs.Out.{empty, with};
 ghost use Rattle.search_epochs.specs.Tickets.{is_move, is_move_now};
-ghost use Rattle.search_epochs.specs.Dialogue.{settle, after_settled, played_of, is_hit_order, is_batch_order};
+ghost use Rattle.search_epochs.specs.Dialogue.{is_unfenced, settle, after_settled, played_of, is_hit_order, is_batch_order};
 ghost use Rattle.search_epochs.specs.declared.words.Orders.TheVariants as chosen;
 ghost use Rattle.desk_rules.specs.Steps.{effect_of, what_of};
 ghost use Rattle.desk_rules.specs.Desk.{call_of_desk};
@@ -28,11 +28,26 @@ pub fn is_open(event: &Event) -> bool
     matches!(event, Event::Open)
 }
 
-/// True if orders wait, or Boot was left.
-pub fn is_unsent(held: &HeldOrders, effect: &Effect) -> bool
+// True if orders wait, or Boot was left.
+fn is_step_unsent(held: &HeldOrders, effect: &Effect) -> bool
     ensures { result ≡ is_step_unsent held.now (effect_of effect.now) }
 {
     effect.is_boots() || held.count() != 0
+}
+
+/// True if a batch is unsent: orders wait, Boot was left, or with FenceStops on a `stop` is unfenced and something is
+/// owed.
+pub fn is_unsent(
+    settings: Settings,
+    held: &HeldOrders,
+    effect: &Effect,
+    dialogue: &Dialogue,
+    call: Call,
+) -> bool
+    ensures { result ≡ (is_step_unsent held.now (effect_of effect.now)
+        || (settings.fence_stops && is_unfenced dialogue.now call)) }
+{
+    is_step_unsent(held, effect) || (settings.fence_stops && dialogue.is_unfenced(call))
 }
 
 /// The part of the desk's call that counts: in Idle the search that it asks for, and else whether it asks for a Move.

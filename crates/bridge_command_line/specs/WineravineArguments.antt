@@ -69,6 +69,7 @@ pub record WineravineSettingsAreAsked (rows : List Row) (s : Settings) : Type 0 
   pub handle_draws : s.handle_draws ≡ is_true_text (first_of (codes "HandleDraws") rows)
   pub show_san : s.show_san ≡ is_true_text (first_of (codes "ShowSan") rows)
   pub strength_options : s.strength_options ≡ is_true_text (first_of (codes "StrengthOptions") rows)
+  pub fence_stops : s.fence_stops ≡ is_true_text (first_of (codes "FenceStops") rows)
 
 -- the interface's line that sets an option of the engine, with its line feed
 abbrev pub cecp_option_line : Text → Text

@@ -22,6 +22,9 @@ show_san_rule = flag_rule (codes "ShowSan") (codes "true")
 abbrev pub strength_options_rule : Rule
 strength_options_rule = flag_rule (codes "StrengthOptions") (codes "true")
 
+abbrev pub fence_stops_rule : Rule
+fence_stops_rule = flag_rule (codes "FenceStops") (codes "true")
+
 -- an option of the engine, any number of times
 abbrev pub set_option_rule : Rule
 set_option_rule =
@@ -48,9 +51,9 @@ bare_wineravine =
 
 abbrev pub with_new_settings : App → App
 with_new_settings a =
-    with_rule (with_rule (with_rule
+    with_rule (with_rule (with_rule (with_rule
     (with_rule (with_rule a early_settings_rule) resign_when_gone_rule)
-    handle_draws_rule) show_san_rule) strength_options_rule
+    handle_draws_rule) show_san_rule) strength_options_rule) fence_stops_rule
 
 abbrev pub with_names : App → App
 with_names a =

@@ -20,6 +20,7 @@ Settings:
       --HandleDraws <true|false>      Whether an offer of a draw is answered, by the last scores [default: true]
       --ShowSan <true|false>          Whether thinking lines have Nf3 and not g1f3 [default: true]
       --StrengthOptions <true|false>  Whether the options that limit the engine's strength are shown [default: true]
+      --FenceStops <true|false>       Whether a search waits until the engine has read the stop before it [default: true]
       --LogFile <file>                The log, made anew by each run [default: wineravine.log]
       --Option <name=value>           Sets an option of the engine, or presses a button if there is no =; may be repeated
 

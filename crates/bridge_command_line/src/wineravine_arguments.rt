@@ -1,7 +1,7 @@
 // The command, and its arguments.
 ghost use Rattle.std.specs.Prelude.{◌≡◌, true, false, IfOk};
 ghost use Rattle.clap.specs.Words.{app_of, rule_of};
-ghost use Rattle.bridge_command_line.specs.WineravineCommand.{wineravine, bare_wineravine, with_new_settings, with_names, early_settings_rule, resign_when_gone_rule, handle_draws_rule, show_san_rule, strength_options_rule, set_option_rule, wineravine_engine_rule};
+ghost use Rattle.bridge_command_line.specs.WineravineCommand.{wineravine, bare_wineravine, with_new_settings, with_names, early_settings_rule, resign_when_gone_rule, handle_draws_rule, show_san_rule, strength_options_rule, fence_stops_rule, set_option_rule, wineravine_engine_rule};
 
 use crate::arguments::and_arg;
 use crate::{flag_option, log_file, with_arg, with_policy};
@@ -49,6 +49,14 @@ fn strength_options<'a>(alloc: Global) -> Arg<'a>
     flag_option(alloc, "StrengthOptions", "true", help)
 }
 
+fn fence_stops<'a>(alloc: Global) -> Arg<'a>
+    ensures rule { rule_of result ≡ fence_stops_rule }
+    ensures local { result.global ≡ false }
+{
+    let help = "Whether a search waits until the engine has read the stop before it";
+    flag_option(alloc, "FenceStops", "true", help)
+}
+
 fn set_option<'a>(alloc: Global) -> Arg<'a>
     ensures rule { rule_of result ≡ set_option_rule }
     ensures local { result.global ≡ false }
@@ -93,7 +101,8 @@ fn with_new<'a>(alloc: Global, command: Command<'a>) -> Result<Command<'a>, Allo
     let command = and_arg(command, resign_when_gone(alloc));
     let command = and_arg(command, handle_draws(alloc));
     let command = and_arg(command, show_san(alloc));
-    and_arg(command, strength_options(alloc))
+    let command = and_arg(command, strength_options(alloc));
+    and_arg(command, fence_stops(alloc))
 }
 
 // The command with what names the log, options of the engine, and the engine.

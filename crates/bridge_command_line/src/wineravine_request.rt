@@ -114,6 +114,7 @@ fn settings_of(found: &ArgMatches) -> Settings
         handle_draws: flag(found, "HandleDraws"),
         show_san: flag(found, "ShowSan"),
         strength_options: flag(found, "StrengthOptions"),
+        fence_stops: flag(found, "FenceStops"),
         ..policy_of(found)
     }
 }

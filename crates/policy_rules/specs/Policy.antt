@@ -15,6 +15,7 @@ usual = record {
   handle_draws = true;
   show_san = false;
   strength_options = false;
+  fence_stops = false;
 }
 
 -- the numbers are within their ranges

@@ -1,7 +1,7 @@
 -- The table of settings: their names, the values that they may have, and those that they have.
 use Rattle.std.specs.Prelude.{◌≤◌, ℕ, List, [], ◌∷◌, take, drop, codes, decimal}
 use Rattle.std.specs.Prelude.{Bool, true, false, not, ◌==◌, if◌then◌else◌}
-use Rattle.std.specs.List.{list_all}
+use Rattle.std.specs.List.{filter, list_all}
 use Rattle.policy_rules.specs.Policy.{usual}
 use Rattle.policy_rules.specs.declared.settings.Settings.{Settings}
 use Rattle.policy_rules.specs.declared.settings.TheConstants.{MOST_MOVES, MOST_SCORE}
@@ -10,18 +10,20 @@ use Rattle.policy_rules.specs.declared.table.Setting.TheVariants.{Resign, Resign
 use Rattle.policy_rules.specs.declared.table.Setting.TheVariants.{ShowPonder, EarlySettings}
 use Rattle.policy_rules.specs.declared.table.Setting.TheVariants.{ResignWhenGone, HandleDraws}
 use Rattle.policy_rules.specs.declared.table.Setting.TheVariants.{ShowSan, StrengthOptions}
+use Rattle.policy_rules.specs.declared.table.Setting.TheVariants.{FenceStops}
 use Rattle.policy_rules.specs.declared.table.Range.{Range}
 use Rattle.policy_rules.specs.declared.table.Range.TheVariants as ranges
 use Rattle.policy_rules.specs.declared.table.Value.{Value}
 use Rattle.policy_rules.specs.declared.table.Value.TheVariants.{Truth, Number}
 use Rattle.policy_rules.specs.declared.table.Choice.{Choice}
-use Rattle.policy_rules.specs.declared.table.TheConstants.{FIRST_SETTINGS}
+use Rattle.policy_rules.specs.declared.table.TheConstants.{FIRST_SETTINGS, STATED_SETTINGS}
 
 -- the settings in the order in which a header states them
 abbrev pub settings : List Setting
 settings =
     Resign ∷ ResignMoves ∷ ResignScore ∷ ShowPonder
-    ∷ EarlySettings ∷ ResignWhenGone ∷ HandleDraws ∷ ShowSan ∷ StrengthOptions ∷ []
+    ∷ EarlySettings ∷ ResignWhenGone ∷ HandleDraws ∷ ShowSan ∷ StrengthOptions
+    ∷ FenceStops ∷ []
 
 abbrev pub name_of : Setting → List ℕ
 name_of Resign = codes "Resign"
@@ -33,6 +35,7 @@ name_of ResignWhenGone = codes "ResignWhenGone"
 name_of HandleDraws = codes "HandleDraws"
 name_of ShowSan = codes "ShowSan"
 name_of StrengthOptions = codes "StrengthOptions"
+name_of FenceStops = codes "FenceStops"
 
 -- the values that a setting may have: both truths, if it is not a number
 abbrev pub range_of_setting : Setting → Range
@@ -58,6 +61,7 @@ setting_value s ResignWhenGone = Truth s.resign_when_gone
 setting_value s HandleDraws = Truth s.handle_draws
 setting_value s ShowSan = Truth s.show_san
 setting_value s StrengthOptions = Truth s.strength_options
+setting_value s FenceStops = Truth s.fence_stops
 
 -- the value is one of the range
 abbrev pub IsWithinRange : Range → Value → Type 0
@@ -92,6 +96,7 @@ settings_with_value s ResignWhenGone v = record s { resign_when_gone = is_true v
 settings_with_value s HandleDraws v = record s { handle_draws = is_true v }
 settings_with_value s ShowSan v = record s { show_san = is_true v }
 settings_with_value s StrengthOptions v = record s { strength_options = is_true v }
+settings_with_value s FenceStops v = record s { fence_stops = is_true v }
 
 -- the settings with one chosen anew
 abbrev pub with_choice : Settings → Choice → Settings
@@ -108,12 +113,23 @@ is_usual s setting = is_same_value (setting_value s setting) (setting_value usua
 abbrev pub is_usual_in : List Setting → Settings → Bool
 is_usual_in list s = list_all (is_usual s) list
 
+-- those of a list that have not their usual value
+abbrev pub unusual_in : List Setting → Settings → List Setting
+unusual_in list s = filter (λ setting. not (is_usual s setting)) list
+
 -- the settings that every header states, and the others
 abbrev pub first_settings : List Setting
 first_settings = take FIRST_SETTINGS settings
 
-abbrev pub later_settings : List Setting
-later_settings = drop FIRST_SETTINGS settings
+abbrev pub other_settings : List Setting
+other_settings = drop FIRST_SETTINGS settings
 
 abbrev pub has_usual_rest : Settings → Bool
-has_usual_rest s = is_usual_in later_settings s
+has_usual_rest s = is_usual_in other_settings s
+
+-- the settings that every header of version 3 states, and the later ones
+abbrev pub stated_settings : List Setting
+stated_settings = take STATED_SETTINGS settings
+
+abbrev pub later_settings : List Setting
+later_settings = drop STATED_SETTINGS settings

@@ -10,5 +10,7 @@ mod words;
 pub use laws::counts_decide;
 pub use scores::Scores;
 pub use settings::{MOST_MOVES, MOST_SCORE, Settings, USUAL_MOVES, USUAL_SCORE};
-pub use table::{Choice, FIRST_SETTINGS, Range, SETTINGS, Setting, SettingRow, Value};
+pub use table::{
+    Choice, FIRST_SETTINGS, Range, SETTINGS, STATED_SETTINGS, Setting, SettingRow, Value,
+};
 pub use words::{name_in, read_choice, read_number};

@@ -35,6 +35,8 @@ pub struct Settings {
     pub show_san: bool,
     /// True if the options that limit the engine's strength are shown.
     pub strength_options: bool,
+    /// True if a search begins behind a `stop` only once the engine has answered an `isready` after it.
+    pub fence_stops: bool,
 }
 
 impl Settings {
@@ -53,6 +55,7 @@ impl Settings {
             handle_draws: true,
             show_san: false,
             strength_options: false,
+            fence_stops: false,
         }
     }
 }

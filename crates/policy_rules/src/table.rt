@@ -19,10 +19,11 @@ pub enum Setting {
     HandleDraws,
     ShowSan,
     StrengthOptions,
+    FenceStops,
 }
 
 /// The settings in the order in which a header states them.
-pub const SETTINGS: [Setting; 9] = [
+pub const SETTINGS: [Setting; 10] = [
     Setting::Resign,
     Setting::ResignMoves,
     Setting::ResignScore,
@@ -32,10 +33,15 @@ pub const SETTINGS: [Setting; 9] = [
     Setting::HandleDraws,
     Setting::ShowSan,
     Setting::StrengthOptions,
+    Setting::FenceStops,
 ];
 
 /// The number of them that every header states. A header of version 2 states no others.
 pub const FIRST_SETTINGS: usize = 4;
+
+/// The number of them that every header of version 3 states. Of the later ones it states those that
+/// have not their usual value.
+pub const STATED_SETTINGS: usize = 9;
 
 /// The values that a setting may have.
 #[derive(Clone, Copy)]
@@ -111,6 +117,7 @@ impl Setting {
             Setting::HandleDraws => truth("HandleDraws", "true"),
             Setting::ShowSan => truth("ShowSan", "false"),
             Setting::StrengthOptions => truth("StrengthOptions", "false"),
+            Setting::FenceStops => truth("FenceStops", "false"),
         }
     }
 }
@@ -151,6 +158,7 @@ impl Settings {
             Setting::HandleDraws => Value::Truth(self.handle_draws),
             Setting::ShowSan => Value::Truth(self.show_san),
             Setting::StrengthOptions => Value::Truth(self.strength_options),
+            Setting::FenceStops => Value::Truth(self.fence_stops),
         }
     }
 
@@ -173,6 +181,7 @@ impl Settings {
             Setting::HandleDraws => settings.handle_draws = value.is_true(),
             Setting::ShowSan => settings.show_san = value.is_true(),
             Setting::StrengthOptions => settings.strength_options = value.is_true(),
+            Setting::FenceStops => settings.fence_stops = value.is_true(),
         }
         settings
     }
@@ -191,7 +200,8 @@ impl Settings {
         settings.iter().all(|setting| self.is_usual(*setting))
     }
 
-    fn is_usual(&self, setting: Setting) -> bool
+    /// True if a setting has its usual value.
+    pub fn is_usual(&self, setting: Setting) -> bool
         ensures { result ≡ is_usual self.now setting }
     {
         is_same(self.value(setting), Settings::usual().value(setting))

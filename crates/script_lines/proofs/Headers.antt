@@ -23,10 +23,12 @@ use Rattle.policy_rules.specs.declared.table.Value.{Value}
 use Rattle.policy_rules.specs.declared.table.Value.TheVariants.{Truth, Number}
 use Rattle.policy_rules.specs.declared.table.Choice.{Choice}
 use Rattle.policy_rules.specs.Policy.{IsProper, usual}
-use Rattle.policy_rules.specs.Table.{IsWithinRange, first_settings, has_usual_rest, is_same_value, is_usual, is_usual_in, later_settings, name_of, range_of_setting, settings, truth_text, setting_value, setting_value_text, settings_with_value}
+use Rattle.policy_rules.specs.Table.{IsWithinRange, first_settings, has_usual_rest, is_same_value, is_usual, is_usual_in, later_settings, name_of, other_settings, range_of_setting, settings, stated_settings, truth_text, setting_value, setting_value_text, settings_with_value, unusual_in, with_choice}
 use Rattle.policy_rules.specs.Words.{choice_at, choice_for, choice_of, choices_of, range_value, with_choices, with_first, within}
-use Rattle.script_lines.specs.Header.{SpellsHeader, header_of, header_text, header_with, if_written, header_settings_in, setting_word_of, words_text}
+use Rattle.script_lines.specs.Header.{SpellsHeader, header_of, header_text, header_with, if_written, header_settings_in, setting_word_of, stated_in, unusual_text, words_text}
 use Rattle.script_lines.proofs.Numerals.{same_text}
+use Rattle.script_lines.specs.declared.header.TheConstants.{HEADER_ROOM}
+use Rattle.std.proofs.lemmas.Grind.{flat_map-append}
 
 -- VALUES
 
@@ -119,17 +121,17 @@ abbrev pub sign_of : Bool → ℕ
 sign_of true = 50
 sign_of false = 51
 
-abbrev pub list_of : Bool → List Setting
-list_of true = first_settings
-list_of false = settings
+abbrev pub list_of : Bool → Settings → List Setting
+list_of true s = first_settings
+list_of false s = stated_in s
 
 abbrev pub header_by : Bool → Settings → List ℕ
-header_by usual s = 35 ∷ sign_of usual ∷ words_text s (list_of usual)
+header_by usual s = 35 ∷ sign_of usual ∷ words_text s (list_of usual s)
 
 pub header_words : (s : Settings) → header_text s ≡ header_by (has_usual_rest s) s
 unfolding header_text
 header_words s = by (has_usual_rest s) where
-  by : (usual : Bool) → cond usual (header_with (codes "#2") first_settings s) (header_with (codes "#3") settings s) ≡ header_by usual s
+  by : (usual : Bool) → cond usual (header_with (codes "#2") first_settings s) (header_with (codes "#3") (stated_in s) s) ≡ header_by usual s
   by true = refl
   by false = refl
 
@@ -137,13 +139,13 @@ tails : (a b : List ℕ) (x y : List (List ℕ)) → a ∷ x ≡ b ∷ y → x �
 tails a b x y e = cc
 
 -- the words of a header
-header_tokens : (usual : Bool) (s : Settings) → IsProper s → tokens (rest_after_token (header_by usual s)) ≡ map (setting_word_of s) (list_of usual)
+header_tokens : (usual : Bool) (s : Settings) → IsProper s → tokens (rest_after_token (header_by usual s)) ≡ map (setting_word_of s) (list_of usual s)
 header_tokens true s p =
     let line = header_by true s in
     tails _ _ _ _ (sym (tokens_some line 35 (50 ∷ []) refl) ∙ words_tokens s p first_settings (35 ∷ 50 ∷ []) refl)
 header_tokens false s p =
     let line = header_by false s in
-    tails _ _ _ _ (sym (tokens_some line 35 (51 ∷ []) refl) ∙ words_tokens s p settings (35 ∷ 51 ∷ []) refl)
+    tails _ _ _ _ (sym (tokens_some line 35 (51 ∷ []) refl) ∙ words_tokens s p (stated_in s) (35 ∷ 51 ∷ []) refl)
 
 -- the words of all settings choose them all
 all_chosen : (s : Settings) → with_choices usual (map (choice_in s) settings) ≡ s
@@ -178,18 +180,44 @@ usual_chosen s t (r ∷ rs) h k =
 
 -- those of the first ones do so if all others have their usual values
 first_chosen : (s : Settings) → has_usual_rest s ≡ true → with_choices usual (map (choice_in s) first_settings) ≡ s
-first_chosen s h = sym (usual_chosen s (with_choices usual (map (choice_in s) first_settings)) later_settings h refl) ∙ all_chosen s
+first_chosen s h = sym (usual_chosen s (with_choices usual (map (choice_in s) first_settings)) other_settings h refl) ∙ all_chosen s
 
-chosen : (v : Bool) (s : Settings) → has_usual_rest s ≡ v → with_choices usual (map (choice_in s) (list_of v)) ≡ s
+-- each of these settings is usual when its turn to be chosen comes
+abbrev comes_usual : Settings → Settings → List Setting → Bool
+comes_usual s t [] = true
+comes_usual s t (r ∷ rs) = is_usual t r && comes_usual s (with_choice t (choice_in s r)) rs
+
+-- one setting more, which is chosen if its value is not usual
+one_more : (s t : Settings) (r : Setting) (rs : List Setting) → is_usual t r ≡ true
+    → with_choices (with_choice t (choice_in s r)) (map (choice_in s) (unusual_in rs s)) ≡ with_choices (with_choice t (choice_in s r)) (map (choice_in s) rs)
+    → with_choices t (map (choice_in s) (unusual_in (r ∷ rs) s)) ≡ with_choices t (map (choice_in s) (r ∷ rs))
+one_more s t r rs k rest = by (is_usual s r) refl where
+  by : (b : Bool) → is_usual s r ≡ b → with_choices t (map (choice_in s) (cond (not b) (r ∷ unusual_in rs s) (unusual_in rs s))) ≡ with_choices (with_choice t (choice_in s r)) (map (choice_in s) rs)
+  by true e =
+      let same = same_value (setting_value s r) (setting_value usual r) e ∙ sym (same_value (setting_value t r) (setting_value usual r) k) in
+      ap (λ u. with_choices u (map (choice_in s) (unusual_in rs s))) (sym (ap (settings_with_value t r) same ∙ unchanged t r)) ∙ rest
+  by false e = rest
+
+-- so those that have not their usual value choose as much as all do
+unusual_chosen : (s t : Settings) (list : List Setting) → comes_usual s t list ≡ true → with_choices t (map (choice_in s) (unusual_in list s)) ≡ with_choices t (map (choice_in s) list)
+unusual_chosen s t [] h = refl
+unusual_chosen s t (r ∷ rs) h =
+    let both = and_parts (is_usual t r) (comes_usual s (with_choice t (choice_in s r)) rs) h in
+    one_more s t r rs both.0 (unusual_chosen s (with_choice t (choice_in s r)) rs both.1)
+
+stated_chosen : (s : Settings) → with_choices usual (map (choice_in s) (stated_in s)) ≡ s
+stated_chosen s = unusual_chosen s (with_choices usual (map (choice_in s) stated_settings)) later_settings refl ∙ all_chosen s
+
+chosen : (v : Bool) (s : Settings) → has_usual_rest s ≡ v → with_choices usual (map (choice_in s) (list_of v s)) ≡ s
 chosen true s h = first_chosen s h
-chosen false s h = all_chosen s
+chosen false s h = stated_chosen s
 
 settings_again : (s : Settings) → IsProper s → header_settings_in (tokens (rest_after_token (header_text s))) ≡ Some s
 settings_again s p =
     let v = has_usual_rest s in
     ap (λ line. header_settings_in (tokens (rest_after_token line))) (header_words s)
     ∙ ap header_settings_in (header_tokens v s p)
-    ∙ ap (option_map (with_choices usual)) (choices_again s p (list_of v))
+    ∙ ap (option_map (with_choices usual)) (choices_again s p (list_of v s))
     ∙ ap Some (chosen v s refl)
 
 pub header_again : (s : Settings) → IsProper s → header_of (header_text s) ≡ Some s
@@ -250,9 +278,44 @@ pub first_word : (s : Settings) (list : List Setting) → 1 ≤ length list → 
 first_word s [] h = absurd (omega arith)
 first_word s (r ∷ rs) h = omega (arith, length-append (32 ∷ setting_word_of s r) (words_text s rs))
 
-length_by : (usual : Bool) (s : Settings) → IsProper s → length (header_by usual s) ≤ 163
-length_by true s p = let l = words_length s p first_settings in omega arith
-length_by false s p = let l = words_length s p settings in omega arith
+-- the words of a list are those of its first setting, and the others
+pub unusual_more : (s : Settings) (r : Setting) (rs : List Setting) → unusual_text s (r ∷ rs) ≡ unusual_text s (r ∷ []) ++ unusual_text s rs
+unusual_more s r rs = by (is_usual s r) where
+  by : (b : Bool) → words_text s (cond (not b) (r ∷ unusual_in rs s) (unusual_in rs s)) ≡ words_text s (cond (not b) (r ∷ []) []) ++ words_text s (unusual_in rs s)
+  by true = refl
+  by false = ap (λ bs. bs ++ words_text s (unusual_in rs s)) (sym (append-nil (32 ∷ setting_word_of s r)))
 
-pub header_length : (s : Settings) → IsProper s → length (header_text s) ≤ 163
-header_length s p = subst (λ (t : List ℕ). length t ≤ 163) (sym (header_words s)) (length_by (has_usual_rest s) s p)
+unusual_length : (s : Settings) → IsProper s → (list : List Setting) → length (unusual_text s list) ≤ most_words list
+unusual_length s p [] = omega arith
+unusual_length s p (r ∷ rs) =
+    let l = unusual_length s p rs in
+    omega (arith, ap length (unusual_more s r rs), length-append (unusual_text s (r ∷ [])) (unusual_text s rs), by (is_usual s r))
+  where
+    by : (b : Bool) → length (words_text s (cond (not b) (r ∷ []) [])) ≤ most_words (r ∷ [])
+    by true = omega arith
+    by false = words_length s p (r ∷ [])
+
+-- the first of a list has its room in the words of all
+pub first_unusual : (s : Settings) (list : List Setting) → 1 ≤ length list → length (unusual_text s (slice_index_or list 0 names.Resign ∷ [])) ≤ length (unusual_text s list)
+first_unusual s [] h = absurd (omega arith)
+first_unusual s (r ∷ rs) h = omega (arith, ap length (unusual_more s r rs), length-append (unusual_text s (r ∷ [])) (unusual_text s rs))
+
+pub stated_words : (s : Settings) → words_text s (stated_in s) ≡ words_text s stated_settings ++ unusual_text s later_settings
+stated_words s = flat_map-append (λ setting. 32 ∷ setting_word_of s setting) stated_settings (unusual_in later_settings s)
+
+-- a header of version 3, in its two parts
+pub third_text : (s : Settings) → has_usual_rest s ≡ false → header_text s ≡ header_with (codes "#3") stated_settings s ++ unusual_text s later_settings
+third_text s h = header_words s ∙ ap (λ b. header_by b s) h ∙ ap (λ ws. 35 ∷ 51 ∷ ws) (stated_words s)
+
+stated_length : (s : Settings) → IsProper s → length (words_text s stated_settings) ≤ 300
+stated_length s p = let l = words_length s p stated_settings in omega arith
+
+later_length : (s : Settings) → IsProper s → length (unusual_text s later_settings) ≤ 200
+later_length s p = let l = unusual_length s p later_settings in omega arith
+
+length_by : (usual : Bool) (s : Settings) → IsProper s → length (header_by usual s) ≤ HEADER_ROOM
+length_by true s p = let l = words_length s p first_settings in omega arith
+length_by false s p = omega (arith, ap length (stated_words s), length-append (words_text s stated_settings) (unusual_text s later_settings), stated_length s p, later_length s p)
+
+pub header_length : (s : Settings) → IsProper s → length (header_text s) ≤ HEADER_ROOM
+header_length s p = subst (λ (t : List ℕ). length t ≤ HEADER_ROOM) (sym (header_words s)) (length_by (has_usual_rest s) s p)

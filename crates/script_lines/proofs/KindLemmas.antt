@@ -14,8 +14,8 @@ use Rattle.policy_rules.specs.declared.table.Setting.{Setting}
 use Rattle.policy_rules.specs.declared.table.Setting.TheVariants as names
 use Rattle.policy_rules.specs.declared.table.Value.{Value}
 use Rattle.policy_rules.specs.declared.table.Value.TheVariants.{Truth, Number}
-use Rattle.policy_rules.specs.Table.{first_settings, has_usual_rest, name_of, settings, truth_text, setting_value, setting_value_text}
-use Rattle.script_lines.specs.Header.{header_text, setting_word_of, words_text}
+use Rattle.policy_rules.specs.Table.{first_settings, has_usual_rest, name_of, truth_text, setting_value, setting_value_text}
+use Rattle.script_lines.specs.Header.{header_text, setting_word_of, stated_in, words_text}
 use Rattle.script_lines.specs.StepLine.{step_number_line}
 use Rattle.script_lines.specs.Kinds.{LinesAreOfOneKind, HeadersAreLines, StepLinesAreLines}
 use Rattle.script_lines.proofs.Spelled.{read_of, none_some}
@@ -85,7 +85,7 @@ words_fed s p (r ∷ rs) =
 
 fed_by : (usual : Bool) (s : Settings) → IsProper s → has_feed (header_by usual s) ≡ false
 fed_by true s p = words_fed s p first_settings
-fed_by false s p = words_fed s p settings
+fed_by false s p = words_fed s p (stated_in s)
 
 pub header_fed : (s : Settings) → IsProper s → has_feed (header_text s) ≡ false
 header_fed s p = ap has_feed (header_words s) ∙ fed_by (has_usual_rest s) s p

@@ -8,8 +8,9 @@ use Rattle.protocol_tokens.specs.Tokens.{rest_after_token, tokens}
 use Rattle.policy_rules.specs.declared.settings.Settings.{Settings}
 use Rattle.policy_rules.specs.declared.table.Setting.{Setting}
 use Rattle.policy_rules.specs.Policy.{IsProper, usual}
-use Rattle.policy_rules.specs.Table.{first_settings, has_usual_rest, name_of}
-use Rattle.policy_rules.specs.Table.{settings, setting_value, setting_value_text}
+use Rattle.policy_rules.specs.Table.{first_settings, has_usual_rest, later_settings, name_of}
+use Rattle.policy_rules.specs.Table.{setting_value, setting_value_text}
+use Rattle.policy_rules.specs.Table.{stated_settings, unusual_in}
 use Rattle.policy_rules.specs.Words.{choices_of, with_choices}
 
 -- the word NAME=VALUE of a setting
@@ -20,14 +21,22 @@ setting_word_of s setting = name_of setting ++ equals ∷ setting_value_text (se
 abbrev pub words_text : Settings → List Setting → List ℕ
 words_text s list = flat_map (λ setting. blank ∷ setting_word_of s setting) list
 
+-- the words of those of these settings that have not their usual value
+abbrev pub unusual_text : Settings → List Setting → List ℕ
+unusual_text s list = words_text s (unusual_in list s)
+
 abbrev pub header_with : List ℕ → List Setting → Settings → List ℕ
 header_with version list s = version ++ words_text s list
+
+-- what a header of version 3 states: the stated settings, and later ones whose value is not usual
+abbrev pub stated_in : Settings → List Setting
+stated_in s = stated_settings ++ unusual_in later_settings s
 
 -- the header of these settings, without its line feed: of version 2 if it can state them all
 unfoldable pub header_text : Settings → List ℕ
 header_text s =
     if has_usual_rest s then header_with (codes "#2") first_settings s
-    else header_with (codes "#3") settings s
+    else header_with (codes "#3") (stated_in s) s
 
 -- The line is the header of these settings, and they are proper.
 pub record SpellsHeader (line : List ℕ) (settings : Settings) : Type 0 where

@@ -1,22 +1,24 @@
 // The header of a script of version 2 or 3.
-ghost use Rattle.std.specs.Prelude.{◌≡◌, ◌≤◌, ◌+◌, ◌↔◌, ◌∷◌, ◌++◌, length, Some, IfSome};
+ghost use Rattle.std.specs.Prelude.{◌≡◌, ◌≤◌, ◌+◌, ◌↔◌, ◌∷◌, ◌++◌, [], length, Some, IfSome};
 ghost use Rattle.line_io.specs.Out.{with};
 ghost use Rattle.protocol_tokens.specs.Bytes.{blank};
 ghost use Rattle.protocol_tokens.specs.Tokens.{tokens};
 ghost use Rattle.policy_rules.specs.declared.settings.Settings.{Settings as SomeSettings};
 ghost use Rattle.policy_rules.specs.Policy.{IsProper};
 ghost use Rattle.policy_rules.specs.Table.{truth_text, setting_value_text};
-ghost use Rattle.script_lines.specs.Header.{SpellsHeader, header_of, header_text, header_with, header_settings_in, setting_word_of, words_text};
+ghost use Rattle.script_lines.specs.Header.{SpellsHeader, header_of, header_text, header_with, header_settings_in, setting_word_of, unusual_text, words_text};
 ghost use Rattle.script_lines.specs.declared.header.TheConstants.{HEADER_ROOM};
 
 use arrayvec::ArrayVec;
 use itoa::Buffer;
 use line_io::Out;
-use policy_rules::{FIRST_SETTINGS, SETTINGS, Setting, Settings, Value, read_choice};
+use policy_rules::{
+    FIRST_SETTINGS, SETTINGS, STATED_SETTINGS, Setting, Settings, Value, read_choice,
+};
 use protocol_tokens::{next_token, split_token};
 
-/// Room for any header.
-pub const HEADER_ROOM: usize = 163;
+/// Room for any header, and for the words of later settings.
+pub const HEADER_ROOM: usize = 512;
 
 /// The text of a header, or a part of it.
 type HeaderText = ArrayVec<u8, HEADER_ROOM>;
@@ -68,6 +70,29 @@ fn put_words(settings: &Settings, list: &[Setting], text: &mut HeaderText)
     }
 }
 
+// Puts the word of a setting that has not its usual value.
+fn put_if_unusual(settings: &Settings, setting: Setting, text: &mut HeaderText)
+    requires { length text.old.items + length (unusual_text settings.now (setting ∷ []))
+        ≤ HEADER_ROOM }
+    ensures { text.new.items ≡ text.old.items ++ unusual_text settings.now (setting ∷ []) }
+{
+    if !settings.is_usual(setting) {
+        put_word(settings, setting, text);
+    }
+}
+
+// Puts the words of those of these settings that have not their usual values.
+fn put_unusual(settings: &Settings, list: &[Setting], text: &mut HeaderText)
+    requires { length text.old.items + length (unusual_text settings.now list.now) ≤ HEADER_ROOM }
+    ensures { text.new.items ≡ text.old.items ++ unusual_text settings.now list.now }
+{
+    let mut rest = list;
+    while let [setting, others @ ..] = rest {
+        put_if_unusual(settings, *setting, text);
+        rest = others;
+    }
+}
+
 fn header_with(version: &[u8], list: &[Setting], settings: &Settings) -> HeaderText
     requires { length (header_with version.now list.now settings.now) ≤ HEADER_ROOM }
     ensures { result.items ≡ header_with version.now list.now settings.now }
@@ -86,7 +111,9 @@ fn header_text(settings: &Settings) -> HeaderText
     if settings.has_usual_rest() {
         header_with(b"#2", &SETTINGS[..FIRST_SETTINGS], settings)
     } else {
-        header_with(b"#3", &SETTINGS, settings)
+        let mut text = header_with(b"#3", &SETTINGS[..STATED_SETTINGS], settings);
+        put_unusual(settings, &SETTINGS[STATED_SETTINGS..], &mut text);
+        text
     }
 }
 

@@ -40,7 +40,7 @@ heard_current : (P : GoKind → Call → Type 0) (v : Dialogue) (w : What) (call
     → IfCurrent v.state (λ k. P k call) → IfCurrent (after_what v w).state (λ k. P k call')
 heard_current P v w call call' e h = by_state v.state w e h where
   by_state : (x : EngineState) (w : What) → call' ≡ cond (answers_kept w x || is_engine_end w) calls.Nothing call → IfCurrent x (λ k. P k call)
-      → IfCurrent (after_what (record { state = x; spent = v.spent; pondered = v.pondered }) w).state (λ k. P k call')
+      → IfCurrent (after_what (record { state = x; spent = v.spent; pondered = v.pondered; unfenced = v.unfenced }) w).state (λ k. P k call')
   by_state (states.Search k stale s) (Says said.Best) e h = tt
   by_state (states.Search k stale s) (Says said.Ended) e h = tt
   by_state (states.Search k stale s) w e h = moved P k stale s call call' e h

@@ -1,16 +1,16 @@
 -- A dialogue whose orders the code chose is lawful, and a lawful one is chosen by the code.
-use Rattle.std.proofs.Common.{◌≡◌, ℕ, List, [], ◌∷◌, map, Bool, true, false, not, cond, ◌||◌, Option, Some, None, refl, sym, ap, subst, ◌∙◌}
+use Rattle.std.proofs.Common.{◌≡◌, ℕ, List, [], ◌∷◌, map, Bool, true, false, not, cond, ◌&&◌, ◌||◌, Option, Some, None, refl, sym, ap, subst, ◌∙◌}
 use Rattle.chess_board.specs.declared.board.Move.{Move}
 use Rattle.search_epochs.specs.declared.words.Call.{Call}
 use Rattle.search_epochs.specs.declared.words.Call.TheVariants as calls
 use Rattle.search_epochs.specs.declared.words.Said.TheVariants as said
 use Rattle.search_epochs.specs.declared.words.Orders.{Orders}
 use Rattle.search_epochs.specs.declared.words.Orders.TheVariants as orders
-use Rattle.search_epochs.specs.Tickets.{Engine, Boot, Getting, Idle, Search, Gone, What, Says, Ticketed, Word, Quit, TicketWithin, LastWithin, AllSetup, Settled, engine_after_word, sent_all, is_call_spent, owed, before_orders, engine_after_orders, ticket_ponders, is_due, is_ponder_hit, is_move_now, has_no_order, is_engine_gone, leaves_boot}
-use Rattle.search_epochs.specs.Dialogue.{Dialogue, forget, dialogue_between_steps, kept_mid, words, settle, settled_by, after_settled, played_of, boots}
-use Rattle.search_epochs.specs.History.{Exchange, ExchangeMayCome, AreLawful, CallIsSteady, Steady, Chosen, LawfulHistory, dialogue, view, last_hint, last_call, is_closed, heard_in, exchange_choice, exchange_orders, closing_orders, is_gone_state, without_orders}
+use Rattle.search_epochs.specs.Tickets.{Engine, Boot, Getting, Idle, Search, Gone, What, Says, Ticketed, Word, Quit, TicketWithin, LastWithin, AllSetup, Settled, engine_after_word, sent_all, is_call_spent, owed, before_orders, engine_after_orders, ticket_ponders, is_due, is_ponder_hit, is_move_now, has_no_order, has_stop, is_engine_gone, leaves_boot, needs_fence}
+use Rattle.search_epochs.specs.Dialogue.{Dialogue, forget, dialogue_between_steps, is_unfenced, kept_mid, words, settle, settled_by, after_settled, played_of, boots}
+use Rattle.search_epochs.specs.History.{Exchange, ExchangeMayCome, AreLawful, CallIsSteady, Steady, Chosen, LawfulHistory, dialogue, view, last_hint, last_call, is_closed, heard_in, has_unsent, exchange_choice, exchange_orders, closing_orders, is_gone_state, without_orders}
 use Rattle.search_epochs.specs.Laws.{ChosenIsLawful, LawfulIsChosen, DialogueIsKept, DialogueIsUnique}
-use Rattle.search_epochs.proofs.Whole.{triple, mid_kept, whole_mid, ponders_before}
+use Rattle.search_epochs.proofs.Whole.{same_parts, mid_kept, whole_mid, ponders_before}
 use Rattle.search_epochs.proofs.Rests.{rested}
 use Rattle.search_epochs.proofs.Same.{same}
 use Rattle.search_epochs.proofs.Within.{within}
@@ -42,7 +42,14 @@ none_sent m false false = quit_sent m.epoch m.engine
 
 -- the last orders leave everything as it is
 pub closing_after : (m : Ticketed) (closed gone : Bool) → engine_after_orders m (closing_orders closed gone) ≡ m
-closing_after m closed gone = ap (λ (e : Engine). let t : Ticketed = record { engine = e; epoch = m.epoch; last = m.last } in t) (none_sent m closed gone)
+closing_after m closed gone =
+    ap (λ (e : Engine). let t : Ticketed = record { engine = e; epoch = m.epoch; last = m.last; unfenced = has_stop (closing_orders closed gone) || m.unfenced } in t) (none_sent m closed gone)
+    ∙ ap (λ b. let t : Ticketed = record { engine = m.engine; epoch = m.epoch; last = m.last; unfenced = b || m.unfenced } in t) (no_stop closed gone)
+  where
+    no_stop : (closed gone : Bool) → has_stop (closing_orders closed gone) ≡ false
+    no_stop true gone = refl
+    no_stop false true = refl
+    no_stop false false = refl
 
 -- what goes on in an exchange if the code stands for the dialogue before
 module _ (t : Ticketed) (x : Exchange) (w : TicketWithin t.epoch t.engine) (l : LastWithin t.epoch t.last) where
@@ -51,9 +58,9 @@ module _ (t : Ticketed) (x : Exchange) (w : TicketWithin t.epoch t.engine) (l : 
 
   choice_open : x.closed ≡ false → exchange_choice (dialogue_between_steps t x.turn.hint) x ≡ settled_by t x.turn
   choice_open e =
-      ap (λ b. cond b orders.None (settle (heard_in (dialogue_between_steps t x.turn.hint) x) x.turn.call (boots (forget t.epoch t.engine) x.turn.what || not (has_no_order x.turn.waiting)) (played_of x.turn.what) (is_move_now x.turn.what))) e
-      ∙ ap (λ (m : Dialogue). settle m x.turn.call (boots (forget t.epoch t.engine) x.turn.what || not (has_no_order x.turn.waiting)) (played_of x.turn.what) (is_move_now x.turn.what)) heard_kept
-      ∙ ap (λ b. settle (kept_mid t x.turn) x.turn.call (b || not (has_no_order x.turn.waiting)) (played_of x.turn.what) (is_move_now x.turn.what)) (boots_kept t.epoch t.engine x.turn.what)
+      ap (λ b. cond b orders.None (settle (heard_in (dialogue_between_steps t x.turn.hint) x) x.turn.call (has_unsent (dialogue_between_steps t x.turn.hint) x) (played_of x.turn.what) (is_move_now x.turn.what))) e
+      ∙ ap (λ (m : Dialogue). settle m x.turn.call ((boots (forget t.epoch t.engine) x.turn.what || not (has_no_order x.turn.waiting)) || (x.turn.fences && is_unfenced m x.turn.call)) (played_of x.turn.what) (is_move_now x.turn.what)) heard_kept
+      ∙ ap (λ b. settle (kept_mid t x.turn) x.turn.call ((b || not (has_no_order x.turn.waiting)) || needs_fence (before_orders t x.turn) x.turn) (played_of x.turn.what) (is_move_now x.turn.what)) (boots_kept t.epoch t.engine x.turn.what)
 
   orders_open : (closed : Bool) → x.closed ≡ false → exchange_orders (dialogue_between_steps t x.turn.hint) closed x ≡ words x.turn.waiting (settled_by t x.turn)
   orders_open closed e =
@@ -91,14 +98,15 @@ module _ (t : Ticketed) (x : Exchange) (w : TicketWithin t.epoch t.engine) (l : 
     -- an exchange in which it rests
     rests : after_settled (kept_mid t x.turn) orders.None ≡ dialogue_between_steps (before_orders t x.turn) x.hint
     rests =
-        triple refl refl
+        same_parts refl refl
         (rested (before_orders t x.turn).epoch (before_orders t x.turn).engine (cond (ticket_ponders t) x.turn.hint None) x.hint
         (λ e. let b = ponders_before t x.turn w e in ap (λ c. cond c x.turn.hint None) b.1 ∙ sym (hint_kept b.0)))
+        refl
 
     kept_closed : (closed : Bool) → x.closed ≡ true
         → after_settled (heard_in (dialogue_between_steps t x.turn.hint) x) (exchange_choice (dialogue_between_steps t x.turn.hint) x) ≡ dialogue_between_steps (engine_after_orders (before_orders t x.turn) (closing_orders closed (is_engine_gone (before_orders t x.turn).engine))) x.hint
     kept_closed closed e =
-        ap (λ b. after_settled (heard_in (dialogue_between_steps t x.turn.hint) x) (cond b orders.None (settle (heard_in (dialogue_between_steps t x.turn.hint) x) x.turn.call (boots (forget t.epoch t.engine) x.turn.what || not (has_no_order x.turn.waiting)) (played_of x.turn.what) (is_move_now x.turn.what)))) e
+        ap (λ b. after_settled (heard_in (dialogue_between_steps t x.turn.hint) x) (cond b orders.None (settle (heard_in (dialogue_between_steps t x.turn.hint) x) x.turn.call (has_unsent (dialogue_between_steps t x.turn.hint) x) (played_of x.turn.what) (is_move_now x.turn.what)))) e
         ∙ ap (λ (m : Dialogue). after_settled m orders.None) heard_kept
         ∙ rests
         ∙ ap (λ (m : Ticketed). dialogue_between_steps m x.hint) (sym (closing_after (before_orders t x.turn) closed (is_engine_gone (before_orders t x.turn).engine)))

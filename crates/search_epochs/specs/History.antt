@@ -1,6 +1,6 @@
 -- Whole dialogues: lists of exchanges, the newest first.
 use Rattle.std.specs.Prelude.{◌≡◌, ℕ, ◌+◌, List, [], ◌∷◌, Bool, true, false, not}
-use Rattle.std.specs.Prelude.{if◌then◌else◌, ◌==◌, ◌||◌, Option, Some, None}
+use Rattle.std.specs.Prelude.{if◌then◌else◌, ◌==◌, ◌||◌, ◌&&◌, Option, Some, None}
 use Rattle.chess_board.specs.declared.board.Move.{Move}
 use Rattle.protocol_tokens.specs.declared.kinds.GoKind.TheVariants as kinds
 use Rattle.search_epochs.specs.declared.words.EngineState.{EngineState}
@@ -15,7 +15,7 @@ use Rattle.search_epochs.specs.Tickets.{Quiet, Ticketed, DialogueTurn, Settled, 
 use Rattle.search_epochs.specs.Tickets.{first_dialogue, before_orders, engine_after_orders, owed, is_due}
 use Rattle.search_epochs.specs.Tickets.{is_ponder_hit, is_move_now, has_no_order, is_engine_gone, has_go, has_hit}
 use Rattle.search_epochs.specs.Dialogue.{Dialogue, opening, mid_dialogue, after_settled}
-use Rattle.search_epochs.specs.Dialogue.{settle, words, played_of, boots}
+use Rattle.search_epochs.specs.Dialogue.{is_unfenced, settle, words, played_of, boots}
 
 -- one exchange: a turn, the desk's hint after it, whether the session is closed after it, and
 -- the orders that are written
@@ -115,11 +115,15 @@ Steady (x ∷ xs) = Steady xs × CallIsSteady (dialogue xs) (last_call xs) (last
 abbrev pub heard_in : Dialogue → Exchange → Dialogue
 heard_in v x = mid_dialogue v x.turn.what x.turn.begins_epoch
 
+abbrev pub has_unsent : Dialogue → Exchange → Bool
+has_unsent v x =
+    (boots v.state x.turn.what || not (has_no_order x.turn.waiting))
+    || (x.turn.fences && is_unfenced (heard_in v x) x.turn.call)
+
 abbrev pub exchange_choice : Dialogue → Exchange → Orders
 exchange_choice v x =
     if x.closed then orders.None
-    else settle (heard_in v x) x.turn.call
-    (boots v.state x.turn.what || not (has_no_order x.turn.waiting)) (played_of x.turn.what)
+    else settle (heard_in v x) x.turn.call (has_unsent v x) (played_of x.turn.what)
     (is_move_now x.turn.what)
 
 abbrev pub is_gone_state : EngineState → Bool

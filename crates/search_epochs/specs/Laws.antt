@@ -11,7 +11,7 @@ use Rattle.search_epochs.specs.Tickets.{Position, Go, Stop, PonderHit, Quit, Tic
 use Rattle.search_epochs.specs.Tickets.{DialogueTurn, TicketWithin, LastWithin, AllSetup}
 use Rattle.search_epochs.specs.Tickets.{Settled, IsLiveOnlyAt, SearchServesCall, Paired, before_orders}
 use Rattle.search_epochs.specs.Tickets.{engine_after_orders, owed, is_call_spent, is_due, is_ponder_hit, is_move_now}
-use Rattle.search_epochs.specs.Tickets.{is_move, is_engine_idle, has_no_order, is_no_call, has_quit_order, only}
+use Rattle.search_epochs.specs.Tickets.{is_move, is_engine_idle, has_no_order, is_no_call, has_go, has_quit_order, only}
 use Rattle.search_epochs.specs.Dialogue.{dialogue_between_steps, kept_mid, mid_dialogue}
 use Rattle.search_epochs.specs.Dialogue.{settled_by, after_settled, words}
 use Rattle.search_epochs.specs.History.{Exchange, Steady, Chosen, LawfulHistory, dialogue, view}
@@ -186,3 +186,26 @@ QuitOrderIsLast =
     (x : Exchange) (xs : List Exchange) → LawfulHistory (x ∷ xs)
     → (x.closed ≡ false → has_quit_order x.orders ≡ false)
     × (has_quit_order x.orders ≡ true → x.orders ≡ Quit ∷ []) × (is_closed xs ≡ true → x.orders ≡ [])
+
+-- fences
+
+-- with FenceStops on a search is begun only where no `stop` is unfenced
+abbrev pub GoIsFenced : Type 0
+GoIsFenced =
+    (x : Exchange) (xs : List Exchange) → LawfulHistory (x ∷ xs)
+    → x.turn.fences ≡ true → has_go x.orders ≡ true
+    → (before_orders (dialogue xs) x.turn).unfenced ≡ false
+
+abbrev pub AllFence : List Exchange → Type 0
+AllFence [] = Unit {0}
+AllFence (x ∷ xs) = AllFence xs × (x.turn.fences ≡ true)
+
+-- in an open search a `stop` is unfenced if and only if the search is stopped
+abbrev pub IsFencedUnlessStopped : Engine → Bool → Type 0
+IsFencedUnlessStopped (Search k ticket stopped) unfenced = unfenced ≡ stopped
+IsFencedUnlessStopped e unfenced = Unit {0}
+
+abbrev pub SearchIsFenced : Type 0
+SearchIsFenced =
+    (xs : List Exchange) → AllFence xs → LawfulHistory xs
+    → IsFencedUnlessStopped (dialogue xs).engine (dialogue xs).unfenced

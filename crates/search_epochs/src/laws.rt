@@ -1,5 +1,6 @@
 // Laws of the dialogue: functions that do nothing, whose contracts hold of every turn and of every list of exchanges.
 ghost use Rattle.search_epochs.specs.Laws.{ChosenIsLawful, CurrentIsUnspent, CurrentServes, DialogueIsUnique};
+ghost use Rattle.search_epochs.specs.Laws.{GoIsFenced, SearchIsFenced};
 ghost use Rattle.search_epochs.specs.Laws.{GoFollowsPosition, GoneGetsNothing, IdleEngineGetsOrders, LawfulIsChosen};
 ghost use Rattle.search_epochs.specs.Laws.{LiveIsCurrent, MidIsKept, MoveIsOwed, NothingIsLeft, PonderGetsHit};
 ghost use Rattle.search_epochs.specs.Laws.{QuitOrderIsLast, SearchGetsStop, SettledIsOnly, SettledIsUnique, StoppedIsForMove};
@@ -46,4 +47,11 @@ pub fn order_places()
     ensures gone { GoneGetsNothing }
     ensures paired { GoFollowsPosition }
     ensures quit { QuitOrderIsLast }
+{}
+
+/// With FenceStops on: a search begins only where no `stop` is unfenced, and in an open one a `stop` is unfenced if and
+/// only if the search is stopped.
+pub fn fenced_searches()
+    ensures begun { GoIsFenced }
+    ensures searching { SearchIsFenced }
 {}

@@ -11,6 +11,7 @@ use Rattle.trace_laws.proofs.Dialogues.{stop_once}
 use Rattle.trace_laws.proofs.EarlyAnswers.{come_in_time, refused_change_nothing}
 use Rattle.trace_laws.proofs.EarlyWaiting.{early_wait}
 use Rattle.trace_laws.proofs.FirstAndLast.{uci_first, quit_last}
+use Rattle.trace_laws.proofs.Fences.{searches_fenced, stopped_unfenced}
 use Rattle.trace_laws.proofs.Heard as heard
 use Rattle.trace_laws.proofs.Places.{idle_gets_them, search_gets_stop, ponder_gets_hit, gone_gets_nothing, go_follows_position}
 use Rattle.trace_laws.proofs.Pongs.{pings_have_pongs, pongs_wait, none_is_held}
@@ -43,6 +44,8 @@ hold o = record {
   stops_once = stop_once o;
   searches_show_once = show_once o;
   searches_serve = steadily.serve o;
+  searches_fenced = searches_fenced o;
+  stopped_unfenced = stopped_unfenced o;
   pings_have_pongs = pings_have_pongs o;
   pongs_wait = pongs_wait o;
   no_ping_held = none_is_held o;

@@ -6,7 +6,7 @@ use Rattle.uci_lines.specs.Orders as orders
 use Rattle.option_map.specs.Held.{Slot, Game, Setting, same_slot, slot_of, held_for_same, held_orders_staying, held_list_with, with_orders}
 use Rattle.option_map.proofs.Orders.{apart}
 use Rattle.policy_rules.specs.declared.settings.Settings.{Settings}
-use Rattle.search_epochs.specs.Tickets.{MaySendAll, is_due, has_no_order, is_engine_idle, leaves_boot, has_batch, has_go}
+use Rattle.search_epochs.specs.Tickets.{MaySendAll, is_due, has_no_order, is_engine_idle, leaves_boot, needs_fence, has_batch, has_go}
 use Rattle.desk_rules.specs.Orders.{orders_waiting, dialogue_word_of, asked_by_effect}
 use Rattle.adapter_core.specs.Ends.{is_open}
 use Rattle.adapter_core.specs.Trace.{State, Step, IsLawfulStep, state, trace_state_after, situation_of_state, effect, turn_of_event, mid, closed_after, is_gone_after, closing_step_orders, has_ready}
@@ -134,11 +134,11 @@ module _ (s : State) (step : Step) (l : IsLawfulStep s step) where
   not_last true b = cc
   not_last false b = cc
 
-  by_due : (idle leaves empty : Bool) → (idle && (leaves || not empty)) ≡ false → idle ≡ true → empty ≡ true
-  by_due true true empty d i = cc
-  by_due true false true d i = refl
-  by_due true false false d i = cc
-  by_due false leaves empty d i = cc
+  by_due : (idle leaves empty fence : Bool) → (idle && ((leaves || not empty) || fence)) ≡ false → idle ≡ true → empty ≡ true
+  by_due true true empty fence d i = cc
+  by_due true false true fence d i = refl
+  by_due true false false fence d i = cc
+  by_due false leaves empty fence d i = cc
 
   nothing_waits : (os : List Order) → has_no_order (map dialogue_word_of os) ≡ true → os ≡ []
   nothing_waits [] n = refl
@@ -154,7 +154,7 @@ module _ (s : State) (step : Step) (l : IsLawfulStep s step) where
       let g = words.go (searching step.orders b) in
       let m = subst (MaySendAll (mid s e).epoch (mid s e).engine) g.0 words.may_send in
       left_none (has_ready (map dialogue_word_of step.orders)) waits
-      (nothing_waits waits (by_due (is_engine_idle (mid s e).engine) (leaves_boot s.dialogue.engine (turn_of_event s e).what) (has_no_order (turn_of_event s e).waiting) d (ap is_engine_idle m.0)))
+      (nothing_waits waits (by_due (is_engine_idle (mid s e).engine) (leaves_boot s.dialogue.engine (turn_of_event s e).what) (has_no_order (turn_of_event s e).waiting) (needs_fence (mid s e) (turn_of_event s e)) d (ap is_engine_idle m.0)))
 
   search_by : (opens closed later due : Bool) → is_open e ≡ opens → s.ends.closed ≡ closed → closed_after s e ≡ later → is_due s.dialogue (turn_of_event s e) ≡ due → orders_begin_search step.orders ≡ true → (trace_state_after s step).held ≡ []
   search_by true closed later due o p q d b = let x = ap orders_begin_search (l.opens o) in cc

@@ -17,7 +17,7 @@ use Rattle.policy_rules.specs.declared.settings.Settings.{Settings}
 use Rattle.search_epochs.specs.declared.words.Said.{Said}
 use Rattle.search_epochs.specs.declared.words.Said.TheVariants as said
 use Rattle.search_epochs.specs.Tickets as talks
-use Rattle.search_epochs.specs.Tickets.{Engine, Boot, Word, Ticketed, engine_after_heard, said_of_event, engine_after_word, closed_ticket, before_orders, engine_after_orders}
+use Rattle.search_epochs.specs.Tickets.{Engine, Boot, Word, Ticketed, engine_after_heard, said_of_event, engine_after_word, closed_ticket, unfenced_after, before_orders, engine_after_orders}
 use Rattle.search_epochs.specs.History as history
 use Rattle.search_epochs.specs.History.{Exchange, IsDeaf, ExchangeMayCome, AreLawful}
 use Rattle.search_epochs.proofs.Stops.{stops_once}
@@ -37,14 +37,14 @@ use Rattle.trace_laws.specs.Dialogue.{exchange, exchanges, IsDialogueOf, TracesA
 
 -- THE OPENING
 
-opening_dialogue : (s : State) (e : Event) (os : List Order) → is_open e ≡ true → may s.ends e ≡ true → (s.ends.opened ≡ false → s.dialogue.engine ≡ Boot) → os ≡ orders.Uci ∷ []
+pub opening_dialogue : (s : State) (e : Event) (os : List Order) → is_open e ≡ true → may s.ends e ≡ true → (s.ends.opened ≡ false → s.dialogue.engine ≡ Boot) → os ≡ orders.Uci ∷ []
     → s.dialogue ≡ engine_after_orders (mid s e) (map dialogue_word_of os)
 unfolding classify
 opening_dialogue s events.Open os o m b u =
     let t = s.dialogue in
     let boot = b (not_true s.ends.opened m) in
-    ap (λ (x : Engine). let y : Ticketed = record { engine = x; epoch = t.epoch; last = t.last } in y) boot
-    ∙ ap (λ (x : Engine). let y : Ticketed = record { engine = engine_after_word t.epoch x talks.Uci; epoch = t.epoch; last = closed_ticket x None t.last } in y) (sym boot)
+    ap (λ (x : Engine). let y : Ticketed = record { engine = x; epoch = t.epoch; last = t.last; unfenced = t.unfenced } in y) boot
+    ∙ ap (λ (x : Engine). let y : Ticketed = record { engine = engine_after_word t.epoch x talks.Uci; epoch = t.epoch; last = closed_ticket x None t.last; unfenced = unfenced_after x None t.unfenced } in y) (sym boot)
     ∙ ap (λ (ws : List Order). engine_after_orders (mid s events.Open) (map dialogue_word_of ws)) (sym u)
   where
     not_true : (b : Bool) → not b ≡ true → b ≡ false

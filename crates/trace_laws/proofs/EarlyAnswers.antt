@@ -353,6 +353,7 @@ module _ (s : State) (step : Step) (last : Lasts s) (l : IsLawfulStep s step) (q
             a.search g
             ∙ ap (λ (d : Desk). search_orders s.settings d (owed_after s step.event)) (sym (ap (λ (x : State). x.desk) same_state))
             ∙ ap (λ (u : DialogueTurn). search_orders s.settings (desk_of less step.event) (owed (before_orders s.dialogue u) u.call)) (sym same_turn);
+        fenced = λ f g. ap (λ (u : DialogueTurn). (before_orders s.dialogue u).unfenced) same_turn ∙ a.fenced f g;
       }
 
 -- a refused line asks for nothing

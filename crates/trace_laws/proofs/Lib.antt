@@ -24,3 +24,4 @@ pub mod Sans
 pub mod ReplyLines
 pub mod OrderLines
 pub mod OneLine
+pub mod Fences

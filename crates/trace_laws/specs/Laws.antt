@@ -8,6 +8,7 @@ use Rattle.trace_laws.specs.Dialogue.{SearchesServe, SearchesShowOnce, StopLineC
 use Rattle.trace_laws.specs.EarlyLines.{EarlyLinesWait, EarlyLinesComeInTime, RefusedEarlyLinesChangeNothing}
 use Rattle.trace_laws.specs.Existence.{EventsMayCome, TracesExist}
 use Rattle.trace_laws.specs.FirstAndLast.{UciIsFirst, QuitIsLast}
+use Rattle.trace_laws.specs.Fences.{SearchesAreFenced, StoppedSearchIsUnfenced}
 use Rattle.trace_laws.specs.Limits.{CoresAreWithinLimits}
 use Rattle.trace_laws.specs.Pings.{NoneIsHeld, PingsHavePongs, PongsWait}
 use Rattle.trace_laws.specs.Resigning.{GoneEngineOwesNothing, GamesEndAloud, ResignsOnce}
@@ -48,6 +49,10 @@ pub record HasLaws (o : Settings) : Type 0 where
   pub stops_once : StopLineComesOnce o
   pub searches_show_once : SearchesShowOnce o
   pub searches_serve : SearchesServe o
+  -- with FenceStops on a search begins only once the engine has answered an `isready` after the
+  -- last `stop`, and in an open one a `stop` is unfenced exactly if the search is stopped
+  pub searches_fenced : SearchesAreFenced o
+  pub stopped_unfenced : StoppedSearchIsUnfenced o
   -- each accepted ping has one pong, in order, or is held, and none is held unless a Move is owed
   pub pings_have_pongs : PingsHavePongs o
   pub pongs_wait : PongsWait o

@@ -10,3 +10,4 @@ pub mod Resigning
 pub mod EarlyLines
 pub mod Laws
 pub mod OneLine
+pub mod Fences

@@ -1,6 +1,7 @@
 // Searches of lawful traces.
 ghost use Rattle.trace_laws.specs.Dialogue.{SearchesServe, SearchesShowOnce, StopLineComesOnce};
 ghost use Rattle.trace_laws.specs.Dialogue.{TracesAreDialogues, TracesAreSteady};
+ghost use Rattle.trace_laws.specs.Fences.{SearchesAreFenced, StoppedSearchIsUnfenced};
 
 use policy_rules::Settings;
 
@@ -24,6 +25,15 @@ pub fn searches_serve(settings: Settings)
 pub fn searches_end_once(settings: Settings)
     ensures stops { StopLineComesOnce settings }
     ensures shown { SearchesShowOnce settings }
+{
+    let _ = settings;
+}
+
+/// A law: with FenceStops on, between a `stop` and the next `go` an `isready` was written after that `stop` and its
+/// `readyok` was read; and in an open search a `stop` is unfenced exactly if the search is stopped.
+pub fn searches_are_fenced(settings: Settings)
+    ensures fenced { SearchesAreFenced settings }
+    ensures stopped { StoppedSearchIsUnfenced settings }
 {
     let _ = settings;
 }

@@ -7,6 +7,7 @@ written and the engine's lines, and reports each of these faults by its line:
 - a move shown that does not stand beside the engine's answer, that answers no search of the present
   epoch, or that is not legal;
 - a search begun in another position than the game's;
+- with FenceStops, a search begun behind a `stop` without a `readyok` to an `isready` after it;
 - step numbers that are not 0, 1, 2 and so on.
 """
 import chess
@@ -30,6 +31,9 @@ class Oracle:
         self.searches = 0
         self.stops = 0
         self.stale = 0
+        self.fences = self.is_unfenced = False
+        # of each answer that closed a search, the number of its line among the engine's, and that search's
+        self.heard, self.closed = 0, []
 
     def walk(self, text):
         lines = text.decode().split("\n")
@@ -37,6 +41,7 @@ class Oracle:
             lines.pop()
         if not lines or not lines[0].startswith(("#2 ", "#3 ")):
             raise Fault("line 1: no header")
+        self.fences = " FenceStops=true" in lines[0]
         event, number = None, 0
         written = []
         for at, line in enumerate(lines[1:], 2):
@@ -96,12 +101,14 @@ class Oracle:
     def hear_engine(self, line):
         """The search that the line answers, if it does."""
         word = (line.split() or [""])[0]
+        self.heard += 1
         if word == "uciok" and self.state == "boot":
             self.state = "idle"
         elif word == "readyok" and self.state == "getting":
-            self.state = "idle"
+            self.state, self.is_unfenced = "idle", False
         elif word == "bestmove" and self.state == "search":
             search, self.search, self.state = self.search, None, "idle"
+            self.closed.append((self.heard - 1, self.searches))
             self.stale += search["epoch"] != self.epoch
             return search, line
         return None
@@ -130,7 +137,7 @@ class Oracle:
         elif word == "stop":
             if self.state != "search" or self.search["stopped"]:
                 raise Fault("`stop` where no search runs, or for the second time")
-            self.search["stopped"] = True
+            self.search["stopped"] = self.is_unfenced = True
             self.stops += 1
         elif word == "ponderhit":
             if self.state != "search" or self.search["kind"] != "ponder" or self.search["stopped"]:
@@ -152,6 +159,8 @@ class Oracle:
         kind = "ponder" if " ponder" in line else "analyse" if "infinite" in line else "move"
         if kind != "ponder" and self.ordered != self.positions[-1]:
             raise Fault("a search in another position than the game's")
+        if self.fences and self.is_unfenced:
+            raise Fault("a search behind a `stop` that is not fenced")
         self.search = {"kind": kind, "epoch": self.epoch, "stopped": False, "board": self.ordered}
         self.state = "search"
         self.searches += 1

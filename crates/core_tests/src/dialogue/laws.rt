@@ -4,11 +4,11 @@ use adapter_core::{
 };
 use policy_rules::Settings;
 use random_games::drills_are_one;
-use search_epochs::{open_search, served_call, whole_dialogue, whole_turn};
+use search_epochs::{fenced_searches, open_search, served_call, whole_dialogue, whole_turn};
 use trace_laws::{
     cores_within_limits, engine_on_wire, last_settings_stand, laws_hold, order_places,
-    pings_get_pongs, searches_end_once, searches_serve, traces_are_dialogues, traces_exist,
-    written_texts_are_lines,
+    pings_get_pongs, searches_are_fenced, searches_end_once, searches_serve, traces_are_dialogues,
+    traces_exist, written_texts_are_lines,
 };
 use trace_scripts::scripts_have_one_trace;
 
@@ -25,6 +25,7 @@ fn laws_can_be_called(_rt: HostRuntime) {
     traces_are_dialogues(settings);
     searches_serve(settings);
     searches_end_once(settings);
+    searches_are_fenced(settings);
     order_places(settings);
     last_settings_stand(settings);
     pings_get_pongs(settings);
@@ -36,5 +37,6 @@ fn laws_can_be_called(_rt: HostRuntime) {
     whole_dialogue();
     open_search();
     served_call();
+    fenced_searches();
     search_epochs::order_places();
 }

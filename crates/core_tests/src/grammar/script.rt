@@ -53,13 +53,17 @@ const LONGEST: Settings = Settings {
     handle_draws: false,
     show_san: false,
     strength_options: false,
+    fence_stops: true,
 };
 
 #[test]
 fn writes_the_longest_header(rt: HostRuntime) {
     let mut out = Out::make(rt.alloc(), HEADER_ROOM).expect(&rt, "memory");
     write_header(&LONGEST, &mut out);
-    expect(&rt, out.spare() == 0, "no room left");
+    let ends = out
+        .bytes()
+        .ends_with(b"StrengthOptions=false FenceStops=true");
+    expect(&rt, ends, "later settings last");
     expect(&rt, read_header(out.bytes()) == Some(LONGEST), "longest");
 }
 

@@ -3,7 +3,7 @@ use crate::expect::expect;
 use policy_rules::{Range, SETTINGS, Setting, Settings, Value, name_in, read_number};
 
 /// A name, and the text of its usual value.
-const ROWS: [(&str, &str); 9] = [
+const ROWS: [(&str, &str); 10] = [
     ("Resign", "false"),
     ("ResignMoves", "3"),
     ("ResignScore", "600"),
@@ -13,6 +13,7 @@ const ROWS: [(&str, &str); 9] = [
     ("HandleDraws", "true"),
     ("ShowSan", "false"),
     ("StrengthOptions", "false"),
+    ("FenceStops", "false"),
 ];
 
 /// True if a setting has this name and this usual value.

@@ -9,14 +9,14 @@ use Rattle.option_map.specs.Features.{reply_lines}
 use Rattle.search_epochs.specs.declared.words.EngineState.{EngineState}
 use Rattle.search_epochs.specs.declared.words.Orders.{Orders}
 use Rattle.search_epochs.specs.declared.words.Orders.TheVariants as chosen
-use Rattle.search_epochs.specs.Dialogue.{after_settled, is_hit_order}
+use Rattle.search_epochs.specs.Dialogue.{after_settled, is_hit_order, is_unfenced, settle}
 use Rattle.desk_rules.specs.Desk.{at, call_of_desk, is_gone}
 use Rattle.desk_rules.specs.Replies.{reply_row}
 use Rattle.desk_rules.specs.Steps.{effect_of, what_of, is_death}
 use Rattle.desk_rules.specs.Fits.{IsHintPlayable, ChosenOrdersCanBeWritten}
 use Rattle.adapter_core.proofs.Writes.{call_search, settled_writes}
 use Rattle.desk_rules.specs.Texts.{order_lines}
-use Rattle.adapter_core.specs.Parts.{step_orders, seen_call}
+use Rattle.adapter_core.specs.Parts.{is_step_unsent, step_orders, seen_call}
 use Rattle.adapter_core.proofs.SeenCalls.{seen_owes, seen_settles}
 use Rattle.adapter_core.proofs.Resigns.{went_on}
 use Rattle.adapter_core.proofs.session.CoreParts.go_on.Goals as goal
@@ -30,9 +30,13 @@ put_orders-requires-clause-search c =
     let v = c.args.self.now.dialogue in
     let call = call_of_desk c.after-self.result.closed c.if-is_gone.stage d in
     let rests = c.is_open.result || c.after-self.result.closed in
-    let written = settled_writes d.game v call rests c.is_unsent-unsent.result (played_of w) (is_move_now w) (call_search _ _ d hint) in
+    let waits = is_step_unsent c.args.self.now.held (effect_of c.args.event_effect.now.effect) in
+    let fences = c.args.context.settings.fence_stops in
+    let written = settled_writes d.game v call rests (waits || (fences && is_unfenced v call)) (played_of w) (is_move_now w) (call_search _ _ d hint) in
     let search_info = c.seen_call-call.ensures ∙ ap (λ (e : EngineState). seen_call e call) c.state.ensures.value in
-    let settles = seen_settles v c.seen_call-call.result call c.is_unsent-unsent.result (played_of w) (is_move_now w) search_info in
+    let settles =
+    ap (λ (b : Bool). settle v c.seen_call-call.result b (played_of w) (is_move_now w)) c.is_unsent-unsent.ensures
+    ∙ seen_settles v c.seen_call-call.result call waits fences (played_of w) (is_move_now w) search_info in
     let writes : ChosenOrdersCanBeWritten d.game c.choose-orders.result = subst (ChosenOrdersCanBeWritten d.game) (sym (c.choose-orders.ensures.orders ∙ ap (cond rests chosen.None) settles)) written in
     subst (λ (g : Game). ChosenOrdersCanBeWritten g c.choose-orders.result) (sym (ap (λ (x : Desk). x.game) c.finish.ensures.desk ∙ ap (λ (x : Desk). x.game) c.resign_when_gone.ensures.desk)) writes
 
@@ -66,13 +70,17 @@ returns-clause-after c =
     let call = call_of_desk c.after-self.result.closed c.if-is_gone.stage c.commit.new.self in
     let rests = c.is_open.result || c.after-self.result.closed in
     let search_info = c.seen_call-call.ensures ∙ ap (λ (e : EngineState). seen_call e call) c.state.ensures.value in
-    let settles = seen_settles v c.seen_call-call.result call c.is_unsent-unsent.result (played_of w) (is_move_now w) search_info in
-    went_on c.args.context c.args.self.now (effect_of c.args.event_effect.now.effect) (event_of c.args.event.now) c.after-self.result c.is_open.result c.if-is_gone.stage c.args.event_effect.now.begins_epoch c.is_move-owes.result c.is_unsent-unsent.result
+    let waits = is_step_unsent c.args.self.now.held (effect_of c.args.event_effect.now.effect) in
+    let fences = c.args.context.settings.fence_stops in
+    let settles =
+    ap (λ (b : Bool). settle v c.seen_call-call.result b (played_of w) (is_move_now w)) c.is_unsent-unsent.ensures
+    ∙ seen_settles v c.seen_call-call.result call waits fences (played_of w) (is_move_now w) search_info in
+    went_on c.args.context c.args.self.now (effect_of c.args.event_effect.now.effect) (event_of c.args.event.now) c.after-self.result c.is_open.result c.if-is_gone.stage c.args.event_effect.now.begins_epoch c.is_move-owes.result (waits || (fences && is_unfenced v call))
     c.if-event_effect.clears c.count.new.scores c.commit.new.self c.resign_when_gone.new.self c.finish.new.self call c.choose-orders.new.dialogue c.choose-orders.result c.commit.new.out c.resign_when_gone.new.out
     c.finish.new.out c.put_orders.new.out c.release.new.held
     c.is_open.ensures c.after-self.ensures (gone_is c) c.requires.epoch c.count.ensures c.commit.ensures.desk
     (c.commit.ensures.lines ∙ ap (λ (t : Text). with t (reply_lines (cond c.after-self.result.closed [] (reply_row (at c.args.context c.args.self.now.desk) (effect_of c.args.event_effect.now.effect))))) c.requires.to_iface)
-    refl (c.is_move-owes.ensures ∙ ap is_move c.owed.ensures.value ∙ seen_owes v c.seen_call-call.result call search_info) c.is_unsent-unsent.ensures
+    refl (c.is_move-owes.ensures ∙ ap is_move c.owed.ensures.value ∙ seen_owes v c.seen_call-call.result call search_info) refl
     (c.choose-orders.ensures.orders ∙ ap (cond rests chosen.None) settles) (c.choose-orders.ensures.after ∙ ap (λ (o : Orders). after_settled v (cond rests chosen.None o)) settles) (clears_is c) c.resign_when_gone.ensures.lines c.resign_when_gone.ensures.desk
     c.finish.ensures.lines c.finish.ensures.desk
     (c.put_orders.ensures.orders ∙ ap (λ (t : Text). with t (order_lines (step_orders c.args.context.settings c.is_open.result c.args.self.now.ends.closed c.after-self.result.closed c.if-is_gone.stage c.args.self.now.held c.finish.new.self c.choose-orders.result))) (c.requires.to_engine ∙ ap empty (sym (ap (λ (t : Text). t.room) c.requires.to_engine))))

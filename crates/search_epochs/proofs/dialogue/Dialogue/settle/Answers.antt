@@ -12,3 +12,4 @@ returns-clause-tickets c = λ t hint waiting h a.
     (c.after-self-inside.ensures ∙ ap (λ (v : Dialogue). settled_state v.state c.choose-orders.result) c.self.view_is)
     (ap (λ (v : Dialogue). v.spent) c.self.view_is)
     c.pondered_after-self-inside.ensures
+    c.unfenced_after-unfenced.ensures
