@@ -12,7 +12,7 @@ use Rattle.adapter_core.specs.Ends.{may, ends_after}
 use Rattle.adapter_core.specs.Trace.{Step, LawfulTrace, state, iface_text, engine_text}
 use Rattle.adapter_core.proofs.Ended.{silent_to_iface, silent_to_engine}
 use Rattle.adapter_core.proofs.Closing.{opened_later}
-use Rattle.event_pipe.specs.Rule.{of, has_last_event, EventMayFollow}
+use Rattle.event_pipe.specs.Events.{of, has_last_event, EventMayFollow}
 use Rattle.event_pipe.proofs.Roles.{more_ended}
 use Rattle.bridge_runner.specs.Texts.{is_own_step, events_of_steps}
 

@@ -14,7 +14,7 @@ use Rattle.adapter_core.specs.Parts.{CoreParts}
 use Rattle.adapter_core.specs.Represents.{Represents}
 use Rattle.event_pipe.specs.declared.message.Peer.{Peer}
 use Rattle.event_pipe.specs.declared.message.Peer.TheVariants as peers
-use Rattle.event_pipe.specs.Rule.{EventMayFollow}
+use Rattle.event_pipe.specs.Events.{EventMayFollow}
 use Rattle.bridge_runner.specs.Texts as texts
 use Rattle.bridge_runner.proofs.Facts.{opened, open_iface, open_engine, iface_is, engine_is, may_follow}
 use Rattle.event_loop.specs.Turns.{Turn, new_turn, events_of_turns, is_own_event, loss, is_loss, turns_have_loss, stands_between, TurnGave, log_of_turn}

@@ -9,7 +9,7 @@ use Rattle.trace_scripts.specs.Script.{script2}
 use Rattle.event_pipe.specs.declared.message.Peer.{Peer}
 use Rattle.event_pipe.specs.declared.message.Peer.TheVariants as peers
 use Rattle.event_pipe.specs.declared.reader.ReadEnd.TheVariants as read_ends
-use Rattle.event_pipe.specs.Rule.{sent_by}
+use Rattle.event_pipe.specs.Events.{sent_by}
 use Rattle.child_engine.specs.Hosts.{Ledger, HostIsUnused}
 use Rattle.child_engine.specs.declared.host.Faults.{Faults}
 use Rattle.program_lifecycle.specs.declared.failures.Failures.{Failures}

@@ -9,7 +9,7 @@ use Rattle.trace_scripts.specs.Script.{script2}
 use Rattle.event_pipe.specs.declared.message.Peer.{Peer}
 use Rattle.event_pipe.specs.declared.message.Peer.TheVariants as peers
 use Rattle.event_pipe.specs.declared.reader.ReadEnd.TheVariants as read_ends
-use Rattle.event_pipe.specs.Rule.{sent_by}
+use Rattle.event_pipe.specs.Events.{sent_by}
 use Rattle.event_pipe.specs.Arrivals.{arrivals, line_limit}
 use Rattle.child_engine.specs.Hosts.{Ledger}
 use Rattle.program_lifecycle.specs.declared.failures.Failures.{Failures}

@@ -1,6 +1,6 @@
 // The output to the log and to both sides if the engine is lost.
 ghost use Rattle.std.specs.Prelude.{◌≡◌, ◌≤◌, []};
-ghost use Rattle.event_pipe.specs.Ends.{IsSender, IsFreshReceiver, events_sent};
+ghost use Rattle.event_pipe.specs.Ends.{IsSender, IsFreshReceiver, messages_sent};
 ghost use Rattle.event_loop.specs.declared.mediator.TheConstants.{TURN_ROOM};
 
 use crate::expected::expect_bytes;
@@ -48,7 +48,7 @@ fn make_sinks(rt: &impl Abort, alloc: Global) -> Sinks {
 // Puts these lines into the channel.
 fn read_lines<R: Wait + Abort>(rt: &R, alloc: Global, lines: &[u8], to: &mut PipeSend)
     requires sender { IsSender to.old }
-    requires fresh { events_sent to.old ≡ [] }
+    requires fresh { messages_sent to.old ≡ [] }
 {
     let mut source = MemSource::make(alloc, lines, 7, &[]).expect(rt, "memory for the lines");
     let _end = read_pipe(rt, alloc, &mut source, to);

@@ -4,7 +4,7 @@ use Rattle.line_io.specs.Event.{Event, Open, IfaceLost, EngineLost}
 use Rattle.line_io.specs.Out.{Text, with}
 use Rattle.event_pipe.specs.declared.message.Peer.{Peer}
 use Rattle.event_pipe.specs.declared.message.Peer.TheVariants as peers
-use Rattle.event_pipe.specs.Rule.{of, has_last_event}
+use Rattle.event_pipe.specs.Events.{of, has_last_event}
 use Rattle.event_pipe.proofs.Roles.{more_ended}
 use Rattle.cecp_driver.specs.declared.driver.DriverParts.{DriverParts}
 use Rattle.cecp_driver.specs.Driver.{opening_driver}

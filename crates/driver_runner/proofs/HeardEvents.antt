@@ -6,7 +6,7 @@ use Rattle.std.proofs.lemmas.Bool.{and_parts, not-true}
 use Rattle.chess_board.specs.declared.board.Move.{Move}
 use Rattle.line_io.specs.Event.{Event, Open, Iface, IfaceEnd, IfaceLost, Engine, EngineEnd, EngineLost, is_line, has_feed}
 use Rattle.event_pipe.specs.Message.{is_good}
-use Rattle.event_pipe.specs.Rule.{of, has_last_event, EventMayFollow}
+use Rattle.event_pipe.specs.Events.{of, has_last_event, EventMayFollow}
 use Rattle.driver_state_machine.specs.declared.driver_state.DriverStage.{DriverStage}
 use Rattle.driver_state_machine.specs.declared.driver_state.DriverStage.TheVariants as stages
 use Rattle.driver_state_machine.specs.declared.driver_state.DriverCall.{DriverCall}

@@ -5,7 +5,7 @@ use Rattle.line_io.specs.Event.{Event}
 use Rattle.event_pipe.specs.declared.message.Peer.{Peer}
 use Rattle.event_pipe.specs.declared.message.Peer.TheVariants as peers
 use Rattle.event_pipe.specs.Message.{role_of}
-use Rattle.event_pipe.specs.Rule.{is_of_role, sent_by}
+use Rattle.event_pipe.specs.Events.{is_of_role, sent_by}
 use Rattle.cecp_driver.specs.Script.{script_text, driver_lines_up, lines_down}
 use Rattle.child_engine.specs.Hosts.{Ledger, HostIsUnused}
 use Rattle.child_engine.specs.declared.host.Faults.{Faults}

@@ -3,7 +3,7 @@ use Rattle.std.proofs.Common.{◌≡◌, ◌∙◌, ℕ, Bool, true, false, refl
 use Rattle.line_io.specs.Event.{Event, Open, Iface, IfaceLong, IfaceEnd, IfaceLost, Engine, EngineLong, EngineEnd, EngineLost}
 use Rattle.event_pipe.specs.Message.{is_last_event}
 use Rattle.event_pipe.specs.declared.message.Peer.TheVariants as peers
-use Rattle.event_pipe.specs.Rule.{sent_by, has_last_event}
+use Rattle.event_pipe.specs.Events.{sent_by, has_last_event}
 use Rattle.cecp_driver.specs.declared.driver.DriverParts.{DriverParts}
 use Rattle.cecp_driver.specs.Script.{DriverTakesAll, script_text}
 use Rattle.program_lifecycle.proofs.Logs.{one_log, none_longer}

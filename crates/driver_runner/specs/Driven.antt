@@ -1,7 +1,7 @@
 -- The result of a run of the driver.
 use Rattle.std.specs.Prelude.{◌≡◌, ◌<◌, true, [], IfSome}
 use Rattle.event_pipe.specs.declared.message.Peer.TheVariants as peers
-use Rattle.event_pipe.specs.Rule.{sent_by}
+use Rattle.event_pipe.specs.Events.{sent_by}
 use Rattle.program_lifecycle.specs.declared.failures.Failures.{Failures}
 use Rattle.program_lifecycle.specs.Early.{no_failure}
 use Rattle.program_lifecycle.specs.Outside.{Outside, AreReported, HostIsClosed}

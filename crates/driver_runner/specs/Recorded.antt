@@ -8,7 +8,7 @@ use Rattle.event_pipe.specs.declared.message.Peer.{Peer}
 use Rattle.event_pipe.specs.declared.message.Peer.TheVariants as peers
 use Rattle.event_pipe.specs.declared.reader.ReadEnd.{ReadEnd}
 use Rattle.event_pipe.specs.declared.reader.ReadEnd.TheVariants as read_ends
-use Rattle.event_pipe.specs.Rule.{sent_by}
+use Rattle.event_pipe.specs.Events.{sent_by}
 use Rattle.event_pipe.specs.Arrivals.{Arrived, arrivals, line_limit}
 use Rattle.cecp_driver.specs.declared.driver.DriverParts.{DriverParts}
 use Rattle.cecp_driver.specs.Driver.{opening_driver}

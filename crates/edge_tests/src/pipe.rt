@@ -1,6 +1,6 @@
 // Lines on their way through the channel.
 ghost use Rattle.std.specs.Prelude.{◌≡◌, []};
-ghost use Rattle.event_pipe.specs.Ends.{IsSender, IsReceiver, KeepsSender, KeepsReceiver, events_sent};
+ghost use Rattle.event_pipe.specs.Ends.{IsSender, IsReceiver, KeepsSender, KeepsReceiver, messages_sent};
 
 use crate::expected::{expect, source_of};
 use event_pipe::{Pipe, PipeSend, PipeTake, ReadEnd, read_pipe};
@@ -85,7 +85,7 @@ const ROWS: [Row; 3] = [
 /// Sends the lines that a side gives.
 fn send(rt: &(impl Abort + Wait), alloc: Global, given: &Given, to: &mut PipeSend)
     requires sender { IsSender to.old }
-    requires fresh { events_sent to.old ≡ [] }
+    requires fresh { messages_sent to.old ≡ [] }
     ensures { KeepsSender to.old to.new }
 {
     let letters = (b'a', given.letters);

@@ -5,9 +5,10 @@ use Rattle.line_io.specs.Source.{Supplied}
 use Rattle.line_io.specs.Lines.{Piece, Whole, TooLong, items}
 use Rattle.event_pipe.specs.declared.message.Peer.TheVariants as peers
 use Rattle.event_pipe.specs.declared.reader.ReadEnd.{ReadEnd}
-use Rattle.event_pipe.specs.Rule.{of, has_last_event, sent_by}
+use Rattle.event_pipe.specs.Events.{of, has_last_event, sent_by}
 use Rattle.event_pipe.specs.Arrivals.{Arrived, piece_events, line_limit}
 use Rattle.event_pipe.specs.Message.{is_last_event}
+use Rattle.event_pipe.specs.Message.{event_meaning}
 use Rattle.event_pipe.proofs.Keeps.{of-append}
 use Rattle.event_pipe.proofs.Reading.{any_append}
 use Rattle.event_loop.specs.First.{first_events, AreOpening, ArrivedBehind}
@@ -24,10 +25,10 @@ all_of_iface (TooLong ∷ ps) = ap (λ (es : List Event). piece_events peers.Ifa
 
 -- the engine's events are those that came later
 pub by_engine : (first : List ℕ) (later : List Event) → sent_by peers.Engine (first_events first ++ later) ≡ sent_by peers.Engine later
-by_engine first later = of-append 2 (first_events first) later ∙ ap (λ (es : List Event). es ++ of 2 later) (none_of_engine (items line_limit first))
+by_engine first later = of-append event_meaning 2 (first_events first) later ∙ ap (λ (es : List Event). es ++ of 2 later) (none_of_engine (items line_limit first))
 
 pub by_iface : (first : List ℕ) (later : List Event) → sent_by peers.Iface (first_events first ++ later) ≡ first_events first ++ sent_by peers.Iface later
-by_iface first later = of-append 1 (first_events first) later ∙ ap (λ (es : List Event). es ++ of 1 later) (all_of_iface (items line_limit first))
+by_iface first later = of-append event_meaning 1 (first_events first) later ∙ ap (λ (es : List Event). es ++ of 1 later) (all_of_iface (items line_limit first))
 
 second_true : (a b : Bool) → a ≡ false → (a || b) ≡ true → b ≡ true
 second_true true b h e = cc

@@ -7,7 +7,7 @@ use Rattle.line_io.specs.Lines.{Piece, parts_by_feed, is_feed, items, piece_of}
 use Rattle.line_io.proofs.Parts.{parts_first}
 use Rattle.event_pipe.specs.declared.message.Peer.TheVariants as peers
 use Rattle.event_pipe.specs.Message.{is_last_event}
-use Rattle.event_pipe.specs.Rule.{has_last_event}
+use Rattle.event_pipe.specs.Events.{has_last_event}
 use Rattle.event_pipe.specs.Arrivals.{arrivals, piece_event, piece_events, line_limit}
 use Rattle.event_loop.specs.First.{first_events, FirstLinesJoin}
 use Rattle.event_loop.proofs.Loops.{or_parts}

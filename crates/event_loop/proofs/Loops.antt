@@ -13,7 +13,7 @@ use Rattle.protocol_tokens.specs.Quit.{is_quit}
 use Rattle.event_pipe.specs.declared.message.Peer.{Peer}
 use Rattle.event_pipe.specs.declared.message.Peer.TheVariants as peers
 use Rattle.event_pipe.specs.Message.{role_of_event, is_last_event}
-use Rattle.event_pipe.specs.Rule.{is_of_role, of, has_last_event, EventMayFollow}
+use Rattle.event_pipe.specs.Events.{is_of_role, of, has_last_event, EventMayFollow}
 use Rattle.event_pipe.proofs.Roles.{more_ended}
 use Rattle.program_lifecycle.specs.declared.offering.LoopEnd.{LoopEnd}
 use Rattle.program_lifecycle.specs.Streams.{Sinks, TookPrefix, Offered}

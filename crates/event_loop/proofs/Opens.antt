@@ -7,10 +7,10 @@ use Rattle.line_io.specs.Out.{Text}
 use Rattle.line_io.specs.Lines.{Piece, Whole, TooLong, is_feed, feed_at, piece_of}
 use Rattle.line_io.proofs.Parts.{items_first}
 use Rattle.event_pipe.specs.declared.message.Peer.TheVariants as peers
-use Rattle.event_pipe.specs.Ends.{KeepsReceiver, events_taken}
+use Rattle.event_pipe.specs.Ends.{KeepsReceiver, messages_taken}
 use Rattle.event_pipe.specs.declared.pipe.PipeTake.{PipeTake}
 use Rattle.event_pipe.specs.Message.{role_of_event, is_last_event, is_good}
-use Rattle.event_pipe.specs.Rule.{is_of_role, of, has_last_event, EventMayFollow}
+use Rattle.event_pipe.specs.Events.{is_of_role, of, has_last_event, EventMayFollow}
 use Rattle.event_pipe.specs.Arrivals.{piece_event, piece_events, line_limit}
 use Rattle.event_pipe.proofs.Reading.{any_append}
 use Rattle.event_pipe.proofs.Roles.{more_ended}
@@ -91,12 +91,12 @@ opened_first means m0 m first taken held held' b a to t e o f =
     }
 
 -- the receiving end was left as it was
-pub kept_by : (t0 t t' : PipeTake) → t' ≡ t → KeepsReceiver t0 t → KeepsReceiver t0 t'
-kept_by t0 t t' e k = subst (λ (x : PipeTake). KeepsReceiver t0 x) (sym e) k
+pub kept_by : (t0 t t' : PipeTake Event) → t' ≡ t → KeepsReceiver t0 t → KeepsReceiver t0 t'
+kept_by t0 t t' e k = subst (λ (x : PipeTake Event). KeepsReceiver t0 x) (sym e) k
 
-pub none_taken : {M : Type 0} (means : MediatorMeaning M) (m0 m : M) (first rest : List ℕ) (t t' : PipeTake) (sides : Sides) (b a : Sinks) (at : LoopEnd) → t' ≡ t → Opened means m0 m first rest (events_taken t) sides b a at
-    → Opened means m0 m first rest (events_taken t') sides b a at
-none_taken means m0 m first rest t t' sides b a at e x = subst (λ (y : PipeTake). Opened means m0 m first rest (events_taken y) sides b a at) (sym e) x
+pub none_taken : {M : Type 0} (means : MediatorMeaning M) (m0 m : M) (first rest : List ℕ) (t t' : PipeTake Event) (sides : Sides) (b a : Sinks) (at : LoopEnd) → t' ≡ t → Opened means m0 m first rest (messages_taken t) sides b a at
+    → Opened means m0 m first rest (messages_taken t') sides b a at
+none_taken means m0 m first rest t t' sides b a at e x = subst (λ (y : PipeTake Event). Opened means m0 m first rest (messages_taken y) sides b a at) (sym e) x
 
 module _ {M : Type 0} (means : MediatorMeaning M) (m0 m : M) (first rest : List ℕ) (taken : List Event) (sides : Sides) (b s : Sinks) (at : LoopEnd) (x : Opened means m0 m first rest taken sides b s at) where
   pub still : (m' : M) (a : Sinks) (to : LoopEnd) → MediatorReached means m0 m' x.events sides b a to → Opened means m0 m' first rest taken sides b a to

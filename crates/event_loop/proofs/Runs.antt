@@ -2,7 +2,7 @@
 use Rattle.std.proofs.Common.{◌≡◌, ℕ, List, ◌++◌, subst}
 use Rattle.line_io.specs.Event.{Event}
 use Rattle.event_pipe.specs.declared.message.Peer.TheVariants as peers
-use Rattle.event_pipe.specs.Ends.{CameFromPeer}
+use Rattle.event_pipe.specs.Events.{CameFromPeer}
 use Rattle.event_pipe.specs.Arrivals.{Arrived}
 use Rattle.event_pipe.proofs.Roles.{all_came}
 use Rattle.program_lifecycle.specs.Streams.{RunStreams}

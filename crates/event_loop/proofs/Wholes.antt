@@ -7,7 +7,7 @@ use Rattle.line_io.specs.Lines.{items}
 use Rattle.event_pipe.specs.declared.message.Peer.TheVariants as peers
 use Rattle.event_pipe.specs.declared.reader.ReadEnd.{ReadEnd}
 use Rattle.event_pipe.specs.declared.reader.ReadEnd.TheVariants as read_ends
-use Rattle.event_pipe.specs.Rule.{sent_by}
+use Rattle.event_pipe.specs.Events.{sent_by}
 use Rattle.event_pipe.specs.Arrivals.{Arrived, arrivals, line_limit}
 use Rattle.program_lifecycle.specs.Took.{LogTook}
 use Rattle.child_engine.specs.Hosts.{Ledger, HostIsUnused, ShownRun, fresh_source, fresh_sink, shown_run}

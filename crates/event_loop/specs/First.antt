@@ -6,7 +6,7 @@ use Rattle.line_io.specs.Lines.{items, line_feed}
 use Rattle.event_pipe.specs.declared.message.Peer.{Peer}
 use Rattle.event_pipe.specs.declared.message.Peer.TheVariants as peers
 use Rattle.event_pipe.specs.declared.reader.ReadEnd.{ReadEnd}
-use Rattle.event_pipe.specs.Rule.{has_last_event}
+use Rattle.event_pipe.specs.Events.{has_last_event}
 use Rattle.event_pipe.specs.Arrivals.{Arrived, arrivals, piece_events, line_limit}
 
 -- these lines, as events

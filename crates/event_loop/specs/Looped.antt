@@ -5,7 +5,7 @@ use Rattle.line_io.specs.Event.{Event, Open}
 use Rattle.line_io.specs.Source.{Received}
 use Rattle.event_pipe.specs.declared.message.Peer.{Peer}
 use Rattle.event_pipe.specs.declared.message.Peer.TheVariants as peers
-use Rattle.event_pipe.specs.Rule.{sent_by, has_last_event}
+use Rattle.event_pipe.specs.Events.{sent_by, has_last_event}
 use Rattle.program_lifecycle.specs.declared.offering.LoopEnd.{LoopEnd}
 use Rattle.program_lifecycle.specs.Streams.{Sinks}
 use Rattle.program_lifecycle.specs.Took.{LogTook}

@@ -4,7 +4,7 @@ use Rattle.line_io.specs.Event.{Event, Open}
 use Rattle.line_io.specs.Out.{Text, with}
 use Rattle.event_pipe.specs.declared.message.Peer.{Peer}
 use Rattle.event_pipe.specs.declared.message.Peer.TheVariants as peers
-use Rattle.event_pipe.specs.Rule.{EventMayFollow}
+use Rattle.event_pipe.specs.Events.{EventMayFollow}
 use Rattle.event_loop.specs.Turns.{Turn, new_turn, events_of_turns, loss, turns_have_loss, TurnGave}
 
 -- The behaviour of a mediator.

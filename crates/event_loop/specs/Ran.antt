@@ -2,7 +2,7 @@
 use Rattle.std.specs.Prelude.{◌≤◌, ℕ, List, ◌++◌}
 use Rattle.line_io.specs.Event.{Event}
 use Rattle.event_pipe.specs.declared.message.Peer.TheVariants as peers
-use Rattle.event_pipe.specs.Rule.{sent_by}
+use Rattle.event_pipe.specs.Events.{sent_by}
 use Rattle.event_pipe.specs.Ends.{IsFreshSender, IsFreshReceiver, KeepsSender, KeepsReceiver, AreOne}
 use Rattle.event_pipe.specs.Arrivals.{Arrived}
 use Rattle.program_lifecycle.specs.Streams.{RunStreams}

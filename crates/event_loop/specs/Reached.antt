@@ -6,7 +6,7 @@ use Rattle.line_io.specs.Source.{Received}
 use Rattle.protocol_tokens.specs.Quit.{is_quit}
 use Rattle.event_pipe.specs.declared.message.Peer.{Peer}
 use Rattle.event_pipe.specs.declared.message.Peer.TheVariants as peers
-use Rattle.event_pipe.specs.Rule.{sent_by, has_last_event}
+use Rattle.event_pipe.specs.Events.{sent_by, has_last_event}
 use Rattle.program_lifecycle.specs.declared.offering.LoopEnd.{LoopEnd}
 use Rattle.program_lifecycle.specs.Streams.{Sinks, Offered}
 use Rattle.program_lifecycle.specs.Took.{LogTook}

@@ -3,7 +3,7 @@ ghost use Rattle.std.specs.Prelude.{◌≡◌, ◌≤◌, ◌&&◌, ◌++◌, tr
 ghost use Rattle.line_io.specs.Event.{event_of};
 ghost use Rattle.line_io.specs.Lines.{piece_of};
 ghost use Rattle.event_pipe.specs.Arrivals.{line_limit, piece_event};
-ghost use Rattle.event_pipe.specs.Ends.{IsFreshReceiver, KeepsReceiver, events_taken};
+ghost use Rattle.event_pipe.specs.Ends.{IsFreshReceiver, KeepsReceiver, messages_taken};
 ghost use Rattle.event_pipe.specs.Message.{is_good};
 ghost use Rattle.event_pipe.specs.declared.message.Peer.TheVariants as peers;
 ghost use Rattle.program_lifecycle.specs.Streams.{sinks_of};
@@ -169,7 +169,7 @@ pub fn mediate<M: Mediator, O: Sink, E: Sink, L: Sink, R: Wait>(
     ensures receiving_end { KeepsReceiver turns.old.receiving_end turns.new.receiving_end }
     ensures kept { is_some log.new ≡ is_some log.old }
     ensures looped { Looped M.means turns.old.mediator turns.new.mediator
-        (first_events first.now ++ events_taken turns.new.receiving_end)
+        (first_events first.now ++ messages_taken turns.new.receiving_end)
         (sinks_of O.state E.state L.state output.old engine.old log.old)
         (sinks_of O.state E.state L.state output.new engine.new log.new)
         result }

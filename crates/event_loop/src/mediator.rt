@@ -9,7 +9,7 @@ use event_pipe::Peer;
 use line_io::{Event, Out, SCRIPT_LINE};
 
 /// Room for what is put into the log for a turn, the first among them.
-pub const TURN_ROOM: usize = 16 * SCRIPT_LINE + 256;
+pub const TURN_ROOM: usize = 16 * SCRIPT_LINE + 1_024;
 
 /// The mediator between two peers: it takes one event of them at a time, and gives lines to both.
 pub trait Mediator {

@@ -1,7 +1,7 @@
 // Two readers beside the loop.
 ghost use Rattle.std.specs.Prelude.{◌≡◌, ◌≤◌, ◌++◌, is_some};
 ghost use Rattle.event_pipe.specs.Arrivals.{Arrived};
-ghost use Rattle.event_pipe.specs.Ends.{IsFreshSender, IsFreshReceiver, events_sent, events_taken};
+ghost use Rattle.event_pipe.specs.Ends.{IsFreshSender, IsFreshReceiver, messages_sent, messages_taken};
 ghost use Rattle.event_pipe.specs.declared.message.Peer.TheVariants as peers;
 ghost use Rattle.program_lifecycle.specs.Streams.{sinks_of, streams_of};
 ghost use Rattle.event_loop.specs.First.{AreOpening, first_events};
@@ -53,12 +53,12 @@ fn run_beside<
     requires first { AreOpening first.now }
     ensures channel { KeepsChannel parts.old parts.new }
     ensures iface { Arrived peers.Iface (I.state interface.old.input) (I.state interface.new.input)
-        (events_sent parts.new.iface) result.iface }
+        (messages_sent parts.new.iface) result.iface }
     ensures engine { Arrived peers.Engine (S.state handed.old.source)
-        (S.state handed.new.source) (events_sent parts.new.engine) result.engine }
+        (S.state handed.new.source) (messages_sent parts.new.engine) result.engine }
     ensures kept { is_some handed.new.log ≡ is_some handed.old.log }
     ensures looped { Looped M.means parts.old.turns.mediator parts.new.turns.mediator
-        (first_events first.now ++ events_taken parts.new.turns.receiving_end)
+        (first_events first.now ++ messages_taken parts.new.turns.receiving_end)
         (sinks_of O.state E.state L.state interface.old.output handed.old.engine handed.old.log)
         (sinks_of O.state E.state L.state interface.new.output handed.new.engine handed.new.log)
         result.done }

@@ -27,7 +27,7 @@ use Rattle.event_pipe.specs.declared.reader.ReaderTurn.TheVariants as turns
 use Rattle.event_pipe.specs.declared.reader.ReadEnd.TheVariants as read_ends
 use Rattle.event_pipe.specs.Counts.{CountsFault}
 use Rattle.event_pipe.specs.Message.{sent_event, is_last_event, is_good}
-use Rattle.event_pipe.specs.Rule.{has_last_event}
+use Rattle.event_pipe.specs.Events.{has_last_event}
 use Rattle.event_pipe.specs.Arrivals.{piece_event, piece_events, last_event, arrivals, is_end_without_line, has_close_event, LastRead, ReaderTurnDone, LinesSentSoFar, Arrived}
 
 or_assoc : (a b c : Bool) → (a || (b || c)) ≡ ((a || b) || c)

@@ -18,7 +18,7 @@ use Rattle.event_pipe.specs.declared.reader.ReadEnd.{ReadEnd}
 use Rattle.event_pipe.specs.declared.reader.ReadEnd.TheVariants as read_ends
 use Rattle.event_pipe.specs.Counts.{CountsFault}
 use Rattle.event_pipe.specs.Message.{sent_event, is_last_event}
-use Rattle.event_pipe.specs.Rule.{has_last_event}
+use Rattle.event_pipe.specs.Events.{has_last_event}
 use Rattle.line_io.specs.declared.limits.TheConstants.{PEER_LINE}
 
 -- the longest line of a peer that is no long one

@@ -1,8 +1,9 @@
 -- The meaning of a message.
-use Rattle.std.specs.Prelude.{ℕ, Bool, true, false}
+use Rattle.std.specs.Prelude.{◌≡◌, ℕ, Bool, true, false, refl}
 use Rattle.line_io.specs.Event.{Event, Iface, IfaceLong, IfaceEnd}
 use Rattle.line_io.specs.Event.{Engine, EngineLong, EngineEnd, is_line}
 use Rattle.protocol_tokens.specs.Quit.{is_quit}
+use Rattle.event_pipe.specs.Meaning.{MessageMeaning}
 use Rattle.event_pipe.specs.declared.message.Peer.{Peer}
 use Rattle.event_pipe.specs.declared.message.Peer.TheVariants as peers
 use Rattle.event_pipe.specs.declared.message.MessageBody.{MessageBody}
@@ -42,3 +43,17 @@ abbrev pub is_good : Event → Bool
 is_good (Iface line) = is_line line
 is_good (Engine line) = is_line line
 is_good e = true
+
+-- the channel's view of an event
+abbrev pub event_meaning : MessageMeaning Event
+event_meaning = record { role = role_of_event; is_last = is_last_event; is_good = is_good }
+
+-- the channel sees a message as the event for which it stands
+pub record StandsForEvents {M : Type 0} (means : MessageMeaning M) (event : M → Event) : Type 0 where
+  pub role : (m : M) → means.role m ≡ role_of_event (event m)
+  pub is_last : (m : M) → means.is_last m ≡ is_last_event (event m)
+  pub is_good : (m : M) → means.is_good m ≡ is_good (event m)
+
+-- an event stands for itself
+pub events_stand : StandsForEvents event_meaning (λ e. e)
+events_stand = record { role = λ e. refl; is_last = λ e. refl; is_good = λ e. refl }

@@ -2,12 +2,12 @@
 ghost use Rattle.std.specs.Prelude.{◌≡◌, ℕ, [], ◌++◌, ◌∷◌, true, false, IfOk};
 ghost use Rattle.crossbeam_channel.specs.Claims.{view};
 ghost use Rattle.crossbeam_channel.specs.Ends.{sends_on, receives_on};
-ghost use Rattle.event_pipe.specs.Message.{role_of, sent_event, is_good};
-ghost use Rattle.event_pipe.specs.Rule.{SendAdds, Gets, has_last_event, EventMayFollow};
-ghost use Rattle.event_pipe.specs.Ends.{IsSender, IsReceiver, IsFreshSender, IsFreshReceiver, KeepsSender, KeepsReceiver, AreOne, AreWithinRoom, CameFromPeer, events_sent, events_taken};
+ghost use Rattle.event_pipe.specs.Message.{role_of};
+ghost use Rattle.event_pipe.specs.Rule.{SendAdds, Gets, has_last, MayFollow};
+ghost use Rattle.event_pipe.specs.Ends.{IsSender, IsReceiver, IsFreshSender, IsFreshReceiver, KeepsSender, KeepsReceiver, AreOne, AreWithinRoom, CameFrom, messages_sent, messages_taken};
 ghost use Rattle.event_pipe.specs.declared.message.Peer.TheVariants as peers;
 
-use crate::{MessageBody, Peer, Sent};
+use crate::{Message, Peer, Sent};
 use crossbeam_channel::protocol::{Join, Lesson, Outcome, Protocol, Split};
 use crossbeam_channel::{Pass, RuledReceiver, RuledSender, bounded_with};
 use line_io::NoMemory;
@@ -18,15 +18,15 @@ use std::sync::atomic::AtomicU64;
 use std::thread;
 use std::time::Duration;
 
-/// So many events fit into the channel. A sender that finds it full waits.
+/// So many messages fit into the channel. A sender that finds it full waits.
 pub const CHANNEL_ROOM: usize = 64;
 
 // So many microseconds a sender rests when it finds the channel full, and so lets the receiving end
-// make room for many events: it need not wake the sender for each.
+// make room for many messages: it need not wake the sender for each.
 const REST_WHILE_FULL: u64 = 100;
 
 /// The knowledge of a pass. Contracts speak of it; no value of it is made.
-pub struct KnownOfPass {
+pub struct KnownOfPass<M> {
     /// 0 of the receiver, 1 of the interface's sender, 2 of the engine's, 3 of a pass that was joined.
     pub role: u8,
     /// Of the receiving end: how many senders it made.
@@ -34,22 +34,22 @@ pub struct KnownOfPass {
     /// Of the receiving end: how many senders it took in again.
     pub joined: u8,
     /// Of a sender: what it has sent.
-    pub sent: LinkedList<Sent>,
+    pub sent: LinkedList<M>,
     /// Of the receiving end: what it has taken.
-    pub taken: LinkedList<Sent>,
+    pub taken: LinkedList<M>,
     /// Of the receiving end, once it took in the interface's sender: what that has sent.
-    pub first: LinkedList<Sent>,
+    pub first: LinkedList<M>,
     /// Of the receiving end, once it took in the engine's sender: what that has sent.
-    pub second: LinkedList<Sent>,
+    pub second: LinkedList<M>,
 }
 
 /// The rule of the channel: what each sender has sent comes in order, whole.
 pub struct InOrder;
 
-impl Protocol<Sent, KnownOfPass> for InOrder {
+impl<M: Message> Protocol<M, KnownOfPass<M>> for InOrder {
     ghost use Rattle.event_pipe.specs.Rule.{Delivers, idle};
 
-    ghost holds = { Delivers };
+    ghost holds = { Delivers M.means };
 
     ghost first = { idle };
 }
@@ -57,13 +57,13 @@ impl Protocol<Sent, KnownOfPass> for InOrder {
 /// A send, at the back.
 pub struct Sending;
 
-impl Outcome<Sent, KnownOfPass> for Sending {
+impl<M> Outcome<M, KnownOfPass<M>> for Sending {
     ghost use Rattle.event_pipe.specs.Rule.{SendAdds};
 
     ghost then = { SendAdds };
 }
 
-impl Lesson<Sent, KnownOfPass> for Sending {
+impl<M> Lesson<M, KnownOfPass<M>> for Sending {
     ghost use Rattle.std.specs.Prelude.{⊤};
 
     ghost fact = { λ v items. ⊤ };
@@ -72,13 +72,13 @@ impl Lesson<Sent, KnownOfPass> for Sending {
 /// A receive, at the front.
 pub struct Taking;
 
-impl Outcome<Sent, KnownOfPass> for Taking {
+impl<M: Message> Outcome<M, KnownOfPass<M>> for Taking {
     ghost use Rattle.event_pipe.specs.Rule.{Gets};
 
-    ghost then = { Gets };
+    ghost then = { Gets M.means };
 }
 
-impl Lesson<Sent, KnownOfPass> for Taking {
+impl<M> Lesson<M, KnownOfPass<M>> for Taking {
     ghost use Rattle.std.specs.Prelude.{⊤};
 
     ghost fact = { λ v items. ⊤ };
@@ -87,16 +87,16 @@ impl Lesson<Sent, KnownOfPass> for Taking {
 /// The fact that the receiving end learns once both senders were taken in.
 pub struct AllSent;
 
-impl Lesson<Sent, KnownOfPass> for AllSent {
+impl<M: Message> Lesson<M, KnownOfPass<M>> for AllSent {
     ghost use Rattle.event_pipe.specs.Rule.{Total};
 
-    ghost fact = { Total };
+    ghost fact = { Total M.means };
 }
 
 /// The interface's pass is made of the receiving end's.
 pub struct SplitIface;
 
-impl Split<KnownOfPass> for SplitIface {
+impl<M> Split<KnownOfPass<M>> for SplitIface {
     ghost use Rattle.event_pipe.specs.Rule.{made_first, sender};
 
     ghost left = { made_first };
@@ -107,7 +107,7 @@ impl Split<KnownOfPass> for SplitIface {
 /// The engine's pass is made of the receiving end's.
 pub struct SplitEngine;
 
-impl Split<KnownOfPass> for SplitEngine {
+impl<M> Split<KnownOfPass<M>> for SplitEngine {
     ghost use Rattle.event_pipe.specs.Rule.{made_second, sender};
 
     ghost left = { made_second };
@@ -118,7 +118,7 @@ impl Split<KnownOfPass> for SplitEngine {
 /// The interface's pass is joined to the receiving end's.
 pub struct JoinIface;
 
-impl Join<KnownOfPass> for JoinIface {
+impl<M> Join<KnownOfPass<M>> for JoinIface {
     ghost use Rattle.event_pipe.specs.Rule.{joined_first, sender};
 
     ghost both = { joined_first };
@@ -129,7 +129,7 @@ impl Join<KnownOfPass> for JoinIface {
 /// The engine's pass is joined to the receiving end's.
 pub struct JoinEngine;
 
-impl Join<KnownOfPass> for JoinEngine {
+impl<M> Join<KnownOfPass<M>> for JoinEngine {
     ghost use Rattle.event_pipe.specs.Rule.{joined_second, sender};
 
     ghost both = { joined_second };
@@ -141,32 +141,31 @@ fn rest_while_full<R: Wait>(rt: &R) {
     AtomicU64::new(0).park_timeout(rt, 0, Duration::from_micros(REST_WHILE_FULL));
 }
 
-/// One peer's end of the channel: it sends that peer's lines.
+/// One peer's end of the channel: it sends that peer's messages.
 #[derive(Drop)]
-pub struct PipeSend {
-    sender: RuledSender<Sent, KnownOfPass, InOrder>,
-    pass: Pass<Sent, KnownOfPass>,
+pub struct PipeSend<M: Message = Sent> {
+    sender: RuledSender<M, KnownOfPass<M>, InOrder>,
+    pass: Pass<M, KnownOfPass<M>>,
     pub(crate) peer: Peer,
 }
 
 /// The end that takes what both peers' ends send.
 #[derive(Drop)]
-pub struct PipeTake {
-    receiver: RuledReceiver<Sent, KnownOfPass, InOrder>,
-    pass: Pass<Sent, KnownOfPass>,
+pub struct PipeTake<M: Message = Sent> {
+    receiver: RuledReceiver<M, KnownOfPass<M>, InOrder>,
+    pass: Pass<M, KnownOfPass<M>>,
 }
 
-impl PipeSend {
-    /// Sending it at the back, under the sender's peer.
-    pub fn send<R: Wait>(&mut self, rt: &R, what: MessageBody)
+impl<M: Message> PipeSend<M> {
+    /// Sending a message of the sender's peer, at the back.
+    pub fn send<R: Wait>(&mut self, rt: &R, message: M)
         requires sender { IsSender self.old }
-        requires ended { has_last_event (events_sent self.old) ≡ false }
-        requires good { is_good (sent_event self.old.peer what) ≡ true }
+        requires peer { M.means.role message ≡ role_of self.old.peer }
+        requires ended { has_last M.means (messages_sent self.old) ≡ false }
+        requires good { M.means.is_good message ≡ true }
         ensures keeps { KeepsSender self.old self.new }
-        ensures adds { events_sent self.new
-            ≡ events_sent self.old ++ sent_event self.old.peer what ∷ [] }
+        ensures adds { messages_sent self.new ≡ messages_sent self.old ++ message ∷ [] }
     {
-        let message = Sent::new(self.peer, what);
         let Err(full) = self
             .sender
             .try_send_as::<Sending, R>(rt, &mut self.pass, message)
@@ -188,13 +187,13 @@ impl PipeSend {
     }
 }
 
-impl PipeTake {
+impl<M: Message> PipeTake<M> {
     /// Taking the front.
-    pub fn take<R: Wait>(&mut self, rt: &R) -> Sent
+    pub fn take<R: Wait>(&mut self, rt: &R) -> M
         requires receiving_end { IsReceiver self.old }
         ensures keeps { KeepsReceiver self.old self.new }
-        ensures gets { events_taken self.new ≡ events_taken self.old ++ result ∷ [] }
-        ensures follows { EventMayFollow (events_taken self.old) result }
+        ensures gets { messages_taken self.new ≡ messages_taken self.old ++ result ∷ [] }
+        ensures follows { MayFollow M.means (messages_taken self.old) result }
     {
         for _ in rt.forever() {
             match self.receiver.recv_as::<Taking, R>(rt, &mut self.pass) {
@@ -207,12 +206,14 @@ impl PipeTake {
     }
 }
 
-/// A channel of `CHANNEL_ROOM` events from two senders to one receiving end.
+/// A channel of `CHANNEL_ROOM` messages from two senders to one receiving end.
 pub struct Pipe;
 
 impl Pipe {
     /// The interface's sender, the engine's and the receiver.
-    pub fn make(alloc: Global) -> Result<(PipeSend, PipeSend, PipeTake), NoMemory>
+    pub fn make<M: Message>(
+        alloc: Global,
+    ) -> Result<(PipeSend<M>, PipeSend<M>, PipeTake<M>), NoMemory>
         ensures iface { IfOk result (λ r. IsFreshSender r.0 peers.Iface) }
         ensures engine { IfOk result (λ r. IsFreshSender r.1 peers.Engine) }
         ensures receiving_end { IfOk result (λ r. IsFreshReceiver r.2) }
@@ -238,14 +239,15 @@ impl Pipe {
     }
 
     /// Joins the three again.
-    pub fn finish(iface: PipeSend, engine: PipeSend, receiving_end: PipeTake)
+    pub fn finish<M: Message>(iface: PipeSend<M>, engine: PipeSend<M>, receiving_end: PipeTake<M>)
         requires iface { IsSender iface × (iface.peer ≡ peers.Iface) }
         requires engine { IsSender engine × (engine.peer ≡ peers.Engine) }
         requires receiving_end { IsReceiver receiving_end }
         requires one { AreOne iface engine receiving_end }
-        ensures iface { CameFromPeer peers.Iface (events_taken receiving_end) (events_sent iface) }
-        ensures engine { CameFromPeer peers.Engine (events_taken receiving_end) (events_sent
-            engine) }
+        ensures iface { CameFrom M.means peers.Iface (messages_taken receiving_end) (messages_sent
+            iface) }
+        ensures engine { CameFrom M.means peers.Engine (messages_taken receiving_end)
+            (messages_sent engine) }
         ensures room { AreWithinRoom iface engine receiving_end }
     {
         let PipeSend {

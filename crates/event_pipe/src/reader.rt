@@ -1,13 +1,13 @@
 // A reader: it sends the lines of its source.
-ghost use Rattle.std.specs.Prelude.{◌≡◌, ℕ, List, [], true, false, IfOk};
+ghost use Rattle.std.specs.Prelude.{◌≡◌, ◌++◌, ◌∷◌, ℕ, List, [], map, true, false, IfOk};
 ghost use Rattle.line_io.specs.Lines.{empty_reader};
-ghost use Rattle.event_pipe.specs.Message.{sent_event, is_last_event};
-ghost use Rattle.event_pipe.specs.Rule.{has_last_event};
-ghost use Rattle.event_pipe.specs.Ends.{IsSender, KeepsSender, events_sent};
+ghost use Rattle.event_pipe.specs.Message.{sent_event, is_last_event, is_good};
+ghost use Rattle.event_pipe.specs.Events.{has_last_event};
+ghost use Rattle.event_pipe.specs.Ends.{IsSender, KeepsSender, messages_sent};
 ghost use Rattle.event_pipe.specs.Arrivals.{line_limit, ReaderTurnDone, Arrived};
 ghost use Rattle.event_pipe.specs.declared.message.MessageBody.TheVariants as says;
 
-use crate::{Bytes, MessageBody, Peer, PipeSend};
+use crate::{Bytes, MessageBody, Peer, PipeSend, ReaderMessage};
 use line_io::{Item, Lines, PEER_LINE, ReadFault, Source, lines_of_all_calls};
 use protocol_tokens::is_quit;
 use std::alloc::Global;
@@ -44,43 +44,58 @@ fn is_last(peer: Peer, line: &[u8]) -> bool
     }
 }
 
+// Sends the message for an event of the sender's peer.
+fn send_event<M: ReaderMessage, R: Wait>(rt: &R, to: &mut PipeSend<M>, what: MessageBody)
+    requires sender { IsSender to.old }
+    requires may { M.may_read to.old.peer }
+    requires ended { has_last_event (map M.event (messages_sent to.old)) ≡ false }
+    requires good { is_good (sent_event to.old.peer what) ≡ true }
+    ensures keeps { KeepsSender to.old to.new }
+    ensures adds { map M.event (messages_sent to.new)
+        ≡ map M.event (messages_sent to.old) ++ sent_event to.old.peer what ∷ [] }
+{
+    let message = M::of_reader(to.peer, what);
+    to.send(rt, message);
+}
+
 // Reads once at most, and sends the next line if there is one.
-fn read_turn<S: Source, R: Wait>(
+fn read_turn<S: Source, M: ReaderMessage, R: Wait>(
     rt: &R,
     alloc: Global,
     lines: &mut Lines,
     source: &mut S,
-    to: &mut PipeSend,
+    to: &mut PipeSend<M>,
 ) -> ReaderTurn
     requires sender { IsSender to.old }
-    requires going { has_last_event (events_sent to.old) ≡ false }
+    requires may { M.may_read to.old.peer }
+    requires going { has_last_event (map M.event (messages_sent to.old)) ≡ false }
     requires limit { lines.old.limit ≡ line_limit }
     ensures keeps { KeepsSender to.old to.new }
     ensures goes { ReaderTurnDone to.old.peer lines.old lines.new (S.state source.old) (S.state
         source.new)
-        (events_sent to.old) (events_sent to.new) result }
+        (map M.event (messages_sent to.old)) (map M.event (messages_sent to.new)) result }
 {
     match lines.next(source) {
         Err(_) => {
-            to.send(rt, MessageBody::End);
+            send_event(rt, to, MessageBody::End);
             ReaderTurn::Fault
         }
         Ok(Item::More) => ReaderTurn::More,
         Ok(Item::End) => {
-            to.send(rt, MessageBody::End);
+            send_event(rt, to, MessageBody::End);
             ReaderTurn::Done
         }
         Ok(Item::Long) => {
-            to.send(rt, MessageBody::Long);
+            send_event(rt, to, MessageBody::Long);
             ReaderTurn::More
         }
         Ok(Item::Line(line)) => {
             let Ok(bytes) = Bytes::make(alloc, line) else {
-                to.send(rt, MessageBody::End);
+                send_event(rt, to, MessageBody::End);
                 return ReaderTurn::NoMemory;
             };
             let last = is_last(to.peer, line);
-            to.send(rt, MessageBody::Line(bytes));
+            send_event(rt, to, MessageBody::Line(bytes));
             if last {
                 return ReaderTurn::Quit;
             }
@@ -89,23 +104,24 @@ fn read_turn<S: Source, R: Wait>(
     }
 }
 
-/// Sends each line of the source, and its end last. The interface's reader ends after a line that
-/// spells `quit`.
-pub fn read_pipe<S: Source, R: Wait>(
+/// Sends each line of the source, and its end last, as messages that stand for these events. The
+/// interface's reader ends after a line that spells `quit`.
+pub fn read_messages<S: Source, M: ReaderMessage, R: Wait>(
     rt: &R,
     alloc: Global,
     source: &mut S,
-    to: &mut PipeSend,
+    to: &mut PipeSend<M>,
 ) -> ReadEnd
     requires sender { IsSender to.old }
-    requires fresh { events_sent to.old ≡ [] }
+    requires may { M.may_read to.old.peer }
+    requires fresh { messages_sent to.old ≡ [] }
     ensures keeps { KeepsSender to.old to.new }
     ensures arrived { Arrived to.old.peer (S.state source.old) (S.state source.new)
-        (events_sent to.new) result }
+        (map M.event (messages_sent to.new)) result }
 {
     lines_of_all_calls();
     let Ok(mut lines) = Lines::make(alloc, PEER_LINE) else {
-        to.send(rt, MessageBody::End);
+        send_event(rt, to, MessageBody::End);
         return ReadEnd::NoMemory;
     };
     for _ in rt.forever() {
@@ -118,4 +134,21 @@ pub fn read_pipe<S: Source, R: Wait>(
         }
     }
     unreachable!()
+}
+
+/// Sends each line of the source, and its end last. The interface's reader ends after a line that
+/// spells `quit`.
+pub fn read_pipe<S: Source, R: Wait>(
+    rt: &R,
+    alloc: Global,
+    source: &mut S,
+    to: &mut PipeSend,
+) -> ReadEnd
+    requires sender { IsSender to.old }
+    requires fresh { messages_sent to.old ≡ [] }
+    ensures keeps { KeepsSender to.old to.new }
+    ensures arrived { Arrived to.old.peer (S.state source.old) (S.state source.new)
+        (messages_sent to.new) result }
+{
+    read_messages(rt, alloc, source, to)
 }

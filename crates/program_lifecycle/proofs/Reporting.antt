@@ -7,7 +7,7 @@ use Rattle.line_io.specs.Lines.{Piece, Whole, TooLong, items}
 use Rattle.event_pipe.specs.declared.message.Peer.TheVariants as peers
 use Rattle.event_pipe.specs.declared.reader.ReadEnd.{ReadEnd}
 use Rattle.event_pipe.specs.declared.reader.ReadEnd.TheVariants as read_ends
-use Rattle.event_pipe.specs.Rule.{sent_by}
+use Rattle.event_pipe.specs.Events.{sent_by}
 use Rattle.event_pipe.specs.Arrivals.{arrivals, has_close_event, line_limit, is_read_fault, Arrived}
 use Rattle.program_lifecycle.specs.Streams.{TookPrefix}
 use Rattle.program_lifecycle.specs.Took.{LogTook}

@@ -15,6 +15,9 @@ use Rattle.engine_revival.specs.Lists.{revival_batch_text}
 use Rattle.engine_revival.specs.Steps.{is_ended, quit_to, read_at_once, accepted_at_once, upper_if_accepted, at_once, due_to, due_orders, settled_orders, state_after_line, state_after_reading, state_if_accepted, with_quit, after_at_once}
 use Rattle.engine_revival.specs.Calls.{Order, revival_after, child_of}
 use Rattle.engine_revival.specs.Script.{may_happen, revival_state_after, state_behind, revival_event_text}
+use Rattle.event_pipe.specs.Events.{of}
+use Rattle.event_pipe.specs.Message.{event_meaning}
+use Rattle.event_pipe.proofs.Keeps.{of-append}
 use Rattle.reviver_runner.specs.Looped.{LoopState, PlayedUp}
 use Rattle.program_lifecycle.specs.Streams.{Offered}
 use Rattle.reviver_runner.specs.Played.{event_up, event_child, lines_to_child, is_heard, is_order, is_life_end_mark, has_close, as_long, is_heard_order, reported_of, ends_in}
@@ -103,15 +106,16 @@ order_open (Iface line) h = refl
 order_open IfaceEnd h = refl
 order_open e h = cc
 
-order_reported : (e : Event) → is_order e ≡ true → map as_long (e ∷ []) ≡ reported_of (e ∷ [])
+order_reported : (e : Event) → is_order e ≡ true → map as_long (e ∷ []) ≡ reported_of (of 1 (e ∷ []))
 order_reported (Iface line) h = refl
 order_reported IfaceEnd h = refl
 order_reported e h = cc
 
-order_ends : (e : Event) → is_order e ≡ true → ends_in (e ∷ []) ≡ 0
-order_ends (Iface line) h = refl
-order_ends IfaceEnd h = refl
-order_ends e h = cc
+-- of no order nothing is reported
+other_reported : (e : Event) → is_order e ≡ false → reported_of (of 1 (e ∷ [])) ≡ []
+other_reported (Iface line) h = cc
+other_reported IfaceEnd h = cc
+other_reported e h = refl
 
 pub drained_order : (a b : LoopState) (e : Event) → is_order e ≡ true → a.state.life ≡ life.Over → b.events ≡ a.events ++ e ∷ [] → b.state ≡ revival_state_after a.state e
     → Offered a.failed.output b.failed.output a.output b.output (event_up a.state e) → Offered a.failed.log b.failed.log a.log b.log (revival_event_text a.state e) → InterfaceDrained a b
@@ -126,11 +130,10 @@ drained_order a b e order over took z u v =
       got = e ∷ [];
       taken_is = took;
       got_are = order_reported e order;
-      ends = order_ends e order;
     }
 
-pub drained_passed : (a b : LoopState) → a.state.life ≡ life.Over → b ≡ record a { events = b.events } → b.events ≡ a.events ++ IfaceLong ∷ [] → InterfaceDrained a b
-drained_passed a b over same took =
+pub drained_passed : (a b : LoopState) → a.state.life ≡ life.Over → b ≡ record a { events = b.events } → (e : Event) → is_order e ≡ false → b.events ≡ a.events ++ e ∷ [] → InterfaceDrained a b
+drained_passed a b over same e other took =
     record {
       events = [];
       played = passed_by a b same;
@@ -138,10 +141,9 @@ drained_passed a b over same took =
       begun = ap (λ (x : LoopState). x.state.begun) same;
       open_ended = refl;
       unwritten = refl;
-      got = IfaceLong ∷ [];
+      got = e ∷ [];
       taken_is = took;
-      got_are = refl;
-      ends = refl;
+      got_are = sym (other_reported e other);
     }
 
 pub drained_none : (a : LoopState) → a.state.life ≡ life.Over → InterfaceDrained a a
@@ -156,7 +158,6 @@ drained_none a over =
       got = [];
       taken_is = sym (append-nil a.events);
       got_are = refl;
-      ends = refl;
     }
 
 pub drained_both : (a b c : LoopState) → InterfaceDrained a b → InterfaceDrained b c → InterfaceDrained a c
@@ -172,6 +173,5 @@ drained_both a b c x y =
           ∙ ap (λ (z : RevivalState). lines_to_child z y.events) (sym x.played.state_is) ∙ y.unwritten;
       got = x.got ++ y.got;
       taken_is = y.taken_is ∙ ap (λ (t : List Event). t ++ y.got) x.taken_is ∙ append_assoc a.events x.got y.got;
-      got_are = map-append as_long x.events y.events ∙ ap (λ (t : List Event). t ++ map as_long y.events) x.got_are ∙ ap (λ (t : List Event). reported_of x.got ++ t) y.got_are ∙ sym (filter-append is_heard_order x.got y.got);
-      ends = let all = ends_append x.got y.got in let one = x.ends in let two = y.ends in omega (arith, all, one, two);
+      got_are = map-append as_long x.events y.events ∙ ap (λ (t : List Event). t ++ map as_long y.events) x.got_are ∙ ap (λ (t : List Event). reported_of (of 1 x.got) ++ t) y.got_are ∙ sym (filter-append is_heard_order (of 1 x.got) (of 1 y.got)) ∙ ap reported_of (sym (of-append event_meaning 1 x.got y.got));
     }

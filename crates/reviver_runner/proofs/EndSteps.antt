@@ -1,5 +1,5 @@
 -- The events heard of both sides, once both readers have ended.
-use Rattle.std.proofs.Common.{◌≡◌, ◌∙◌, ℕ, suc, ◌≤◌, List, [], ◌∷◌, ◌++◌, map, codes, length, Bool, true, false, cond, ◌||◌, ◌&&◌, Option, Some, None, refl, sym, ap, subst, arith, append-nil}
+use Rattle.std.proofs.Common.{◌≡◌, ◌∙◌, ℕ, suc, ◌≤◌, List, [], ◌∷◌, ◌++◌, map, codes, length, Bool, true, false, cond, ◌||◌, ◌&&◌, Option, Some, None, refl, sym, ap, subst, arith, append-nil, append_assoc}
 use mathlib.Core.Bool.{or-false, or-true}
 use Rattle.line_io.specs.Event.{Event, Iface, IfaceLong, IfaceEnd, Engine, EngineLong, EngineEnd}
 use Rattle.line_io.specs.Lines.{Piece, Whole, TooLong, items}
@@ -20,9 +20,9 @@ use Rattle.engine_revival.proofs.Talks.{always_lawful}
 use Rattle.event_pipe.specs.declared.message.Peer.TheVariants as peers
 use Rattle.event_pipe.specs.declared.reader.ReadEnd.{ReadEnd}
 use Rattle.event_pipe.specs.declared.reader.ReadEnd.TheVariants as read_ends
-use Rattle.event_pipe.specs.Message.{is_last_event}
-use Rattle.event_pipe.specs.Rule.{of, has_last_event}
-use Rattle.event_pipe.specs.Ends.{CameFromPeer}
+use Rattle.event_pipe.specs.Message.{is_last_event, event_meaning}
+use Rattle.event_pipe.specs.Events.{of, has_last_event}
+use Rattle.event_pipe.specs.Events.{CameFromPeer}
 use Rattle.event_pipe.specs.Arrivals.{Arrived, line_limit}
 use Rattle.event_pipe.proofs.Keeps.{of-append}
 use Rattle.event_pipe.proofs.Reading.{any_append}
@@ -143,6 +143,25 @@ ended_reported (IfaceEnd ∷ es) = refl
 ended_reported (EngineEnd ∷ es) = refl
 ended_reported (x ∷ es) = ended_reported es
 
+-- NOTHING OF THE ENGINE CAME BEHIND THE LAST LIFE
+
+lives_end_long : (ls : List Life) → 1 ≤ length ls → ends_long (life_events ls) ≡ true
+lives_end_long [] h = absurd (omega (arith, h))
+lives_end_long (x ∷ ls) h = last_of_lives x ls
+
+first_none : (xs ys : List Event) → xs ++ ys ≡ [] → xs ≡ []
+first_none [] ys h = refl
+first_none (x ∷ xs) ys h = cc
+
+pub nothing_came : (says : Option (List ℕ)) (sinks_report : Bool) (a b : LoopState) (sent taken got : List Event) (lives : List Life) (text : List ℕ) (refused : Bool)
+    → Lived says sinks_report a b sent lives text refused → 1 ≤ length lives → taken ≡ b.events ++ got → CameFromPeer peers.Engine taken sent → of 2 got ≡ []
+nothing_came says sinks_report a b sent taken got lives text refused lived some e came =
+    first_none (of 2 got) came.left
+    (nothing_left sent (of 2 b.events) (of 2 got ++ came.left)
+    (came.prefix ∙ ap (λ (x : List Event). of 2 x ++ came.left) e ∙ ap (λ (x : List Event). x ++ came.left) (of-append event_meaning 2 b.events got) ∙ append_assoc (of 2 b.events) (of 2 got) came.left)
+    (ap ends_long lived.sent_are ∙ lives_end_long lives some)
+    (ap ends_in lived.sent_are ∙ lives_ends says sinks_report lives lived.lived ∙ sym lived.ends ∙ sym (ends_of b.events)))
+
 -- THE LAST ORDER IS THE QUIT
 
 value_quit : (b : Bool) (s : RevivalState) (order : AnyOrder) → (revival_with_value b s order).quit ≡ s.quit
@@ -195,7 +214,7 @@ quit_behind : (s : RevivalState) (es : List Event) → (state_behind s es).quit 
 quit_behind s [] = sym (or-false s.quit)
 quit_behind s (e ∷ es) =
     quit_behind (revival_state_after s e) es ∙ ap (λ (b : Bool). b || has_last_event (of 1 es)) (event_quit s e) ∙ or_assoc s.quit (has_last_event (of 1 (e ∷ []))) (has_last_event (of 1 es))
-    ∙ ap (λ (b : Bool). s.quit || b) (sym (any_append is_last_event (of 1 (e ∷ [])) (of 1 es)) ∙ ap has_last_event (sym (of-append 1 (e ∷ []) es)))
+    ∙ ap (λ (b : Bool). s.quit || b) (sym (any_append is_last_event (of 1 (e ∷ [])) (of 1 es)) ∙ ap has_last_event (sym (of-append event_meaning 1 (e ∷ []) es)))
 
 -- BOTH SIDES HAVE ENDED
 
@@ -225,13 +244,9 @@ lived_from number says sinks_report a b sent lives text refused e x =
 
 module _ (number : ℕ) (says : Option (List ℕ)) (sinks_report : Bool) (es : List Event) (o l : Received) (f : LoopEnd) (b : LoopState) (sent sent_up : List Event) (lives : List Life) (refused : Bool)
     (lived : Lived says sinks_report (record { state = opening_revival number; events = es; output = o; log = l; failed = f }) b sent lives [] refused) (up : CameFromPeer peers.Iface b.events sent_up) (engine : CameFromPeer peers.Engine b.events sent) (some : 1 ≤ length lives) (quit : b.state.quit ≡ true) where
-  last : (ls : List Life) → 1 ≤ length ls → ends_long (life_events ls) ≡ true
-  last [] h = absurd (omega (arith, h))
-  last (x ∷ ls) h = last_of_lives x ls
-
   all_taken : sent ≡ of 2 b.events
   all_taken =
-      let none = nothing_left sent (of 2 b.events) engine.left engine.prefix (ap ends_long lived.sent_are ∙ last lives some)
+      let none = nothing_left sent (of 2 b.events) engine.left engine.prefix (ap ends_long lived.sent_are ∙ lives_end_long lives some)
       (ap ends_in lived.sent_are ∙ lives_ends says sinks_report lives lived.lived ∙ sym lived.ends ∙ sym (ends_of b.events)) in
       engine.prefix ∙ ap (λ (x : List Event). of 2 b.events ++ x) none ∙ append-nil (of 2 b.events)
 

@@ -9,10 +9,14 @@ use Rattle.engine_revival.specs.Script.{may_happen, revival_state_after, revival
 use Rattle.event_pipe.proofs.Reading.{any_append}
 use Rattle.line_io.specs.Source.{Received}
 use Rattle.program_lifecycle.specs.Streams.{sinks}
+use Rattle.event_pipe.specs.declared.message.MessageBody.TheVariants as says
+use Rattle.reviver_runner.specs.declared.message.LifeMessage.{LifeMessage}
+use Rattle.reviver_runner.specs.declared.message.LifeMessage.TheVariants as messages
+use Rattle.reviver_runner.specs.Messages.{script_event, is_life_end}
 use Rattle.reviver_runner.specs.declared.looping.RevivalLoop.{RevivalLoop}
 use Rattle.engine_revival.specs.declared.script.TheConstants.{EVENT_ROOM}
 use Rattle.reviver_runner.specs.Played.{event_up, event_child, is_heard, events_for_revival, is_life_end_mark, has_close}
-use Rattle.reviver_runner.specs.Looped.{IsReadyLoop, KeepsLoop, Offers, LoopState, LifePlayed, Going, LoopedLife}
+use Rattle.reviver_runner.specs.Looped.{IsReadyLoop, KeepsLoop, Offers, LoopState, LifePlayed, Going, GoesOrEnds, LoopedLife}
 use Rattle.reviver_runner.proofs.Appends.{played_none, played_more}
 use Rattle.reviver_runner.proofs.Stays.{event_stays}
 
@@ -104,6 +108,17 @@ looped a b c x y g s t =
       unended = g.unended;
       played = passed_by a b c x y (events_for_revival g.events) s g.played;
     }
+
+-- a message of which nothing is heard
+by_message : (m : LifeMessage) (a b c : LoopState) (x y : Received) → is_heard (script_event m) ≡ false → Going a b x y → c ≡ record b { events = c.events } → c.events ≡ b.events ++ script_event m ∷ [] → GoesOrEnds (not (is_life_end m)) a c x y
+by_message (messages.Iface (says.Line line)) a b c x y h g s t = cc
+by_message (messages.Iface says.Long) a b c x y h g s t = going_passed a b c x y g s t
+by_message (messages.Iface says.End) a b c x y h g s t = cc
+by_message (messages.Line line) a b c x y h g s t = cc
+by_message messages.LifeEnd a b c x y h g s t = looped a b c x y g s t
+
+pub goes_or_ends : (m : LifeMessage) (r : Bool) (a b c : LoopState) (x y : Received) → r ≡ not (is_life_end m) → is_heard (script_event m) ≡ false → Going a b x y → c ≡ record b { events = c.events } → c.events ≡ b.events ++ script_event m ∷ [] → GoesOrEnds r a c x y
+goes_or_ends m r a b c x y e h g s t = subst (λ (k : Bool). GoesOrEnds k a c x y) (sym e) (by_message m a b c x y h g s t)
 
 pub alive_still : (s s' : RevivalState) (e : Event) → is_heard e ≡ true → is_alive s.life ≡ true → s' ≡ revival_state_after s e → is_alive s'.life ≡ true
 alive_still s s' e h a z = ap (λ (x : RevivalState). is_alive x.life) z ∙ (event_stays s e h).alive a

@@ -13,6 +13,7 @@ use Rattle.child_engine.specs.Hosts.{fresh_source, fresh_sink}
 use Rattle.child_engine.specs.declared.host.HostFault.{HostFault}
 use Rattle.engine_revival.specs.declared.state.RevivalState.{RevivalState}
 use Rattle.engine_revival.specs.Script.{revival_state_after, state_behind}
+use Rattle.event_pipe.specs.Events.{of}
 use Rattle.event_pipe.specs.Arrivals.{is_read_fault}
 use Rattle.event_pipe.specs.declared.reader.ReadEnd.{ReadEnd}
 use Rattle.program_lifecycle.specs.Readers.{lacked_memory}
@@ -297,31 +298,41 @@ module _ {S K : Type 0} (source : S → Supplied) (sink : K → Received) (says 
 
 -- BEHIND THE LAST LIFE
 
-pub lived_drained : {S K : Type 0} (source : S → Supplied) (sink : K → Received) (says : Option (List ℕ)) (sinks_report : Bool) (a b c : LoopState) (sent : List Event) (runs : List (LifeRun S K)) (tally : LivesTally) (refused : Bool)
-    → HasLived source sink says sinks_report a b sent runs tally [] refused → InterfaceDrained b c → HasLived source sink says sinks_report a c sent runs tally [] refused
-lived_drained source sink says sinks_report a b c sent runs tally refused x d =
-    let was = x.so_far in
-    let to : ToLives = record { ended = map (λ (x : Life). x.text) x.lives; present = [] } in
+-- if nothing of the engine came
+only_iface : (es : List Event) → of 2 es ≡ [] → reported_of (of 1 es) ≡ reported_of es
+only_iface [] h = refl
+only_iface (Iface line ∷ es) h = ap (λ (l : List Event). Iface line ∷ l) (only_iface es h)
+only_iface (IfaceEnd ∷ es) h = ap (λ (l : List Event). IfaceEnd ∷ l) (only_iface es h)
+only_iface (Engine line ∷ es) h = cc
+only_iface (EngineLong ∷ es) h = cc
+only_iface (EngineEnd ∷ es) h = cc
+only_iface (x ∷ es) h = only_iface es h
+
+none_ended : (es : List Event) → of 2 es ≡ [] → ends_in es ≡ 0
+none_ended [] h = refl
+none_ended (Engine line ∷ es) h = cc
+none_ended (EngineLong ∷ es) h = cc
+none_ended (EngineEnd ∷ es) h = cc
+none_ended (x ∷ es) h = none_ended es h
+
+pub lived_drained : (says : Option (List ℕ)) (sinks_report : Bool) (a b c : LoopState) (sent : List Event) (lives : List Life) (refused : Bool)
+    → Lived says sinks_report a b sent lives [] refused → (d : InterfaceDrained b c) → of 2 d.got ≡ [] → Lived says sinks_report a c sent lives [] refused
+lived_drained says sinks_report a b c sent lives refused was d none =
+    let to : ToLives = record { ended = map (λ (x : Life). x.text) lives; present = [] } in
     record {
-      lives = x.lives;
-      reported = x.reported;
-      tallies = x.tallies;
-      tallied = x.tallied;
-      so_far = record {
-        events = was.events ++ d.events;
-        played = up_both a b c was.events d.events was.played d.played;
-        given =
-            to_append to_none a.state was.events d.events ∙ ap (λ (t : ToLives). to_lives t (state_behind a.state was.events) d.events) was.given
-            ∙ ap (λ (z : RevivalState). to_lives to z d.events) (sym was.played.state_is) ∙ present_text to b.state d.events d.open_ended
-            ∙ ap (λ (t : List ℕ). record { ended = map (λ (x : Life). x.text) x.lives; present = t }) d.unwritten;
-        refusal =
-            list_any-append is_refusal was.events d.events ∙ ap (λ (x : Bool). has_refusal was.events || x) (no_refusal d.events d.open_ended)
-            ∙ ap (λ (x : Bool). x || false) was.refusal ∙ or-false refused;
-        taken_are =
-            map-append as_long was.events d.events ∙ ap (λ (z : List Event). z ++ map as_long d.events) was.taken_are ∙ ap (λ (z : List Event). reported_of b.events ++ z) d.got_are
-            ∙ sym (filter-append is_heard_order b.events d.got) ∙ ap reported_of (sym d.taken_is);
-        ends = let all = ap ends_in d.taken_is ∙ ends_append b.events d.got in let before = was.ends in let none = d.ends in omega (arith, all, before, none);
-        sent_are = was.sent_are;
-        lived = was.lived;
-      };
+      events = was.events ++ d.events;
+      played = up_both a b c was.events d.events was.played d.played;
+      given =
+          to_append to_none a.state was.events d.events ∙ ap (λ (t : ToLives). to_lives t (state_behind a.state was.events) d.events) was.given
+          ∙ ap (λ (z : RevivalState). to_lives to z d.events) (sym was.played.state_is) ∙ present_text to b.state d.events d.open_ended
+          ∙ ap (λ (t : List ℕ). record { ended = map (λ (x : Life). x.text) lives; present = t }) d.unwritten;
+      refusal =
+          list_any-append is_refusal was.events d.events ∙ ap (λ (x : Bool). has_refusal was.events || x) (no_refusal d.events d.open_ended)
+          ∙ ap (λ (x : Bool). x || false) was.refusal ∙ or-false refused;
+      taken_are =
+          map-append as_long was.events d.events ∙ ap (λ (z : List Event). z ++ map as_long d.events) was.taken_are ∙ ap (λ (z : List Event). reported_of b.events ++ z) (d.got_are ∙ only_iface d.got none)
+          ∙ sym (filter-append is_heard_order b.events d.got) ∙ ap reported_of (sym d.taken_is);
+      ends = let all = ap ends_in d.taken_is ∙ ends_append b.events d.got in let before = was.ends in let no_end = none_ended d.got none in omega (arith, all, before, no_end);
+      sent_are = was.sent_are;
+      lived = was.lived;
     }

@@ -10,9 +10,10 @@ use Rattle.child_engine.specs.declared.host.HostFault.{HostFault}
 use Rattle.engine_revival.specs.declared.state.RevivalState.{RevivalState}
 use Rattle.engine_revival.specs.Steps.{opening_revival}
 use Rattle.event_pipe.specs.Counts.{CountsFault}
-use Rattle.event_pipe.specs.Ends.{IsSender, KeepsSender, events_sent}
+use Rattle.event_pipe.specs.Ends.{IsSender, KeepsSender}
+use Rattle.reviver_runner.specs.Messages.{events_sent}
 use Rattle.event_pipe.specs.declared.pipe.PipeSend.{PipeSend}
-use Rattle.event_pipe.specs.Rule.{has_last_event}
+use Rattle.event_pipe.specs.Events.{has_last_event}
 use Rattle.program_lifecycle.specs.Asked.{StartsEngines}
 use Rattle.program_lifecycle.specs.Logs.{is_failed}
 use Rattle.program_lifecycle.proofs.Asked.{starts_none, starts_both}
@@ -24,6 +25,7 @@ use Rattle.reviver_runner.specs.Played.{reported_of, ends_in}
 use Rattle.reviver_runner.proofs.Appends.{up_none}
 use Rattle.reviver_runner.proofs.HearSteps.{ready_still, keeps_same as loop_same, keeps_both as loop_both}
 use Rattle.reviver_runner.specs.declared.lives.LivesTally.{LivesTally}
+use Rattle.reviver_runner.specs.declared.message.LifeMessage.{LifeMessage}
 use Rattle.reviver_runner.specs.declared.parts.ReviverParts.{ReviverParts}
 use Rattle.reviver_runner.specs.declared.turns.NextLife.{NextLife}
 use Rattle.reviver_runner.specs.declared.turns.NextLife.TheVariants as nexts
@@ -52,10 +54,10 @@ keeps_drained a b c k to looping room = record {
   ready = record {
     looping = ready_still b.looping c.looping k.ready.looping looping;
     sender = subst IsSender (sym to) k.ready.sender;
-    engine = ap (λ (s : PipeSend). s.peer) to ∙ k.ready.engine;
-    going = ap (λ (s : PipeSend). has_last_event (events_sent s)) to ∙ k.ready.going;
+    engine = ap (λ (s : PipeSend LifeMessage). s.peer) to ∙ k.ready.engine;
+    going = ap (λ (s : PipeSend LifeMessage). has_last_event (events_sent s)) to ∙ k.ready.going;
   };
-  sender = subst (λ (s : PipeSend). KeepsSender a.to s) (sym to) k.sender;
+  sender = subst (λ (s : PipeSend LifeMessage). KeepsSender a.to s) (sym to) k.sender;
   looping = loop_both a.looping b.looping c.looping k.looping looping;
   processes = room ∙ k.processes;
 }

@@ -3,7 +3,7 @@ use Rattle.std.proofs.Common.{◌≡◌, inr, ℕ, suc, List, [], ◌∷◌, ◌
 use Rattle.std.proofs.lemmas.Grind.{flat_map-append}
 use Rattle.std.specs.Io.KnownBytes.{IsAtEnd}
 use Rattle.std.proofs.KnownBytes.{Appends-nil, Appends-trans, Consumes-nil, Consumes-trans}
-use Rattle.line_io.specs.Event.{Event, Engine, EngineLong}
+use Rattle.line_io.specs.Event.{Event, Engine}
 use Rattle.line_io.specs.Source.{Supplied}
 use Rattle.line_io.specs.Causes.{ErrorIsCounted}
 use Rattle.line_io.specs.Lines.{Piece, Whole, Held, ReadGave, Gave, ReaderAdvances, NothingIsLeftAtEnd, SourceGave, lines_to_come, items, empty_reader}
@@ -12,15 +12,13 @@ use Rattle.line_io.specs.Runs.{SourceCalls, Call, reading_goes_on, lines_given, 
 use Rattle.line_io.specs.Runs as runs
 use Rattle.line_io.specs.declared.lines.Item.{Item}
 use Rattle.line_io.specs.declared.faults.ReadFault.{ReadFault}
-use Rattle.event_pipe.specs.declared.message.Peer.{Peer}
-use Rattle.event_pipe.specs.declared.message.Peer.TheVariants as peers
-use Rattle.event_pipe.specs.declared.message.MessageBody.TheVariants as says
 use Rattle.event_pipe.specs.declared.reader.ReadEnd.{ReadEnd}
 use Rattle.event_pipe.specs.declared.reader.ReadEnd.TheVariants as read_ends
 use Rattle.event_pipe.specs.Counts.{CountsFault}
-use Rattle.event_pipe.specs.Message.{sent_event, is_last_event}
-use Rattle.event_pipe.specs.Rule.{has_last_event}
+use Rattle.event_pipe.specs.Message.{is_last_event}
+use Rattle.event_pipe.specs.Events.{has_last_event}
 use Rattle.event_pipe.proofs.Reading.{any_append, at_end_after, counted}
+use Rattle.reviver_runner.specs.Messages.{life_end}
 use Rattle.reviver_runner.specs.declared.reading.ReadingTurn.{ReadingTurn}
 use Rattle.reviver_runner.specs.declared.reading.ReadingTurn.TheVariants as turns
 use Rattle.reviver_runner.specs.Reading.{line_event, line_events, ReadLines, ReadLife, LinesOf, ReadingTurnDone, SoFar}
@@ -149,12 +147,9 @@ read_none s sent = record {
 
 -- A LINE THAT WAS READ
 
-module _ (p : Peer) (old new : Held) (so sn : Supplied) (before now : List Event) (r : Result Item ReadFault) (item : Item) (line : List ℕ) (is : r ≡ Ok item) (gave : outcome (Ok item) ≡ Gave (Whole line)) (on : IsTrue (reading_goes_on (Ok item)))
-    (engine : p ≡ peers.Engine) (going : has_last_event before ≡ false) (adds : now ≡ before ++ sent_event p (says.Line line) ∷ []) (same : CountsFault so.faults sn.faults false)
+module _ (old new : Held) (so sn : Supplied) (before now : List Event) (r : Result Item ReadFault) (item : Item) (line : List ℕ) (is : r ≡ Ok item) (gave : outcome (Ok item) ≡ Gave (Whole line)) (on : IsTrue (reading_goes_on (Ok item)))
+    (going : has_last_event before ≡ false) (adds : now ≡ before ++ Engine line ∷ []) (same : CountsFault so.faults sn.faults false)
     (k : (got : List ℕ) × SourceGave so sn got × ReaderAdvances old new got (outcome r) × NothingIsLeftAtEnd old new sn.left × AnswersWhen old new got r) where
-  line_is : now ≡ before ++ Engine line ∷ []
-  line_is = adds ∙ ap (λ (q : Peer). before ++ sent_event q (says.Line line) ∷ []) engine
-
   pub goes_line : ReadingTurnDone old new so sn before now turns.More
   goes_line = record {
     got = k.0;
@@ -164,8 +159,8 @@ module _ (p : Peer) (old new : Held) (so sn : Supplied) (before now : List Event
     ends_at = k.3;
     sends = (
       subst (λ (x : Result Item ReadFault). IsTrue (reading_goes_on x)) (sym is) on,
-      line_is ∙ ap (λ (x : ReadGave). before ++ line_events (lines_given x)) (sym (ap outcome is ∙ gave)),
-      ap has_last_event line_is ∙ any_append is_last_event before (Engine line ∷ []) ∙ ap (λ b. b || false) going,
+      adds ∙ ap (λ (x : ReadGave). before ++ line_events (lines_given x)) (sym (ap outcome is ∙ gave)),
+      ap has_last_event adds ∙ any_append is_last_event before (Engine line ∷ []) ∙ ap (λ b. b || false) going,
     );
     count = same;
   }
@@ -176,13 +171,12 @@ nothing_sent before now e g = (e ∙ sym (append-nil before), ap has_last_event 
 
 -- A LIFE THAT WAS READ
 
-pub life_read : (p : Peer) (s s' : Supplied) (sent lines now : List Event) (r : ReadEnd) → p ≡ peers.Engine → ReadLines s s' sent lines r → now ≡ lines ++ sent_event p says.Long ∷ [] → ReadLife s s' sent now r
-life_read p s s' sent lines now r e x z = record {
+pub life_read : (s s' : Supplied) (sent lines now : List Event) (r : ReadEnd) → ReadLines s s' sent lines r → now ≡ lines ++ life_end ∷ [] → ReadLife s s' sent now r
+life_read s s' sent lines now r x z = record {
   lines = x.lines;
-  sent_is = z ∙ ap (λ (q : Peer). lines ++ sent_event q says.Long ∷ []) e ∙ ap (λ (l : List Event). l ++ EngineLong ∷ []) x.sent_is ∙ append_assoc sent x.lines (EngineLong ∷ []);
+  sent_is = z ∙ ap (λ (l : List Event). l ++ life_end ∷ []) x.sent_is ∙ append_assoc sent x.lines (life_end ∷ []);
   read = x.read;
 }
 
-pub long_going : (p : Peer) (lines now : List Event) → p ≡ peers.Engine → has_last_event lines ≡ false → now ≡ lines ++ sent_event p says.Long ∷ [] → has_last_event now ≡ false
-long_going p lines now e h z =
-    ap has_last_event (z ∙ ap (λ (q : Peer). lines ++ sent_event q says.Long ∷ []) e) ∙ any_append is_last_event lines (EngineLong ∷ []) ∙ ap (λ b. b || false) h
+pub end_going : (lines now : List Event) → has_last_event lines ≡ false → now ≡ lines ++ life_end ∷ [] → has_last_event now ≡ false
+end_going lines now h z = ap has_last_event z ∙ any_append is_last_event lines (life_end ∷ []) ∙ ap (λ b. b || false) h

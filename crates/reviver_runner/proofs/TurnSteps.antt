@@ -6,12 +6,14 @@ use Rattle.engine_revival.specs.declared.state.RevivalState.{RevivalState}
 use Rattle.engine_revival.specs.Steps.{may_begin, is_alive}
 use Rattle.engine_revival.specs.Script.{state_behind}
 use Rattle.std.specs.VecDeque.{deque_capacity}
-use Rattle.event_pipe.specs.Ends.{KeepsSender, KeepsReceiver, events_sent}
-use Rattle.event_pipe.specs.Rule.{has_last_event}
+use Rattle.event_pipe.specs.Ends.{KeepsSender, KeepsReceiver}
+use Rattle.reviver_runner.specs.Messages.{events_sent}
+use Rattle.event_pipe.specs.Events.{has_last_event}
 use Rattle.event_pipe.specs.declared.pipe.PipeTake.{PipeTake}
 use Rattle.reviver_runner.specs.declared.looping.RevivalLoop.{RevivalLoop}
 use Rattle.reviver_runner.specs.Looped.{KeepsLoop, KeepsMarks}
 use Rattle.reviver_runner.proofs.HearSteps.{ready_still}
+use Rattle.reviver_runner.specs.declared.message.LifeMessage.{LifeMessage}
 use Rattle.reviver_runner.specs.declared.parts.ReviverParts.{ReviverParts}
 use Rattle.reviver_runner.specs.Parts.{ReviverPartsAreReady, ReviverKeepsEnds}
 use Rattle.reviver_runner.specs.Played.{events_for_revival}
@@ -53,7 +55,7 @@ pub keeps_turn : {L P : Type 0} (old new : ReviverParts L P) (mid : RevivalLoop 
     → KeepsMarks mid.marks new.looping.marks → deque_capacity new.processes ≡ deque_capacity old.processes → ReviverKeepsEnds old new
 keeps_turn old new mid ready sender going keeps from marks room =
     let looping : KeepsLoop old.looping new.looping = record {
-      receiving_end = subst (λ (t : PipeTake). KeepsReceiver old.looping.from t) (sym from) keeps.receiving_end;
+      receiving_end = subst (λ (t : PipeTake LifeMessage). KeepsReceiver old.looping.from t) (sym from) keeps.receiving_end;
       marks = record { room = marks.room ∙ keeps.marks.room; log = marks.log ∙ keeps.marks.log };
     } in
     record {

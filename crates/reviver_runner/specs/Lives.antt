@@ -2,7 +2,7 @@
 use Rattle.std.specs.Prelude.{◌≡◌, ℕ, suc, ◌+◌, ◌≤◌, List, [], ◌∷◌, ◌++◌, map}
 use Rattle.std.specs.Prelude.{length, Bool, true, false, ◌||◌, Option, Some}
 use Rattle.std.specs.List.{AllByRecursion, flat_map, list_any}
-use Rattle.line_io.specs.Event.{Event, EngineLong, EngineEnd}
+use Rattle.line_io.specs.Event.{Event, EngineEnd}
 use Rattle.line_io.specs.Source.{Supplied, Received}
 use Rattle.event_pipe.specs.declared.reader.ReadEnd.{ReadEnd}
 use Rattle.event_pipe.specs.Arrivals.{is_read_fault as failed_of}
@@ -20,6 +20,7 @@ use Rattle.program_lifecycle.specs.Readers.{lacked_memory}
 use Rattle.program_lifecycle.specs.declared.offering.LoopEnd.{LoopEnd}
 use Rattle.program_lifecycle.specs.Streams.{Offered}
 use Rattle.program_lifecycle.specs.Took.{LogTook}
+use Rattle.reviver_runner.specs.Messages.{life_end}
 use Rattle.reviver_runner.specs.declared.life.LifeRun.{LifeRun}
 use Rattle.reviver_runner.specs.declared.lives.LivesTally.{LivesTally}
 use Rattle.reviver_runner.specs.declared.turns.NextLife.{NextLife}
@@ -70,9 +71,9 @@ pub record IsLife (says : Option (List ℕ)) (sinks_report : Bool) (l : Life) : 
 abbrev pub AreLives : Option (List ℕ) → Bool → List Life → Type 0
 AreLives says sinks_report lives = AllByRecursion (IsLife says sinks_report) lives
 
--- of each life its lines, and then the mark of its end
+-- of each life its lines, and then its end
 abbrev pub life_events : List Life → List Event
-life_events lives = flat_map (λ l. l.lines ++ EngineLong ∷ []) lives
+life_events lives = flat_map (λ l. l.lines ++ life_end ∷ []) lives
 
 -- what the host is shown of them
 abbrev pub shown_runs_of_lives : List Life → List ShownRun
@@ -156,7 +157,7 @@ LifeFollows s s' next = (s'.lives ≡ s.lives) × (s'.begun ≡ s.begun) × (s'.
 -- the mark that is logged for a life's end
 abbrev pub life_end_mark : {S K : Type 0} → NextLife S K → Event
 life_end_mark (nexts.Refused fault) = EngineEnd
-life_end_mark next = EngineLong
+life_end_mark next = life_end
 
 abbrev pub is_refused : {S K : Type 0} → NextLife S K → Bool
 is_refused (nexts.Refused fault) = true
@@ -207,7 +208,7 @@ pub record LivesOn {S K : Type 0} (source : S → Supplied) (sink : K → Receiv
   pub runs_are : runs' ≡ runs ++ last ∷ []
   pub lines : List Event
   pub end : ReadEnd
-  pub sent_is : sent' ≡ sent ++ (lines ++ EngineLong ∷ [])
+  pub sent_is : sent' ≡ sent ++ (lines ++ life_end ∷ [])
   pub read : LinesOf (source run.source) (source last.source) lines end
   pub broken : Bool
   pub offered : Offered before.failed.engine broken (sink run.sink) (sink last.sink)

@@ -1,11 +1,12 @@
 -- The result of the loop of a life.
 use Rattle.std.specs.Prelude.{◌≡◌, ◌≤◌, ℕ, List, [], ◌∷◌, ◌++◌, Bool, true, false, is_some}
-use Rattle.line_io.specs.Event.{Event, EngineLong}
+use Rattle.line_io.specs.Event.{Event}
 use Rattle.line_io.specs.Source.{Received}
 use Rattle.engine_revival.specs.declared.script.TheConstants.{EVENT_ROOM}
 use Rattle.engine_revival.specs.declared.state.RevivalState.{RevivalState}
 use Rattle.engine_revival.specs.Script.{AllMayHappen, state_behind, texts_from}
-use Rattle.event_pipe.specs.Ends.{IsReceiver, KeepsReceiver, events_taken}
+use Rattle.event_pipe.specs.Ends.{IsReceiver, KeepsReceiver}
+use Rattle.reviver_runner.specs.Messages.{events_taken, life_end}
 use Rattle.program_lifecycle.specs.declared.offering.LoopEnd.{LoopEnd}
 use Rattle.program_lifecycle.specs.Streams.{Sinks, Offered, log_state}
 use Rattle.reviver_runner.specs.declared.looping.MarkedLog.{MarkedLog}
@@ -79,12 +80,11 @@ pub record Going (before after : LoopState) (sink sink' : Received) : Type 0 whe
   pub unended : has_close events ≡ false
   pub played : LifePlayed before after sink sink' (events_for_revival events)
 
--- The loop of a life is over: it took events, and then one Long of the engine, which is the
--- mark of the life's end. The revival heard the events, except the interface's long lines, in
+-- The loop of a life is over: it took events, and then the life's end. The revival heard the events, except the interface's long lines, in
 -- their order, and no others.
 pub record LoopedLife (before after : LoopState) (sink sink' : Received) : Type 0 where
   pub events : List Event
-  pub taken_is : after.events ≡ before.events ++ (events ++ EngineLong ∷ [])
+  pub taken_is : after.events ≡ before.events ++ (events ++ life_end ∷ [])
   pub unended : has_close events ≡ false
   pub played : LifePlayed before after sink sink' (events_for_revival events)
 

@@ -5,8 +5,9 @@ use Rattle.engine_revival.specs.declared.script.TheConstants.{EVENT_ROOM}
 use Rattle.engine_revival.specs.Steps.{opening_revival}
 use Rattle.event_pipe.specs.declared.message.Peer.TheVariants as peers
 use Rattle.event_pipe.specs.Ends.{IsSender, IsFreshSender, IsFreshReceiver}
-use Rattle.event_pipe.specs.Ends.{KeepsSender, AreOne, events_sent}
-use Rattle.event_pipe.specs.Rule.{has_last_event}
+use Rattle.event_pipe.specs.Ends.{KeepsSender, AreOne}
+use Rattle.reviver_runner.specs.Messages.{events_sent}
+use Rattle.event_pipe.specs.Events.{has_last_event}
 use Rattle.reviver_runner.specs.Looped.{IsReadyLoop, KeepsLoop}
 use Rattle.reviver_runner.specs.declared.parts.MadeParts.{MadeParts}
 use Rattle.reviver_runner.specs.declared.parts.ReviverParts.{ReviverParts}

@@ -9,8 +9,8 @@ use Rattle.event_pipe.specs.declared.message.Peer.TheVariants as peers
 use Rattle.event_pipe.specs.declared.reader.ReadEnd.{ReadEnd}
 use Rattle.event_pipe.specs.Arrivals.{Arrived, is_read_fault}
 use Rattle.event_pipe.specs.Counts.{CountsFault}
-use Rattle.event_pipe.specs.Ends.{events_sent, events_taken}
-use Rattle.event_pipe.specs.Rule.{sent_by}
+use Rattle.reviver_runner.specs.Messages.{events_sent, events_taken}
+use Rattle.event_pipe.specs.Events.{sent_by}
 use Rattle.child_engine.specs.Hosts.{Ledger}
 use Rattle.child_engine.specs.declared.host.Faults.{Faults}
 use Rattle.child_engine.specs.declared.host.HostFault.{HostFault}
@@ -25,6 +25,7 @@ use Rattle.program_lifecycle.specs.Outside.{Outside, AreReported, HasNoLog}
 use Rattle.program_lifecycle.specs.declared.failures.Failures.{Failures}
 use Rattle.program_lifecycle.specs.Took.{LogTook}
 use Rattle.reviver_runner.specs.declared.life.LifeRun.{LifeRun}
+use Rattle.reviver_runner.specs.Drained.{InterfaceDrained}
 use Rattle.reviver_runner.specs.Looped.{LoopState}
 use Rattle.reviver_runner.specs.Played.{revival_lines_up, as_long, reported_of, has_refusal}
 use Rattle.reviver_runner.specs.declared.lives.AllRuns.{AllRuns}
@@ -94,6 +95,14 @@ pub record RanLives {S K : Type 0} (source : S → Supplied) (sink : K → Recei
   pub handed : HandsOut before.state.lives (length ended) host.ledger host'.ledger host.counts
       host'.counts refused
   pub asked : StartsEngines arguments host.asked host'.asked host.ledger host'.ledger (is_failed refused)
+
+-- the lives, and then the interface until it has ended
+pub record RanAll {S K : Type 0} (source : S → Supplied) (sink : K → Received)
+    (arguments : List (List ℕ)) (host host' : HostShown) (before after : LoopState) (sent : List Event)
+    (ended : List (LifeRun S K)) (tally : LivesTally) (refused : Option HostFault) : Type 0 where
+  pub last : LoopState
+  pub lives : RanLives source sink arguments host host' before last sent ended tally refused
+  pub drained : InterfaceDrained last after
 
 -- what the readers and the writes to each life came to is reported
 pub record ReviverReportsRun (upper : ReadEnd) (lives : List Life) (failures : Failures) : Type 0 where

@@ -3,7 +3,7 @@ use Rattle.std.specs.Prelude.{◌≡◌, ℕ, List, [], ◌∷◌, ◌++◌, Boo
 use Rattle.std.specs.Prelude.{false, IfSome, Result, IsErr, IsTrue}
 use Rattle.std.specs.List.{flat_map}
 use Rattle.std.specs.Io.KnownBytes.{IsAtEnd}
-use Rattle.line_io.specs.Event.{Event, Engine, EngineLong}
+use Rattle.line_io.specs.Event.{Event, Engine}
 use Rattle.line_io.specs.Source.{Supplied}
 use Rattle.line_io.specs.Lines.{Piece, Whole, TooLong, Held, SourceGave, NothingIsLeftAtEnd, items}
 use Rattle.line_io.specs.Lending.{outcome, is_read_end as is_end_answer}
@@ -14,7 +14,8 @@ use Rattle.event_pipe.specs.declared.reader.ReadEnd.{ReadEnd}
 use Rattle.event_pipe.specs.declared.reader.ReadEnd.TheVariants as read_ends
 use Rattle.event_pipe.specs.Arrivals.{line_limit, is_read_fault}
 use Rattle.event_pipe.specs.Counts.{CountsFault}
-use Rattle.event_pipe.specs.Rule.{has_last_event}
+use Rattle.event_pipe.specs.Events.{has_last_event}
+use Rattle.reviver_runner.specs.Messages.{life_end}
 use Rattle.reviver_runner.specs.declared.reading.ReadingTurn.{ReadingTurn}
 use Rattle.reviver_runner.specs.declared.reading.ReadingTurn.TheVariants as turns
 
@@ -53,10 +54,10 @@ pub record ReadLines (before after : Supplied) (sent now : List Event) (r : Read
   pub sent_is : now ≡ sent ++ lines
   pub read : LinesOf before after lines r
 
--- The lines of a life were sent, and then a Long, which is the mark of its end.
+-- The lines of a life were sent, and then the life's end.
 pub record ReadLife (before after : Supplied) (sent now : List Event) (r : ReadEnd) : Type 0 where
   pub lines : List Event
-  pub sent_is : now ≡ sent ++ (lines ++ EngineLong ∷ [])
+  pub sent_is : now ≡ sent ++ (lines ++ life_end ∷ [])
   pub read : LinesOf before after lines r
 
 -- what a turn has sent, if the call of the reader of lines answered this

@@ -2,12 +2,12 @@
 use Rattle.std.specs.Prelude.{◌≡◌, ℕ, ◌<◌, ◌≤◌, true, false, List, [], ◌∷◌, ◌++◌, map, length, Some}
 use Rattle.std.specs.List.{AllByRecursion, flat_map}
 use Rattle.std.specs.Io.KnownBytes.{Appends}
-use Rattle.line_io.specs.Event.{Event, EngineLong}
+use Rattle.line_io.specs.Event.{Event}
 use Rattle.line_io.specs.Lines.{items}
 use Rattle.event_pipe.specs.declared.message.Peer.TheVariants as peers
 use Rattle.event_pipe.specs.declared.reader.ReadEnd.TheVariants as read_ends
 use Rattle.event_pipe.specs.Arrivals.{Arrived, line_limit}
-use Rattle.event_pipe.specs.Rule.{sent_by}
+use Rattle.event_pipe.specs.Events.{sent_by}
 use Rattle.child_engine.specs.Hosts.{ShownRun, Ledger}
 use Rattle.engine_revival.specs.Script.{AllMayHappen, state_behind, revival_script}
 use Rattle.engine_revival.specs.Steps.{opening_revival}
@@ -15,6 +15,7 @@ use Rattle.engine_revival.specs.Talk.{IsAlwaysLawful}
 use Rattle.program_lifecycle.specs.declared.failures.Failures.{Failures}
 use Rattle.program_lifecycle.specs.Outside.{Outside}
 use Rattle.program_lifecycle.specs.Reporting.{LogHasPrefix}
+use Rattle.reviver_runner.specs.Messages.{life_end}
 use Rattle.reviver_runner.specs.Played.{revival_lines_up, as_long, reported_of, has_refusal}
 use Rattle.reviver_runner.specs.Reading.{line_events}
 use Rattle.reviver_runner.specs.Lives.{Life, to_none, to_lives}
@@ -25,7 +26,7 @@ gave_all bytes text = record { given = Some bytes; left = Some []; taken = Some 
 
 -- the lines of a life that gave all of these bytes, and the mark of its end
 abbrev pub all_lines : List ℕ → List Event
-all_lines bytes = line_events (items line_limit bytes) ++ EngineLong ∷ []
+all_lines bytes = line_events (items line_limit bytes) ++ life_end ∷ []
 
 -- A life gave a prefix of these bytes.
 pub record GavePrefix (bytes : List ℕ) (life : Life) : Type 0 where

@@ -1,23 +1,14 @@
 // After the last life.
 ghost use Rattle.std.specs.Prelude.{◌≡◌, true};
-ghost use Rattle.line_io.specs.Event.{event_of};
 ghost use Rattle.engine_revival.specs.declared.words.LifeState.TheVariants as life;
 ghost use Rattle.reviver_runner.specs.Looped.{IsReadyLoop, KeepsLoop, loop_reports};
-ghost use Rattle.reviver_runner.specs.Played.{is_order};
 ghost use Rattle.reviver_runner.specs.Drained.{InterfaceDrained};
 
-use crate::{RevivalLoop, hear, wait_for_ever};
-use line_io::{Event, NullSink, Sink};
+use crate::{RevivalLoop, hear};
+use line_io::{NullSink, Sink};
 use std::sync::Wait;
 
-// An order or the end of the orders.
-fn is_order(event: &Event) -> bool
-    ensures { result ≡ is_order (event_of event.now) }
-{
-    matches!(event, Event::Iface(_) | Event::IfaceEnd)
-}
-
-// Takes an event of the interface and has the revival hear it.
+// Takes a message, and has the revival hear an order or the end of the orders.
 fn drain_next<O: Sink, L: Sink, R: Wait>(rt: &R, looping: &mut RevivalLoop<L>, output: &mut O)
     requires over { looping.old.revival.state.life ≡ life.Over }
     requires ready { IsReadyLoop looping.old }
@@ -31,20 +22,18 @@ fn drain_next<O: Sink, L: Sink, R: Wait>(rt: &R, looping: &mut RevivalLoop<L>, o
         marks,
         failed,
     } = looping;
-    let sent = from.take(rt);
-    let event = sent.event();
-    if is_order(&event) {
-        let mut nobody = NullSink::new();
-        *failed = hear(revival, &event, &mut nobody, output, marks, *failed);
-        return;
-    }
-    match event {
-        Event::IfaceLong => return,
-        _ => wait_for_ever(rt),
+    let message = from.take(rt);
+    match message.order() {
+        Some(event) => {
+            let mut nobody = NullSink::new();
+            *failed = hear(revival, &event, &mut nobody, output, marks, *failed);
+        }
+        None => {}
     }
 }
 
-/// Has the revival hear the interface until it has ended. No reader of an engine sends any more.
+/// Has the revival hear the interface until it has ended. No reader of an engine sends any more: of
+/// what comes only the orders are heard.
 pub(crate) fn drain<O: Sink, L: Sink, R: Wait>(rt: &R, looping: &mut RevivalLoop<L>, output: &mut O)
     requires over { looping.old.revival.state.life ≡ life.Over }
     requires ready { IsReadyLoop looping.old }

@@ -1,14 +1,15 @@
 // A life: its reader beside its loop.
 ghost use Rattle.std.specs.Prelude.{◌≡◌, true, false};
 ghost use Rattle.engine_revival.specs.Steps.{is_alive};
-ghost use Rattle.event_pipe.specs.Ends.{IsSender, KeepsSender, events_sent};
-ghost use Rattle.event_pipe.specs.Rule.{has_last_event};
+ghost use Rattle.event_pipe.specs.Ends.{IsSender, KeepsSender};
+ghost use Rattle.reviver_runner.specs.Messages.{events_sent};
+ghost use Rattle.event_pipe.specs.Events.{has_last_event};
 ghost use Rattle.event_pipe.specs.declared.message.Peer.TheVariants as peers;
 ghost use Rattle.reviver_runner.specs.Looped.{IsReadyLoop, KeepsLoop, LoopedLife, loop_reports};
 ghost use Rattle.reviver_runner.specs.Reading.{ReadLife};
 
 use crate::looping::life_loop;
-use crate::{RevivalLoop, read_life};
+use crate::{LifeMessage, RevivalLoop, read_life};
 use child_engine::ClosableSink;
 use event_pipe::{PipeSend, ReadEnd};
 use line_io::{Sink, Source};
@@ -36,7 +37,7 @@ pub fn one_life<
     rt: &R,
     alloc: Global,
     looping: &mut RevivalLoop<L>,
-    to: &mut PipeSend,
+    to: &mut PipeSend<LifeMessage>,
     run: &mut LifeRun<S, K>,
     output: &mut O,
 ) -> ReadEnd

@@ -13,13 +13,13 @@ ghost use Rattle.program_lifecycle.specs.Streams.{sinks, log_state};
 ghost use Rattle.reviver_runner.specs.Looped.{IsReadyLoop, KeepsLoop, KeepsMarks, Offers, LoopState, loop_reports, Going, GoesOrEnds, LoopedLife};
 ghost use Rattle.reviver_runner.specs.Played.{event_up, event_child, is_heard};
 
+use crate::LifeMessage;
 use child_engine::ClosableSink;
 use engine_revival::{Revival, RevivalStep, put_marks};
 use event_pipe::PipeTake;
 use line_io::{Event, Out, Sink};
 use program_lifecycle::{LoopEnd, offer, offer_log};
 use std::sync::Wait;
-use std::thread;
 
 /// A log that may be missing, and the room for the marks of an event.
 #[derive(Drop)]
@@ -33,7 +33,7 @@ pub struct MarkedLog<L> {
 #[derive(Drop)]
 pub struct RevivalLoop<L> {
     pub revival: Revival,
-    pub from: PipeTake,
+    pub from: PipeTake<LifeMessage>,
     pub marks: MarkedLog<L>,
     pub failed: LoopEnd,
 }
@@ -119,24 +119,7 @@ fn close_sink_at_quit<K: ClosableSink>(revival: &Revival, child: &mut K)
     }
 }
 
-/// Waits for what never comes.
-pub fn wait_for_ever<R: Wait>(rt: &R)
-    ensures { ⊥ }
-{
-    for _ in rt.forever() {
-        thread::yield_now();
-    }
-    unreachable!()
-}
-
-// An order, the end of the orders, or a line of the present life.
-fn is_heard(event: &Event) -> bool
-    ensures { result ≡ is_heard (event_of event.now) }
-{
-    matches!(event, Event::Iface(_) | Event::IfaceEnd | Event::Engine(_))
-}
-
-// Takes an event and has the revival hear it. It reports whether the life goes on.
+// Takes a message and has the revival hear its event. It reports whether the life goes on.
 fn hear_next<K: ClosableSink, O: Sink, L: Sink, R: Wait>(
     rt: &R,
     looping: &mut RevivalLoop<L>,
@@ -160,26 +143,19 @@ fn hear_next<K: ClosableSink, O: Sink, L: Sink, R: Wait>(
         marks,
         failed,
     } = looping;
-    let sent = from.take(rt);
-    let event = sent.event();
-    if is_heard(&event) {
-        *failed = hear(revival, &event, child, output, marks, *failed);
-        close_sink_at_quit(revival, child);
-        return true;
-    }
-    match event {
-        Event::EngineLong => return false,
-        Event::IfaceLong => return true,
-        _ => {
-            wait_for_ever(rt);
-            return false;
+    let message = from.take(rt);
+    match message.heard() {
+        Some(event) => {
+            *failed = hear(revival, &event, child, output, marks, *failed);
+            close_sink_at_quit(revival, child);
+            true
         }
+        None => !message.is_life_end(),
     }
 }
 
-/// Has the revival hear each event that comes, until a Long of the engine is taken, which is the
-/// mark of the life's end. The interface's long lines are ignored. If the engine's end is
-/// taken, which the reader of a life never sends, it does not return.
+/// Has the revival hear each event that comes, until the life's end is taken. The interface's long
+/// lines are ignored.
 pub(crate) fn life_loop<K: ClosableSink, O: Sink, L: Sink, R: Wait>(
     rt: &R,
     looping: &mut RevivalLoop<L>,

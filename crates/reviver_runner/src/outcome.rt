@@ -3,13 +3,14 @@ ghost use Rattle.std.specs.Prelude.{◌≡◌, ◌≤◌, [], length, map, strin
 ghost use Rattle.std.specs.VecDeque.{deque_len, deque_capacity};
 ghost use Rattle.engine_revival.specs.declared.words.LifeState.TheVariants as life;
 ghost use Rattle.event_pipe.specs.Arrivals.{Arrived};
-ghost use Rattle.event_pipe.specs.Ends.{IsFreshSender, KeepsSender, KeepsReceiver, events_sent};
+ghost use Rattle.event_pipe.specs.Ends.{IsFreshSender, KeepsSender, KeepsReceiver};
+ghost use Rattle.reviver_runner.specs.Messages.{events_sent};
 ghost use Rattle.event_pipe.specs.declared.message.Peer.TheVariants as peers;
 ghost use Rattle.reviver_runner.specs.Looped.{loop_reports};
 ghost use Rattle.program_lifecycle.specs.Streams.{log_state};
 ghost use Rattle.reviver_runner.specs.Lives.{IsBegun, host_shown};
 ghost use Rattle.reviver_runner.specs.Parts.{IsMade, ReviverKeepsEnds};
-ghost use Rattle.reviver_runner.specs.Ran.{MayGo, ReviverMayGoOn, MayRun, HasRun, RanLives};
+ghost use Rattle.reviver_runner.specs.Ran.{MayGo, ReviverMayGoOn, MayRun, HasRun, RanLives, RanAll};
 
 use crate::drain::drain;
 use crate::lives::{AllRuns, LivesTally};
@@ -18,7 +19,7 @@ use crate::starting::ReadyLives;
 use crate::turns::{NextLife, life_turn};
 use crate::{LifeRun, MarkedLog, RevivalLoop};
 use child_engine::{ClosableSink, Host, HostFault};
-use event_pipe::{Pipe, ReadEnd, read_pipe};
+use event_pipe::{Pipe, ReadEnd, read_messages};
 use line_io::{Sink, Source};
 use program_lifecycle::{Interface, LoopEnd};
 use std::alloc::Global;
@@ -102,7 +103,7 @@ where
     ensures kept { is_some parts.new.looping.marks.log ≡ is_some parts.old.looping.marks.log }
     ensures processes { deque_len parts.new.processes ≡ deque_len runs.new.ended }
     ensures quit { parts.new.looping.revival.state.quit ≡ true }
-    ensures ran { RanLives H.EngineSource.state H.EngineSink.state
+    ensures ran { RanAll H.EngineSource.state H.EngineSink.state
         (map string_bytes runs.old.arguments.items)
         (host_shown H.ledger H.faults H.asked host.old)
         (host_shown H.ledger H.faults H.asked host.new)
@@ -143,7 +144,7 @@ where
     ensures kept { is_some parts.new.looping.marks.log ≡ is_some parts.old.looping.marks.log }
     ensures processes { deque_len parts.new.processes ≡ deque_len runs.new.ended }
     ensures quit { parts.new.looping.revival.state.quit ≡ true }
-    ensures ran { RanLives H.EngineSource.state H.EngineSink.state
+    ensures ran { RanAll H.EngineSource.state H.EngineSink.state
         (map string_bytes runs.old.arguments.items)
         (host_shown H.ledger H.faults H.asked host.old)
         (host_shown H.ledger H.faults H.asked host.new)
@@ -156,7 +157,7 @@ where
         rt,
         &mut ||
             requires { IsFreshSender reader.now.iface peers.Iface }
-        { read_pipe(rt, reader.alloc, input, &mut reader.iface) },
+        { read_messages(rt, reader.alloc, input, &mut reader.iface) },
         &mut ||
             requires { MayRun H.EngineSource.state H.EngineSink.state (H.ledger host.now) runs.now
                 × MayGo parts.now.looping.revival.state.lives parts.now }

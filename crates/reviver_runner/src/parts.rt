@@ -2,7 +2,7 @@
 ghost use Rattle.std.specs.Prelude.{IfOk};
 ghost use Rattle.reviver_runner.specs.Parts.{IsMade};
 
-use crate::RevivalLoop;
+use crate::{LifeMessage, RevivalLoop};
 use engine_revival::{EVENT_ROOM, Revival};
 use event_pipe::{Pipe, PipeSend, PipeTake};
 use line_io::{NoMemory, Out};
@@ -14,9 +14,9 @@ use std::collections::VecDeque;
 pub(crate) struct MadeParts {
     pub revival: Revival,
     pub text: Out,
-    pub iface: PipeSend,
-    pub to: PipeSend,
-    pub from: PipeTake,
+    pub iface: PipeSend<LifeMessage>,
+    pub to: PipeSend<LifeMessage>,
+    pub from: PipeTake<LifeMessage>,
 }
 
 /// The means of the lives: where their readers get memory from and send to, what hears them, and
@@ -24,7 +24,7 @@ pub(crate) struct MadeParts {
 #[derive(Drop)]
 pub(crate) struct ReviverParts<L, P> {
     pub alloc: Global,
-    pub to: PipeSend,
+    pub to: PipeSend<LifeMessage>,
     pub looping: RevivalLoop<L>,
     pub processes: VecDeque<P>,
 }
@@ -33,7 +33,7 @@ pub(crate) struct ReviverParts<L, P> {
 #[derive(Drop)]
 pub(crate) struct UpperReader {
     pub alloc: Global,
-    pub iface: PipeSend,
+    pub iface: PipeSend<LifeMessage>,
 }
 
 /// Takes the memory of a run of so many lives.

@@ -1,12 +1,15 @@
-// The reader of a life: it sends the lines of its engine, and a mark of its end.
-ghost use Rattle.std.specs.Prelude.{◌≡◌, ◌++◌, ◌∷◌, [], false};
-ghost use Rattle.event_pipe.specs.Rule.{has_last_event};
-ghost use Rattle.event_pipe.specs.Ends.{IsSender, KeepsSender, events_sent};
+// The reader of a life: it sends the lines of its engine, and the life's end.
+ghost use Rattle.std.specs.Prelude.{◌≡◌, ◌++◌, ◌∷◌, [], false, true};
+ghost use Rattle.event_pipe.specs.Message.{role_of_event, is_good};
+ghost use Rattle.event_pipe.specs.Events.{has_last_event};
+ghost use Rattle.event_pipe.specs.Ends.{IsSender, KeepsSender};
+ghost use Rattle.reviver_runner.specs.Messages.{events_sent, script_event};
 ghost use Rattle.event_pipe.specs.Arrivals.{line_limit};
 ghost use Rattle.event_pipe.specs.declared.message.Peer.TheVariants as peers;
 ghost use Rattle.reviver_runner.specs.Reading.{ReadingTurnDone, ReadLines, ReadLife};
 
-use event_pipe::{Bytes, MessageBody, PipeSend, ReadEnd};
+use crate::LifeMessage;
+use event_pipe::{Bytes, PipeSend, ReadEnd};
 use line_io::{Item, Lines, PEER_LINE, ReadFault, Source, lines_of_all_calls};
 use std::alloc::Global;
 use std::sync::Wait;
@@ -24,13 +27,26 @@ pub enum ReadingTurn {
     NoMemory,
 }
 
+// Sends a message of the present life.
+fn send_event<R: Wait>(rt: &R, to: &mut PipeSend<LifeMessage>, message: LifeMessage)
+    requires sender { IsSender to.old }
+    requires engine { to.old.peer ≡ peers.Engine }
+    requires of_life { role_of_event (script_event message) ≡ 2 }
+    requires going { has_last_event (events_sent to.old) ≡ false }
+    requires good { is_good (script_event message) ≡ true }
+    ensures keeps { KeepsSender to.old to.new }
+    ensures adds { events_sent to.new ≡ events_sent to.old ++ script_event message ∷ [] }
+{
+    to.send(rt, message);
+}
+
 // Reads once at most, and sends the next line if there is one.
 fn read_turn<S: Source, R: Wait>(
     rt: &R,
     alloc: Global,
     lines: &mut Lines,
     source: &mut S,
-    to: &mut PipeSend,
+    to: &mut PipeSend<LifeMessage>,
 ) -> ReadingTurn
     requires sender { IsSender to.old }
     requires engine { to.old.peer ≡ peers.Engine }
@@ -49,7 +65,7 @@ fn read_turn<S: Source, R: Wait>(
             let Ok(bytes) = Bytes::make(alloc, line) else {
                 return ReadingTurn::NoMemory;
             };
-            to.send(rt, MessageBody::Line(bytes));
+            send_event(rt, to, LifeMessage::Line(bytes));
             ReadingTurn::More
         }
     }
@@ -60,7 +76,7 @@ fn read_lines<S: Source, R: Wait>(
     rt: &R,
     alloc: Global,
     source: &mut S,
-    to: &mut PipeSend,
+    to: &mut PipeSend<LifeMessage>,
 ) -> ReadEnd
     requires sender { IsSender to.old }
     requires engine { to.old.peer ≡ peers.Engine }
@@ -85,13 +101,13 @@ fn read_lines<S: Source, R: Wait>(
     unreachable!()
 }
 
-/// Sends each line of a life's source, and a Long as the mark of its end. Lines that are longer
-/// than a line may be are ignored. It sends no End: another life may follow.
+/// Sends each line of a life's source, and then the life's end, behind which another life may follow.
+/// Lines that are longer than a line may be are ignored.
 pub fn read_life<S: Source, R: Wait>(
     rt: &R,
     alloc: Global,
     source: &mut S,
-    to: &mut PipeSend,
+    to: &mut PipeSend<LifeMessage>,
 ) -> ReadEnd
     requires sender { IsSender to.old }
     requires engine { to.old.peer ≡ peers.Engine }
@@ -102,6 +118,6 @@ pub fn read_life<S: Source, R: Wait>(
         (events_sent to.old) (events_sent to.new) result }
 {
     let end = read_lines(rt, alloc, source, to);
-    to.send(rt, MessageBody::Long);
+    send_event(rt, to, LifeMessage::LifeEnd);
     end
 }

@@ -6,7 +6,7 @@ ghost use Rattle.engine_revival.specs.Calls as calls;
 ghost use Rattle.engine_revival.specs.Calls.{may_call, revival_after, up_of, child_of};
 ghost use Rattle.engine_revival.specs.Steps.{is_alive};
 ghost use Rattle.engine_revival.specs.declared.script.TheConstants.{EVENT_ROOM};
-ghost use Rattle.event_pipe.specs.Ends.{events_sent};
+ghost use Rattle.reviver_runner.specs.Messages.{events_sent};
 ghost use Rattle.event_pipe.specs.Message.{is_good};
 ghost use Rattle.program_lifecycle.specs.Asked.{StartsEngines};
 ghost use Rattle.script_lines.specs.StepText.{marks_of_written};

@@ -1,5 +1,4 @@
 mod Splits
-mod Quits
 mod Records
 mod Refused
 mod Logs

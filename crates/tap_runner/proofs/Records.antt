@@ -32,9 +32,9 @@ said_by bytes got last taken failures reads all =
 pub recorded_by : (i : Supplied) (o : Received) (before after : Ledger) (failures : Failures) (last : RunStreams) (end : TapEnd)
     (ran : TapRan (run_streams i (fresh_source before.says) (sinks o (fresh_sink before.sinks_report) (fresh_log before.sinks_report after.logs_out))) last end)
     → TapReportsRun end failures → after.runs ≡ shown_run last.source last.into.engine ∷ [] → after.logs ≡ closed_logs after.logs_out last.into.log
-    → TapRecorded ran.from_bridge.got ran.from_engine.got ran.events before after failures
+    → TapRecorded ran.from_bridge.got ran.from_engine.got ran.messages before after failures
 recorded_by i o before after failures last end ran reported runs logs =
-    let text = log_text ran.events in
+    let text = log_text ran.messages in
     let got = ran.from_engine.got in
     record {
       run = shown_run last.source last.into.engine;
@@ -75,7 +75,7 @@ module _ (Gone : Type 0) (Let : Received → Type 0) (before after : Outside) wh
         output =
             subst (λ (x : List ℕ). Appends before.output.taken after.output.taken x) (sym got_is)
             (subst (λ (o : Received). Appends before.output.taken o.taken up.got) b.output (up.handed.whole (sym b.reported.iface_write)));
-        events = b.ran.events;
+        messages = b.ran.messages;
         from_bridge = down.reported (b.reported.bridge_memory refl);
         from_engine = up.reported (b.reported.engine_memory refl) ∙ ap (channel_marks peers.Engine) (sym got_is);
         log = b.recorded.log sinks_report one refl;

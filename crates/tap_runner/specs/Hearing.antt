@@ -1,13 +1,14 @@
--- The bytes heard of a peer, and the events sent for it.
+-- The bytes heard of a peer, and the messages sent for it.
 use Rattle.std.specs.Prelude.{◌≡◌, ℕ, ◌+◌, List, [], ◌∷◌, ◌++◌, length, drop, Bool, true}
 use Rattle.std.specs.Prelude.{false, if◌then◌else◌, Option, Some, None}
-use Rattle.line_io.specs.Event.{Event, has_feed}
+use Rattle.line_io.specs.Event.{has_feed}
 use Rattle.line_io.specs.Lines.{Piece}
 use Rattle.line_io.specs.Out.{Text}
 use Rattle.event_pipe.specs.declared.message.Peer.{Peer}
-use Rattle.event_pipe.specs.Rule.{has_last_event}
+use Rattle.tap_runner.specs.declared.message.TapMessage.{TapMessage}
+use Rattle.tap_runner.specs.Messages.{has_end_mark}
 use Rattle.tap_runner.specs.Lines.{last_pieces}
-use Rattle.tap_runner.specs.Marks.{tap_line_mark, tap_piece_events, end_event}
+use Rattle.tap_runner.specs.Marks.{tap_line_mark, piece_messages, end_message}
 use Rattle.tap_runner.specs.declared.part.TheConstants.{MARK_ROOM}
 
 -- the open line of a peer, if it is not too long, and whether there was no memory for a mark
@@ -34,21 +35,21 @@ pub record IsTapMark (peer : Peer) (mark : Text) (is_long : Bool) : Type 0 where
   pub no_feed : has_feed (drop 2 mark.text) ≡ false
 
 -- These lines ended, and what goes through the channel for them was sent; another line is open.
-pub record TapHears (old new : Open) (before now : List Event) (pieces : List Piece)
+pub record TapHears (old new : Open) (before now : List TapMessage) (pieces : List Piece)
     (line : Option (List ℕ)) : Type 0 where
   pub peer : new.peer ≡ old.peer
   pub line_is : new.line ≡ line
   -- once a mark had no memory, this is known
   pub lacked : old.has_lacked ≡ true → new.has_lacked ≡ true
-  pub sends : new.has_lacked ≡ false → now ≡ before ++ tap_piece_events old.peer pieces
+  pub sends : new.has_lacked ≡ false → now ≡ before ++ piece_messages old.peer pieces
   -- one for each line, also where there was no memory
   pub count : length now ≡ length before + length pieces
-  pub going : has_last_event now ≡ false
+  pub going : has_end_mark now ≡ false
 
 -- the last line was sent, and the peer's end
-pub record EndsHearing (old new : Open) (before now : List Event) : Type 0 where
+pub record EndsHearing (old new : Open) (before now : List TapMessage) : Type 0 where
   pub lacked : old.has_lacked ≡ true → new.has_lacked ≡ true
   pub sends : new.has_lacked ≡ false
-      → now ≡ before ++ tap_piece_events old.peer (last_pieces old.line) ++ end_event old.peer ∷ []
+      → now ≡ before ++ piece_messages old.peer (last_pieces old.line) ++ end_message old.peer ∷ []
   pub count : length now ≡ length before + length (last_pieces old.line) + 1
-  pub over : has_last_event now ≡ true
+  pub over : has_end_mark now ≡ true

@@ -13,4 +13,4 @@ TapLogIsNotEmpty = (bytes : List ℕ) (before after : Outside) → TapRunIsWhole
 abbrev pub TapLogIsNotLonger : Type 0
 TapLogIsNotLonger = (bytes : List ℕ) (before after : Outside) (run : TapRunIsWhole bytes before after)
     (byte : ℕ) (more : List ℕ)
-    → after.ledger.logs ≡ Some (log_text run.events ++ byte ∷ more) ∷ [] → ⊥
+    → after.ledger.logs ≡ Some (log_text run.messages ++ byte ∷ more) ∷ [] → ⊥

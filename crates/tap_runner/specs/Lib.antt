@@ -1,3 +1,4 @@
+pub mod Messages
 pub mod Lines
 pub mod Marks
 pub mod Hearing

@@ -1,23 +1,23 @@
 -- One direction of a run.
 use Rattle.std.specs.Prelude.{◌≡◌, ℕ, List, [], length, Bool, true, false, Some, IfSome}
 use Rattle.std.specs.Io.KnownBytes.{IsAtEnd}
-use Rattle.line_io.specs.Event.{Event}
 use Rattle.line_io.specs.Source.{Supplied, Received}
 use Rattle.line_io.specs.Lines.{SourceGave}
 use Rattle.event_pipe.specs.declared.message.Peer.{Peer}
 use Rattle.event_pipe.specs.Counts.{CountsFault}
-use Rattle.event_pipe.specs.Rule.{has_last_event}
+use Rattle.tap_runner.specs.declared.message.TapMessage.{TapMessage}
+use Rattle.tap_runner.specs.Messages.{has_end_mark}
 use Rattle.program_lifecycle.specs.Took.{LogTook}
 use Rattle.tap_runner.specs.declared.passing.PassingTurn.{PassingTurn}
 use Rattle.tap_runner.specs.declared.passing.PassingTurn.TheVariants as turns
 use Rattle.tap_runner.specs.declared.passing.PassEnd.{PassEnd}
 use Rattle.tap_runner.specs.Lines.{lines_ended_by, line_after}
-use Rattle.tap_runner.specs.Marks.{tap_piece_events, channel_marks}
+use Rattle.tap_runner.specs.Marks.{piece_messages, channel_marks}
 use Rattle.tap_runner.specs.Hearing.{Open, TapHears}
 
 -- The work of one direction of a run.
 pub record Passed (peer : Peer) (source source' : Supplied) (sink sink' : Received)
-    (sent : List Event) (end : PassEnd) : Type 0 where
+    (sent : List TapMessage) (end : PassEnd) : Type 0 where
   -- these bytes were read
   pub got : List ℕ
   pub reads : SourceGave source source' got
@@ -31,7 +31,7 @@ pub record Passed (peer : Peer) (source source' : Supplied) (sink sink' : Receiv
   pub reported : end.has_lacked_memory ≡ false → sent ≡ channel_marks peer got
   -- one mark for each, also where there was no memory
   pub count : length sent ≡ length (channel_marks peer got)
-  pub over : has_last_event sent ≡ true
+  pub over : has_end_mark sent ≡ true
 
 abbrev pub is_last_turn : PassingTurn → Bool
 is_last_turn turns.More = false
@@ -47,7 +47,7 @@ has_failed_to_write turn = false
 
 -- what one turn did
 pub record Turned (old new : Open) (source source' : Supplied) (sink sink' : Received)
-    (before now : List Event) (turn : PassingTurn) : Type 0 where
+    (before now : List TapMessage) (turn : PassingTurn) : Type 0 where
   pub got : List ℕ
   pub reads : SourceGave source source' got
   pub read_count : CountsFault source.faults source'.faults (has_failed_to_read turn)
@@ -57,13 +57,13 @@ pub record Turned (old new : Open) (source source' : Supplied) (sink sink' : Rec
 
 -- so far
 pub record Passing (peer : Peer) (part : Open) (source source' : Supplied) (sink sink' : Received)
-    (sent : List Event) : Type 0 where
+    (sent : List TapMessage) : Type 0 where
   pub got : List ℕ
   pub reads : SourceGave source source' got
   pub handed : LogTook got false sink sink'
   pub same : source'.faults ≡ source.faults
   pub peer_is : part.peer ≡ peer
   pub line_is : part.line ≡ line_after (Some []) got
-  pub reported : part.has_lacked ≡ false → sent ≡ tap_piece_events peer (lines_ended_by (Some []) got)
+  pub reported : part.has_lacked ≡ false → sent ≡ piece_messages peer (lines_ended_by (Some []) got)
   pub count : length sent ≡ length (lines_ended_by (Some []) got)
-  pub going : has_last_event sent ≡ false
+  pub going : has_end_mark sent ≡ false

@@ -42,7 +42,7 @@ pub record Tapped (OutputGone : Type 0) (EngineGone : Received → Type 0) (befo
   pub output : last.into.output ≡ after.output
   pub run_reported : after.ledger.runs ≡ shown_run last.source last.into.engine ∷ []
   pub shown_logs : after.ledger.logs ≡ closed_logs after.ledger.logs_out last.into.log
-  pub recorded : TapRecorded ran.from_bridge.got ran.from_engine.got ran.events
+  pub recorded : TapRecorded ran.from_bridge.got ran.from_engine.got ran.messages
       before.ledger after.ledger failures
   -- the ends were handed on
   pub output_gone : OutputGone

@@ -5,6 +5,7 @@
 mod laws;
 mod logging;
 mod main_call;
+mod message;
 mod part;
 mod parts;
 mod passing;
@@ -14,6 +15,7 @@ mod tap;
 pub use laws::logs_are_whole;
 pub use logging::{LOG_ROOM, keep_log};
 pub use main_call::{refuse_for_memory, tap_main};
+pub use message::{TapMark, TapMessage};
 pub use part::OpenLine;
 pub use parts::TapParts;
 pub use passing::{Direction, PassEnd, hand_on};

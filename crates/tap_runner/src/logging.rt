@@ -1,16 +1,16 @@
 // The log: what goes through the channel, in the order in which it comes.
 ghost use Rattle.std.specs.Prelude.{◌≡◌, ◌≤◌, ◌&&◌, ◌++◌, ◌∷◌, ◌+◌, [], length, is_some};
-ghost use Rattle.line_io.specs.Event.{event_of};
-ghost use Rattle.event_pipe.specs.Ends.{IsFreshReceiver, KeepsReceiver, events_taken};
+ghost use Rattle.event_pipe.specs.Ends.{IsFreshReceiver, KeepsReceiver, messages_taken};
 ghost use Rattle.program_lifecycle.specs.Streams.{log_state, Offered};
-ghost use Rattle.tap_runner.specs.Marks.{log_of_event};
+ghost use Rattle.tap_runner.specs.Marks.{log_of_message};
 ghost use Rattle.tap_runner.specs.Logging.{Logged, tap_ends_after, mark_length};
 ghost use Rattle.line_io.specs.Lines.{line_feed};
 ghost use Rattle.tap_runner.specs.declared.part.TheConstants.{MARK_ROOM};
 ghost use Rattle.tap_runner.specs.declared.logging.TheConstants.{LOG_ROOM};
 
-use event_pipe::PipeTake;
-use line_io::{Event, Out, PEER_LINE, Sink};
+use crate::{TapMark, TapMessage};
+use event_pipe::{Peer, PipeTake};
+use line_io::{Out, PEER_LINE, Sink};
 use program_lifecycle::offer_log;
 use std::sync::Wait;
 
@@ -25,16 +25,16 @@ pub struct EndedSides {
 }
 
 impl EndedSides {
-    // The same after an event.
-    fn after(self, event: &Event) -> EndedSides
-        ensures { result ≡ tap_ends_after self (event_of event.now) }
+    // The same after a message.
+    fn after(self, message: &TapMessage) -> EndedSides
+        ensures { result ≡ tap_ends_after self message.now }
     {
-        match event {
-            Event::IfaceEnd => EndedSides {
+        match (message.peer, &message.mark) {
+            (Peer::Iface, TapMark::End) => EndedSides {
                 bridge: true,
                 engine: self.engine,
             },
-            Event::EngineEnd => EndedSides {
+            (Peer::Engine, TapMark::End) => EndedSides {
                 bridge: self.bridge,
                 engine: true,
             },
@@ -60,35 +60,38 @@ fn put_mark(text: &mut Out, mark: &[u8])
     text.put(b"\n");
 }
 
-// The log's text for an event.
-fn put_logged(text: &mut Out, event: &Event)
-    requires short { mark_length (event_of event.now) ≤ MARK_ROOM }
+// The log's text for a message.
+fn put_logged(text: &mut Out, message: &TapMessage)
+    requires short { mark_length message.now.mark ≤ MARK_ROOM }
     requires room { LOG_ROOM ≤ text.old.room }
-    ensures text { text.new.text ≡ log_of_event (event_of event.now) }
+    ensures text { text.new.text ≡ log_of_message message.now }
     ensures room { text.new.room ≡ text.old.room }
 {
     text.clear();
-    match event {
-        Event::Iface(mark) => put_mark(text, mark),
-        Event::IfaceLong => text.put(b"x!\n"),
-        Event::IfaceEnd => text.put(b"x.\n"),
-        Event::Engine(mark) => put_mark(text, mark),
-        Event::EngineLong => text.put(b"u!\n"),
-        Event::EngineEnd => text.put(b"u.\n"),
-        _ => {}
+    match (message.peer, &message.mark) {
+        (_, TapMark::Line(mark)) => put_mark(text, mark.bytes()),
+        (Peer::Iface, TapMark::Long) => text.put(b"x!\n"),
+        (Peer::Iface, TapMark::End) => text.put(b"x.\n"),
+        (Peer::Engine, TapMark::Long) => text.put(b"u!\n"),
+        (Peer::Engine, TapMark::End) => text.put(b"u.\n"),
     }
 }
 
-// Offers the log what stands in it for an event.
-fn log_event<L: Sink>(log: &mut Option<L>, event: &Event, text: &mut Out, failed: bool) -> bool
-    requires short { mark_length (event_of event.now) ≤ MARK_ROOM }
+// Offers the log what stands in it for a message.
+fn log_message<L: Sink>(
+    log: &mut Option<L>,
+    message: &TapMessage,
+    text: &mut Out,
+    failed: bool,
+) -> bool
+    requires short { mark_length message.now.mark ≤ MARK_ROOM }
     requires room { LOG_ROOM ≤ text.old.room }
     ensures offered { Offered failed result (log_state L.state log.old)
-        (log_state L.state log.new) (log_of_event (event_of event.now)) }
+        (log_state L.state log.new) (log_of_message message.now) }
     ensures kept { is_some log.new ≡ is_some log.old }
     ensures room { text.new.room ≡ text.old.room }
 {
-    put_logged(text, event);
+    put_logged(text, message);
     offer_log(log, text.bytes(), failed)
 }
 
@@ -96,7 +99,7 @@ fn log_event<L: Sink>(log: &mut Option<L>, event: &Event, text: &mut Out, failed
 /// whether that failed.
 pub fn keep_log<L: Sink, R: Wait>(
     rt: &R,
-    from: &mut PipeTake,
+    from: &mut PipeTake<TapMessage>,
     log: &mut Option<L>,
     text: &mut Out,
 ) -> bool
@@ -104,7 +107,7 @@ pub fn keep_log<L: Sink, R: Wait>(
     requires room { LOG_ROOM ≤ text.old.room }
     ensures receiving_end { KeepsReceiver from.old from.new }
     ensures kept { is_some log.new ≡ is_some log.old }
-    ensures logged { Logged (events_taken from.new)
+    ensures logged { Logged (messages_taken from.new)
         (log_state L.state log.old) (log_state L.state log.new) result }
 {
     let mut failed = false;
@@ -116,10 +119,9 @@ pub fn keep_log<L: Sink, R: Wait>(
         if ends.have_both_come() {
             return failed;
         }
-        let sent = from.take(rt);
-        let event = sent.event();
-        ends = ends.after(&event);
-        failed = log_event(log, &event, text, failed);
+        let message = from.take(rt);
+        ends = ends.after(&message);
+        failed = log_message(log, &message, text, failed);
     }
     unreachable!()
 }

@@ -1,12 +1,13 @@
 // The line of a peer that has not ended yet, as a mark.
 ghost use Rattle.std.specs.Prelude.{◌≡◌, ◌≢◌, ◌++◌, ◌∷◌, [], ◌||◌, not, Some, true, false, IfOk};
-ghost use Rattle.event_pipe.specs.Ends.{IsSender, KeepsSender, events_sent};
-ghost use Rattle.event_pipe.specs.Rule.{has_last_event};
+ghost use Rattle.event_pipe.specs.Ends.{IsSender, KeepsSender, messages_sent};
+ghost use Rattle.tap_runner.specs.Messages.{has_end_mark};
 ghost use Rattle.tap_runner.specs.Lines.{with_byte, piece_in, last_pieces};
-ghost use Rattle.tap_runner.specs.Marks.{tap_piece_event, tap_piece_events};
+ghost use Rattle.tap_runner.specs.Marks.{piece_message, piece_messages};
 ghost use Rattle.tap_runner.specs.Hearing.{Open, no_open_line, TapHears};
 
-use event_pipe::{Bytes, MessageBody, Peer, PipeSend};
+use crate::{TapMark, TapMessage};
+use event_pipe::{Bytes, Peer, PipeSend};
 use line_io::{NoMemory, Out, PEER_LINE};
 use std::alloc::Global;
 use std::marker::Model;
@@ -92,22 +93,41 @@ impl OpenLine {
     }
 
     // Sends its mark. One that is too long, or for which there is no memory, is sent as long.
-    fn send<R: Wait>(&mut self, rt: &R, alloc: Global, to: &mut PipeSend)
+    fn send<R: Wait>(&mut self, rt: &R, alloc: Global, to: &mut PipeSend<TapMessage>)
         requires sender { IsSender to.old }
         requires peer { to.old.peer ≡ self.old.peer }
-        requires going { has_last_event (events_sent to.old) ≡ false }
+        requires going { has_end_mark (messages_sent to.old) ≡ false }
         ensures keeps { KeepsSender to.old to.new }
-        ensures hears { TapHears self.old self.new (events_sent to.old) (events_sent to.new)
+        ensures hears { TapHears self.old self.new (messages_sent to.old) (messages_sent to.new)
             (piece_in self.old.line ∷ []) (Some []) }
     {
+        let peer = self.peer;
         if self.is_long {
-            to.send(rt, MessageBody::Long);
+            to.send(
+                rt,
+                TapMessage {
+                    peer,
+                    mark: TapMark::Long,
+                },
+            );
         } else {
             match Bytes::make(alloc, self.mark.bytes()) {
-                Ok(mark) => to.send(rt, MessageBody::Line(mark)),
+                Ok(line) => to.send(
+                    rt,
+                    TapMessage {
+                        peer,
+                        mark: TapMark::Line(line),
+                    },
+                ),
                 Err(_) => {
                     self.has_lacked = true;
-                    to.send(rt, MessageBody::Long);
+                    to.send(
+                        rt,
+                        TapMessage {
+                            peer,
+                            mark: TapMark::Long,
+                        },
+                    );
                 }
             }
         }
@@ -115,12 +135,12 @@ impl OpenLine {
     }
 
     // Hears a byte.
-    fn take<R: Wait>(&mut self, rt: &R, alloc: Global, byte: u8, to: &mut PipeSend)
+    fn take<R: Wait>(&mut self, rt: &R, alloc: Global, byte: u8, to: &mut PipeSend<TapMessage>)
         requires sender { IsSender to.old }
         requires peer { to.old.peer ≡ self.old.peer }
-        requires going { has_last_event (events_sent to.old) ≡ false }
+        requires going { has_end_mark (messages_sent to.old) ≡ false }
         ensures keeps { KeepsSender to.old to.new }
-        ensures hears { TapHears self.old self.new (events_sent to.old) (events_sent to.new)
+        ensures hears { TapHears self.old self.new (messages_sent to.old) (messages_sent to.new)
             (lines_ended_by self.old.line (byte ∷ [])) (line_after self.old.line (byte ∷ [])) }
     {
         if byte == b'\n' {
@@ -131,12 +151,18 @@ impl OpenLine {
     }
 
     /// Hears bytes of its peer, and sends the mark of each line that they end.
-    pub fn hear<R: Wait>(&mut self, rt: &R, alloc: Global, bytes: &[u8], to: &mut PipeSend)
+    pub fn hear<R: Wait>(
+        &mut self,
+        rt: &R,
+        alloc: Global,
+        bytes: &[u8],
+        to: &mut PipeSend<TapMessage>,
+    )
         requires sender { IsSender to.old }
         requires peer { to.old.peer ≡ self.old.peer }
-        requires going { has_last_event (events_sent to.old) ≡ false }
+        requires going { has_end_mark (messages_sent to.old) ≡ false }
         ensures keeps { KeepsSender to.old to.new }
-        ensures hears { TapHears self.old self.new (events_sent to.old) (events_sent to.new)
+        ensures hears { TapHears self.old self.new (messages_sent to.old) (messages_sent to.new)
             (lines_ended_by self.old.line bytes.now) (line_after self.old.line bytes.now) }
     {
         for byte in bytes {
@@ -145,17 +171,24 @@ impl OpenLine {
     }
 
     /// Sends the mark of a last line that no line feed ends, and then the end of its peer.
-    pub fn end<R: Wait>(&mut self, rt: &R, alloc: Global, to: &mut PipeSend)
+    pub fn end<R: Wait>(&mut self, rt: &R, alloc: Global, to: &mut PipeSend<TapMessage>)
         requires sender { IsSender to.old }
         requires peer { to.old.peer ≡ self.old.peer }
-        requires going { has_last_event (events_sent to.old) ≡ false }
+        requires going { has_end_mark (messages_sent to.old) ≡ false }
         ensures keeps { KeepsSender to.old to.new }
-        ensures ends { EndsHearing self.old self.new (events_sent to.old) (events_sent to.new) }
+        ensures ends { EndsHearing self.old self.new (messages_sent to.old) (messages_sent to.new) }
     {
         if self.is_long || self.mark.bytes().len() > 2 {
             self.send(rt, alloc, to);
         }
-        to.send(rt, MessageBody::End);
+        let peer = self.peer;
+        to.send(
+            rt,
+            TapMessage {
+                peer,
+                mark: TapMark::End,
+            },
+        );
     }
 }
 

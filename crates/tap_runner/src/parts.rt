@@ -5,7 +5,7 @@ ghost use Rattle.event_pipe.specs.Ends.{IsFreshSender};
 ghost use Rattle.tap_runner.specs.Ran.{IsReadyWay};
 ghost use Rattle.tap_runner.specs.Parts.{TapPartsAreReady};
 
-use crate::{Direction, LOG_ROOM, OpenLine};
+use crate::{Direction, LOG_ROOM, OpenLine, TapMessage};
 use event_pipe::{Peer, Pipe, PipeSend, PipeTake};
 use line_io::{NoMemory, Out};
 use std::alloc::Global;
@@ -18,12 +18,12 @@ const READ_ROOM: usize = 65_536;
 pub struct TapParts {
     pub down: Direction,
     pub up: Direction,
-    pub receiving_end: PipeTake,
+    pub receiving_end: PipeTake<TapMessage>,
     pub text: Out,
 }
 
 // The parts that a direction needs whose marks go here.
-fn make_way(alloc: Global, peer: Peer, to: PipeSend) -> Result<Direction, NoMemory>
+fn make_way(alloc: Global, peer: Peer, to: PipeSend<TapMessage>) -> Result<Direction, NoMemory>
     requires { IsFreshSender to peer }
     ensures way { IfOk result (λ way. IsReadyWay way peer) }
     ensures to { IfOk result (λ way. way.to ≡ to) }

@@ -1,11 +1,11 @@
 // One direction: what a source gives is handed on to a sink.
 ghost use Rattle.std.specs.Prelude.{◌≡◌, ◌<◌, [], false, vec_len};
-ghost use Rattle.event_pipe.specs.Ends.{IsSender, KeepsSender, events_sent};
-ghost use Rattle.event_pipe.specs.Rule.{has_last_event};
+ghost use Rattle.event_pipe.specs.Ends.{IsSender, KeepsSender, messages_sent};
+ghost use Rattle.tap_runner.specs.Messages.{has_end_mark};
 ghost use Rattle.tap_runner.specs.Hearing.{EndsHearing, no_open_line};
 ghost use Rattle.tap_runner.specs.Passing.{Turned, Passed, is_last_turn, has_failed_to_read, has_failed_to_write};
 
-use crate::OpenLine;
+use crate::{OpenLine, TapMessage};
 use child_engine::ClosableSink;
 use event_pipe::PipeSend;
 use line_io::{Sink, Source};
@@ -17,7 +17,7 @@ use std::sync::Wait;
 /// is read at a time.
 #[derive(Drop)]
 pub struct Direction {
-    pub to: PipeSend,
+    pub to: PipeSend<TapMessage>,
     pub part: OpenLine,
     pub buf: Vec<u8>,
 }
@@ -71,12 +71,12 @@ fn pass_turn<S: Source, K: Sink, R: Wait>(
     requires room { 0 < vec_len way.old.buf }
     requires sender { IsSender way.old.to }
     requires peer { way.old.to.peer ≡ way.old.part.peer }
-    requires going { has_last_event (events_sent way.old.to) ≡ false }
+    requires going { has_end_mark (messages_sent way.old.to) ≡ false }
     ensures room { vec_len way.new.buf ≡ vec_len way.old.buf }
     ensures keeps { KeepsSender way.old.to way.new.to }
     ensures turned { Turned way.old.part way.new.part (S.state source.old) (S.state source.new)
-        (K.state sink.old) (K.state sink.new) (events_sent way.old.to)
-        (events_sent way.new.to) result }
+        (K.state sink.old) (K.state sink.new) (messages_sent way.old.to)
+        (messages_sent way.new.to) result }
 {
     let Direction { to, part, buf } = way;
     match source.read(buf.as_mut_slice()) {
@@ -99,10 +99,10 @@ fn pass_turn<S: Source, K: Sink, R: Wait>(
 fn end_pass<K: ClosableSink, R: Wait>(rt: &R, alloc: Global, sink: &mut K, way: &mut Direction)
     requires sender { IsSender way.old.to }
     requires peer { way.old.to.peer ≡ way.old.part.peer }
-    requires going { has_last_event (events_sent way.old.to) ≡ false }
+    requires going { has_end_mark (messages_sent way.old.to) ≡ false }
     ensures keeps { KeepsSender way.old.to way.new.to }
-    ensures ends { EndsHearing way.old.part way.new.part (events_sent way.old.to)
-        (events_sent way.new.to) }
+    ensures ends { EndsHearing way.old.part way.new.part (messages_sent way.old.to)
+        (messages_sent way.new.to) }
     ensures shown { K.state sink.new ≡ K.state sink.old }
     ensures gone { K.is_sink_closed sink.new }
 {
@@ -123,10 +123,10 @@ pub fn hand_on<S: Source, K: ClosableSink, R: Wait>(
     requires room { 0 < vec_len way.old.buf }
     requires sender { IsSender way.old.to }
     requires part { way.old.part ≡ no_open_line way.old.to.peer }
-    requires unsent { events_sent way.old.to ≡ [] }
+    requires unsent { messages_sent way.old.to ≡ [] }
     ensures keeps { KeepsSender way.old.to way.new.to }
     ensures passed { Passed way.old.to.peer (S.state source.old) (S.state source.new)
-        (K.state sink.old) (K.state sink.new) (events_sent way.new.to) result }
+        (K.state sink.old) (K.state sink.new) (messages_sent way.new.to) result }
     ensures gone { K.is_sink_closed sink.new }
 {
     for _ in rt.forever() {

@@ -1,6 +1,6 @@
 // Both directions beside the log.
 ghost use Rattle.std.specs.Prelude.{◌≡◌, ◌≤◌, is_some};
-ghost use Rattle.event_pipe.specs.Ends.{IsFreshReceiver, events_taken, events_sent};
+ghost use Rattle.event_pipe.specs.Ends.{IsFreshReceiver, messages_taken, messages_sent};
 ghost use Rattle.event_pipe.specs.declared.message.Peer.TheVariants as peers;
 ghost use Rattle.program_lifecycle.specs.Streams.{log_state, streams_of};
 ghost use Rattle.tap_runner.specs.Logging.{Logged};
@@ -46,15 +46,15 @@ fn run_beside<
     ensures from_bridge { Passed peers.Iface
         (I.state interface.old.input) (I.state interface.new.input)
         (E.state handed.old.engine) (E.state handed.new.engine)
-        (events_sent parts.new.down.to) result.bridge }
+        (messages_sent parts.new.down.to) result.bridge }
     ensures from_engine { Passed peers.Engine
         (S.state handed.old.source) (S.state handed.new.source)
         (O.state interface.old.output) (O.state interface.new.output)
-        (events_sent parts.new.up.to) result.engine }
+        (messages_sent parts.new.up.to) result.engine }
     ensures output_gone { O.is_sink_closed interface.new.output }
     ensures engine_gone { E.is_sink_closed handed.new.engine }
     ensures kept { is_some handed.new.log ≡ is_some handed.old.log }
-    ensures logged { Logged (events_taken parts.new.receiving_end)
+    ensures logged { Logged (messages_taken parts.new.receiving_end)
         (log_state L.state handed.old.log) (log_state L.state handed.new.log) result.log_failed }
 {
     let TapParts {

@@ -11,7 +11,7 @@ use Rattle.clap.specs.Words.{Row}
 use Rattle.event_pipe.specs.declared.message.Peer.TheVariants as peers
 use Rattle.event_pipe.specs.Arrivals.{line_limit, piece_event}
 use Rattle.event_pipe.specs.Message.{is_last_event}
-use Rattle.event_pipe.specs.Rule.{has_last_event}
+use Rattle.event_pipe.specs.Events.{has_last_event}
 use Rattle.line_io.specs.Event.{has_feed}
 use Rattle.line_io.specs.Lines.{Whole, TooLong, is_feed, parts_by_feed, piece_of, line_feed}
 use Rattle.event_loop.specs.First.{AreOpening, first_events}

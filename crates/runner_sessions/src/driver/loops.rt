@@ -1,6 +1,6 @@
 // The loop and both pipes over sources and sinks in memory.
 ghost use Rattle.std.specs.Prelude.{◌≡◌, []};
-ghost use Rattle.event_pipe.specs.Ends.{IsSender, IsFreshReceiver, events_sent};
+ghost use Rattle.event_pipe.specs.Ends.{IsSender, IsFreshReceiver, messages_sent};
 ghost use Rattle.event_loop.specs.Ran.{MediatorIsReady};
 ghost use Rattle.driver_runner.specs.Drives.{driving_meaning};
 ghost use Rattle.runner_sessions.specs.Ready.{IsLogReady};
@@ -69,7 +69,7 @@ fn make_sinks(rt: &impl Abort, alloc: Global) -> Sinks {
 // Puts these lines into the channel.
 fn read_lines<R: Wait + Abort>(rt: &R, alloc: Global, lines: &[u8], to: PipeSend)
     requires sender { IsSender to }
-    requires fresh { events_sent to ≡ [] }
+    requires fresh { messages_sent to ≡ [] }
 {
     let mut to = to;
     let mut input = source(rt, alloc, lines, 7_000, &[]);

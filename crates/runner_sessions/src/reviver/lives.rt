@@ -2,34 +2,51 @@
 ghost use Rattle.std.specs.Prelude.{◌≡◌, ◌≤◌, [], true, false};
 ghost use Rattle.engine_revival.specs.Steps.{is_alive};
 ghost use Rattle.engine_revival.specs.declared.script.TheConstants.{EVENT_ROOM};
-ghost use Rattle.event_pipe.specs.Ends.{IsSender, IsReceiver, KeepsSender, KeepsReceiver, events_sent};
-ghost use Rattle.event_pipe.specs.Rule.{has_last_event};
+ghost use Rattle.event_pipe.specs.Ends.{IsSender, IsReceiver, KeepsSender, KeepsReceiver, messages_sent};
+ghost use Rattle.reviver_runner.specs.Messages.{events_sent};
+ghost use Rattle.event_pipe.specs.Events.{has_last_event};
 ghost use Rattle.event_pipe.specs.declared.message.Peer.TheVariants as peers;
 ghost use Rattle.reviver_runner.specs.Looped.{IsReadyLoop, KeepsLoop};
 
 use crate::expected::{expect_bytes, expect_true};
 use crate::streams::{letters_before, sink, source};
 use engine_revival::{EVENT_ROOM, Revival};
-use event_pipe::{Pipe, PipeSend, PipeTake, ReadEnd, read_pipe};
-use line_io::{Event, MemSink, MemSource, Out};
+use event_pipe::{Pipe, PipeSend, PipeTake, ReadEnd, read_messages};
+use line_io::{MemSink, MemSource, Out};
 use program_lifecycle::LoopEnd;
-use reviver_runner::{LifeRun, MarkedLog, RevivalLoop, one_life, read_life};
+use reviver_runner::{LifeMessage, LifeRun, MarkedLog, RevivalLoop, one_life, read_life};
 use std::alloc::Global;
 use std::process::Abort;
 use std::sync::Wait;
 use std::thread::Threads;
 
-// Expects that this event is the next in the channel.
-fn expect_event<R: Wait + Abort>(rt: &R, from: &mut PipeTake, wanted: &Event)
+fn is_line(message: &LifeMessage, line: &[u8]) -> bool {
+    match message {
+        LifeMessage::Line(bytes) => bytes.bytes() == line,
+        _ => false,
+    }
+}
+
+// Expects that this line is the next in the channel.
+fn expect_line<R: Wait + Abort>(rt: &R, from: &mut PipeTake<LifeMessage>, line: &[u8])
     requires { IsReceiver from.old }
     ensures { KeepsReceiver from.old from.new }
 {
-    let sent = from.take(rt);
-    expect_true(rt, "an event", sent.event() == *wanted);
+    let message = from.take(rt);
+    expect_true(rt, "a line", is_line(&message, line));
+}
+
+// Expects that a life's end is the next in the channel.
+fn expect_end<R: Wait + Abort>(rt: &R, from: &mut PipeTake<LifeMessage>)
+    requires { IsReceiver from.old }
+    ensures { KeepsReceiver from.old from.new }
+{
+    let message = from.take(rt);
+    expect_true(rt, "the end", matches!(message, LifeMessage::LifeEnd));
 }
 
 // Reads a line of 65,537 bytes, a short one and one with no end.
-fn expect_lines<R: Wait + Abort>(rt: &R, alloc: Global, to: &mut PipeSend)
+fn expect_lines<R: Wait + Abort>(rt: &R, alloc: Global, to: &mut PipeSend<LifeMessage>)
     requires sender { IsSender to.old }
     requires engine { to.old.peer ≡ peers.Engine }
     requires going { has_last_event (events_sent to.old) ≡ false }
@@ -49,9 +66,9 @@ fn a_life_is_read_to_its_end(rt: HostRuntime) {
         "memory for the channel",
     );
     expect_lines(&rt, alloc, &mut child);
-    expect_event(&rt, &mut receiving_end, &Event::Engine(b"uciok"));
-    expect_event(&rt, &mut receiving_end, &Event::Engine(b"best"));
-    expect_event(&rt, &mut receiving_end, &Event::EngineLong);
+    expect_line(&rt, &mut receiving_end, b"uciok");
+    expect_line(&rt, &mut receiving_end, b"best");
+    expect_end(&rt, &mut receiving_end);
     Pipe::finish(iface, child, receiving_end);
 }
 
@@ -66,7 +83,7 @@ fn make_marks(rt: &impl Abort, alloc: Global) -> MarkedLog<MemSink>
 }
 
 // A revival before its first order.
-fn make_loop(rt: &impl Abort, alloc: Global, from: PipeTake) -> RevivalLoop<MemSink>
+fn make_loop(rt: &impl Abort, alloc: Global, from: PipeTake<LifeMessage>) -> RevivalLoop<MemSink>
     ensures from { result.from ≡ from }
     ensures alive { is_alive result.revival.state.life ≡ true }
     ensures room { EVENT_ROOM ≤ result.marks.text.room }
@@ -99,7 +116,7 @@ fn expect_heard<R: Threads + Wait + Sync + Abort>(
     rt: &R,
     alloc: Global,
     looping: &mut RevivalLoop<MemSink>,
-    to: &mut PipeSend,
+    to: &mut PipeSend<LifeMessage>,
     run: &mut LifeRun<MemSource, MemSink>,
     output: &mut MemSink,
 )
@@ -122,13 +139,14 @@ fn expect_interface<R: Wait + Abort>(
     rt: &R,
     alloc: Global,
     input: &mut MemSource,
-    to: &mut PipeSend,
+    to: &mut PipeSend<LifeMessage>,
 )
     requires sender { IsSender to.old }
-    requires fresh { events_sent to.old ≡ [] }
+    requires interface { to.old.peer ≡ peers.Iface }
+    requires fresh { messages_sent to.old ≡ [] }
     ensures { KeepsSender to.old to.new }
 {
-    let end = read_pipe(rt, alloc, input, to);
+    let end = read_messages(rt, alloc, input, to);
     expect_true(rt, "the interface is read", end == ReadEnd::Done);
 }
 

@@ -1,6 +1,6 @@
 // Both directions and the log, over sources and sinks in memory.
 ghost use Rattle.std.specs.Prelude.{◌≡◌, ◌<◌, [], vec_len};
-ghost use Rattle.event_pipe.specs.Ends.{IsSender, IsFreshSender, IsFreshReceiver, events_sent};
+ghost use Rattle.event_pipe.specs.Ends.{IsSender, IsFreshSender, IsFreshReceiver, messages_sent};
 ghost use Rattle.event_pipe.specs.declared.message.Peer.TheVariants as peers;
 ghost use Rattle.tap_runner.specs.Hearing.{no_open_line};
 ghost use Rattle.tap_runner.specs.Parts.{TapPartsAreReady};
@@ -16,7 +16,8 @@ use std::process::Abort;
 use std::sync::Wait;
 use std::thread::Threads;
 use tap_runner::{
-    Direction, LOG_ROOM, OpenLine, PassEnd, TapEnd, TapParts, hand_on, keep_log, run_tap,
+    Direction, LOG_ROOM, OpenLine, PassEnd, TapEnd, TapMessage, TapParts, hand_on, keep_log,
+    run_tap,
 };
 
 /// The texts of both peers; the writes of the engine's bytes that fail; what the bridge gets, and the log.
@@ -66,7 +67,7 @@ const ROWS: [Row; 2] = [
 ];
 
 // The parts that a direction needs.
-fn make_way(rt: &impl Abort, alloc: Global, peer: Peer, to: PipeSend) -> Direction
+fn make_way(rt: &impl Abort, alloc: Global, peer: Peer, to: PipeSend<TapMessage>) -> Direction
     ensures to { result.to ≡ to }
     ensures part { result.part ≡ no_open_line peer }
     ensures room { 0 < vec_len result.buf }
@@ -85,11 +86,11 @@ fn pass<R: Wait + Abort>(
     bytes: &[u8],
     sink: &mut MemSink,
     peer: Peer,
-    to: PipeSend,
+    to: PipeSend<TapMessage>,
 ) -> PassEnd
     requires sender { IsSender to }
     requires peer { to.peer ≡ peer }
-    requires unsent { events_sent to ≡ [] }
+    requires unsent { messages_sent to ≡ [] }
 {
     let mut source = source(rt, alloc, bytes, 7, &[]);
     let mut way = make_way(rt, alloc, peer, to);
@@ -100,7 +101,7 @@ fn pass<R: Wait + Abort>(
 fn keep_all<R: Wait + Abort>(
     rt: &R,
     alloc: Global,
-    receiving_end: PipeTake,
+    receiving_end: PipeTake<TapMessage>,
     log: &mut Option<MemSink>,
 )
     requires { IsFreshReceiver receiving_end }
@@ -111,7 +112,12 @@ fn keep_all<R: Wait + Abort>(
 }
 
 // Compares what a log is made of what is in the channel.
-fn expect_log<R: Wait + Abort>(rt: &R, alloc: Global, row: &Row, receiving_end: PipeTake)
+fn expect_log<R: Wait + Abort>(
+    rt: &R,
+    alloc: Global,
+    row: &Row,
+    receiving_end: PipeTake<TapMessage>,
+)
     requires { IsFreshReceiver receiving_end }
 {
     let mut log = Some(sink(rt, alloc, 1_000, &[]));
@@ -128,7 +134,7 @@ pub fn is_end(end: &PassEnd, write_failed: bool) -> bool {
 }
 
 // Hands on what the bridge says.
-fn expect_down<R: Wait + Abort>(rt: &R, alloc: Global, row: &Row, to: PipeSend)
+fn expect_down<R: Wait + Abort>(rt: &R, alloc: Global, row: &Row, to: PipeSend<TapMessage>)
     requires { IsFreshSender to peers.Iface }
 {
     let bytes = letters_before(rt, alloc, row.letters, row.bridge);
@@ -139,7 +145,7 @@ fn expect_down<R: Wait + Abort>(rt: &R, alloc: Global, row: &Row, to: PipeSend)
 }
 
 // Hands on what the engine says.
-fn expect_up<R: Wait + Abort>(rt: &R, alloc: Global, row: &Row, to: PipeSend)
+fn expect_up<R: Wait + Abort>(rt: &R, alloc: Global, row: &Row, to: PipeSend<TapMessage>)
     requires { IsFreshSender to peers.Engine }
 {
     let mut output = sink(rt, alloc, 100, row.failing);

@@ -1,7 +1,7 @@
 use Rattle.std.proofs.Common.{◌∙◌, refl, ap, sym}
 use Rattle.line_io.specs.Out.{Text}
 use Rattle.event_loop.proofs.Loops.{after_iface_lost, after_engine_lost}
-use Rattle.event_pipe.specs.Ends.{events_taken}
+use Rattle.event_pipe.specs.Ends.{messages_taken}
 use Rattle.event_loop.proofs.Opens.{opened_first, kept_by, none_taken, still, first_came, took, opened_looped, some_left, none_left, good_first}
 use Rattle.event_loop.proofs.looping.mediate.Goals as goal
 
@@ -57,7 +57,7 @@ loop-preserved-else-have_both_ended g c = record {
   opened =
       took _ _ _ _ _ _ _ _ _ _ c.loop.invariant.opened
       c.owes.ensures.allows (sym c.owes.ensures.is ∙ c.if-owes.false) c.owes-else-owes.ensures.allows (sym c.owes-else-owes.ensures.is ∙ c.if-owes-2.false)
-      c.requires.first (none_left _ _ c.is_empty.ensures c.if-not-is_empty.false) _ c.take-sent.ensures.follows _ c.event-event.ensures _ (ap events_taken c.receive-at-else-have_both_ended.ensures.receiving_end ∙ c.take-sent.ensures.gets)
+      c.requires.first (none_left _ _ c.is_empty.ensures c.if-not-is_empty.false) _ c.take-sent.ensures.follows _ c.event-event.ensures _ (ap messages_taken c.receive-at-else-have_both_ended.ensures.receiving_end ∙ c.take-sent.ensures.gets)
       c.receive-at-else-have_both_ended.ensures.allows _ _ _ c.receive-at-else-have_both_ended.ensures.came _ c.after-sides-else-have_both_ended.ensures;
 }
 
@@ -69,7 +69,7 @@ loop-preserved g c = record {
   opened =
       took _ _ _ _ _ _ _ _ _ _ c.loop.invariant.opened
       c.owes.ensures.allows (sym c.owes.ensures.is ∙ c.if-owes.false) c.owes-else-owes.ensures.allows (sym c.owes-else-owes.ensures.is ∙ c.if-owes-2.false)
-      c.requires.first (none_left _ _ c.is_empty.ensures c.if-not-is_empty.false) _ c.take-sent.ensures.follows _ c.event-event.ensures _ (ap events_taken c.receive-at-else-have_both_ended.ensures.receiving_end ∙ c.take-sent.ensures.gets)
+      c.requires.first (none_left _ _ c.is_empty.ensures c.if-not-is_empty.false) _ c.take-sent.ensures.follows _ c.event-event.ensures _ (ap messages_taken c.receive-at-else-have_both_ended.ensures.receiving_end ∙ c.take-sent.ensures.gets)
       c.receive-at-else-have_both_ended.ensures.allows _ _ _ c.receive-at-else-have_both_ended.ensures.came _ c.after-sides-else-have_both_ended.ensures;
 }
 

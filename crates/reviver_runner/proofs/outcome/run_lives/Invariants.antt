@@ -2,7 +2,7 @@
 use Rattle.std.proofs.Common.{◌≡◌, ◌+◌}
 use Rattle.std.specs.Prelude.{map, string_bytes}
 use Rattle.std.specs.VecDeque.{deque_len, deque_capacity}
-use Rattle.event_pipe.specs.Ends.{events_sent}
+use Rattle.reviver_runner.specs.Messages.{events_sent}
 use Rattle.reviver_runner.specs.Looped.{loop_reports}
 use Rattle.reviver_runner.specs.Lives.{LifeGoesOn, LivesGoOn, HostGoes, host_shown}
 use Rattle.reviver_runner.specs.Parts.{ReviverKeepsEnds}

@@ -1,5 +1,6 @@
 use Rattle.std.proofs.Common.{◌≡◌}
-use Rattle.event_pipe.specs.Ends.{KeepsSender, events_sent}
+use Rattle.event_pipe.specs.Ends.{KeepsSender}
+use Rattle.reviver_runner.specs.Messages.{events_sent}
 use Rattle.reviver_runner.specs.Reading.{SoFar}
 use Rattle.reviver_runner.proofs.reading.read_lines.Given as goal
 
