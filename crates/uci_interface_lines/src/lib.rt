@@ -9,8 +9,12 @@
 //! An example, which a test runs on the runtime `rt`:
 //!
 //! ```
-//! let said = spoken(b"position startpos moves e2e4").expect(&rt, "a position");
-//! assert!(rt; said.end.side() == Side::Black && said.moves == b"e2e4".as_slice());
+//! match spoken(b"position startpos moves e2e4") {
+//!     Some(said) => assert!(rt;
+//!         said.end.side() == Side::Black && said.moves == b"e2e4".as_slice()
+//!     ),
+//!     None => panic!(rt; "no position"),
+//! }
 //! assert!(rt; spoken(b"position startpos moves e2e5").is_none());
 //! assert!(rt; go_kind(b"go wtime 60000 ponder") == GoKind::Ponder);
 //! let mut line = Out::make(rt.alloc(), 200).expect(&rt, "memory for a line");

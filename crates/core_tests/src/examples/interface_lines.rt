@@ -6,6 +6,7 @@ use line_io::Out;
 
 /// cecp_lines: lines of an interface are read, and a reply is written.
 #[test]
+#[tactic(auto, using(crate::proofs::Numbers::one_digit))]
 fn an_interface_is_heard(rt: HostRuntime) {
     match read_iface(b"usermove e2e4") {
         Ok(IfaceMsg::UserMove(opening)) => assert!(rt; Some(opening) == read_move(b"e2e4")),

@@ -140,7 +140,7 @@ fn expect_lists(rt: &impl Abort) {
     expect(rt, next_move(others).is_none(), "no third move");
 }
 
-#[tactic(auto, unfolding(uci_lines::specs::Orders::order_text))]
+#[tactic(auto, unfolding(uci_lines::specs::Orders::uci_order_text))]
 fn expect_written(rt: &impl Abort, alloc: Global) {
     let mut out = Out::make(alloc, 100).expect(rt, "memory");
     write_order(&Order::IsReady, &mut out);
