@@ -1,5 +1,5 @@
 -- The commands of the interface do not depend on when the engine speaks.
-use Rattle.std.proofs.Common.{◌≡◌, ℕ, List, [], ◌∷◌, ◌++◌, map, Bool, true, false, not, cond, ◌&&◌, ◌||◌, Option, Some, None, Result, Ok, Err, refl, sym, ap, ◌∙◌}
+use Rattle.std.proofs.Common.{◌≡◌, ℕ, List, [], ◌∷◌, ◌++◌, map, Bool, true, false, not, cond, ◌&&◌, ◌||◌, Option, Some, None, Result, Ok, Err, append-nil, refl, sym, ap, ◌∙◌}
 use Rattle.std.proofs.lemmas.Bool.{or_parts, both_ways}
 use Rattle.line_io.specs.Event.{Event}
 use Rattle.line_io.specs.Event as events
@@ -12,23 +12,24 @@ use Rattle.cecp_lines.specs.declared.iface.IfaceFault.{IfaceFault}
 use Rattle.cecp_lines.specs.declared.iface.IfaceFault.TheVariants as faults
 use Rattle.cecp_lines.specs.declared.reply.Reason.TheVariants as reasons
 use Rattle.uci_lines.specs.Orders.{Order}
-use Rattle.option_map.specs.declared.fault.OptionFault.{OptionFault}
-use Rattle.option_map.specs.declared.fault.OptionFault.TheVariants.{UnknownOption, BadValue}
-use Rattle.option_map.specs.Asked.{asked}
-use Rattle.policy_rules.specs.declared.settings.Settings.{Settings}
-use Rattle.policy_rules.specs.Scores.{Score, does_accept}
-use Rattle.search_epochs.specs.Tickets.{is_move}
+use Rattle.option_map.specs.declared.declared_options.fault.OptionFault.{OptionFault}
+use Rattle.option_map.specs.declared.declared_options.fault.OptionFault.TheVariants.{UnknownOption, BadValue}
+use Rattle.option_map.specs.WaitingOrders.Asked.{asked}
+use Rattle.policy_rules.specs.declared.setting_rules.settings.Settings.{Settings}
+use Rattle.policy_rules.specs.ScoreRules.Scores.{Score, does_accept}
+use Rattle.chess_board.specs.declared.board.Move.{Move}
+use Rattle.search_epochs.specs.Tickets.{What, is_move, is_hint_played, ticket_ponders}
 use Rattle.desk_rules.specs.declared.effect.Refusal.{Refusal}
 use Rattle.desk_rules.specs.declared.effect.Refusal.TheVariants as refusals
 use Rattle.desk_rules.specs.declared.desk.Desk.{Desk}
 use Rattle.desk_rules.specs.Desk.{Situation, table, plays, has_ended, is_gone, is_boot, owes_move, owed_at, call_of_desk, call_before}
 use Rattle.desk_rules.specs.Early.{is_setting, may_wait}
 use Rattle.desk_rules.specs.Lines.{line_verdict, verdict_on, is_early, early_verdict, asks, or_else, reason_where, refused_option, does_not_fit, refusal, change}
-use Rattle.desk_rules.specs.Steps.{Effect, Nothing, LongLine, Refuses, Accepts, Defers, Boots, Thinks, Shows, Dies, classify, line_effect, desk_after_effect, answers_pings, is_death}
-use Rattle.desk_rules.specs.Replies.{reply_row, row_accepted, result_reply_of, result_at, resign_where, offer_where, draw_row, hint_row, replies_of}
+use Rattle.desk_rules.specs.Steps.{Effect, Nothing, LongLine, Refuses, Accepts, Defers, Boots, Thinks, Shows, Dies, classify, line_effect, desk_after_effect, resigns_when_gone, answers_pings, is_death}
+use Rattle.desk_rules.specs.Replies.{reply_row, row_accepted, result_reply_of, result_at, resign_where, offer_where, draw_row, hint_row, repeated_thinking, replies_of}
 use Rattle.desk_rules.proofs.Firsts.{no_table}
 use Rattle.adapter_core.specs.Ends.{ends_after}
-use Rattle.adapter_core.specs.Trace.{State, Step, IsLawfulStep, LawfulTrace, state, trace_state_after, situation_of_state, effect, owed_after, closed_after, desk_of, step_replies}
+use Rattle.adapter_core.specs.Trace.{State, Step, IsLawfulStep, LawfulTrace, state, trace_state_after, situation_of_state, effect, turn_of_event, owed_after, closed_after, step_hits, desk_of, step_replies}
 use Rattle.adapter_core.specs.Alone.{Commanded, commanded_part, Alone, lone_situation, lone_effect, lone_owes, lone_after, lone_replies, commanded_alone, is_of_iface, iface_events, is_move_answer, is_overfull, may_report_engine, IsWithoutSay, DeskIsAlone, IsApartFromEngine, RepliesAreAlone}
 use Rattle.adapter_core.proofs.Fresh.{calls_move, call_is}
 use Rattle.adapter_core.proofs.Traces.{Lasts, lasts, gone_is, owed_is}
@@ -143,6 +144,28 @@ refused_alike o o' gone gone' owes owes' d d' option option' fit fit' m s g w e 
     ∙ ap (λ (c : Commanded). refused_by o' gone' c.game c.mode c.pings owes' option fit m) e
     ∙ ap (λ (r : Option Refusal). refused_by o' gone' d'.game d'.mode d'.pings owes' r fit m) p
     ∙ ap (λ (r : Option Refusal). refused_by o' gone' d'.game d'.mode d'.pings owes' option' r m) f
+
+-- NOTHING IS SHOWN AGAIN
+
+no_ponder : (ponders wants : Bool) (w : What) (hint : Option Move) → hint ≡ None → (ponders && is_hint_played hint w && wants) ≡ false
+no_ponder true wants w None e = refl
+no_ponder false wants w None e = refl
+no_ponder ponders wants w (Some h) e = cc
+
+-- without a hint no `ponderhit` is written
+hintless_misses : (s : State) (e : Event) → s.desk.hint ≡ None → step_hits s e ≡ false
+hintless_misses s e n = no_ponder (ticket_ponders s.dialogue) (is_move (owed_after s e)) (turn_of_event s e).what s.desk.hint n
+
+plain_replies : (closed owes : Bool) (h : Situation) (d : Effect)
+    → replies_of closed owes false h d ≡ cond closed [] (reply_row h d ++ resign_where (resigns_when_gone closed h d) ++ cond owes [] (map reply.Pong (desk_after_effect h d).pings))
+plain_replies closed owes h d = plain h.settings.repeat_thinking where
+  rows : List Reply
+  rows = reply_row h d ++ resign_where (resigns_when_gone closed h d)
+
+  plain : (b : Bool) → cond closed [] (rows ++ repeated_thinking (b && false) (desk_after_effect h d).last_thinking ++ cond owes [] (map reply.Pong (desk_after_effect h d).pings))
+      ≡ cond closed [] (rows ++ cond owes [] (map reply.Pong (desk_after_effect h d).pings))
+  plain true = ap (λ (rs : List Reply). cond closed [] (rs ++ cond owes [] (map reply.Pong (desk_after_effect h d).pings))) (append-nil rows)
+  plain false = ap (λ (rs : List Reply). cond closed [] (rs ++ cond owes [] (map reply.Pong (desk_after_effect h d).pings))) (append-nil rows)
 
 module _ (o : Settings) (s : State) (a : Alone) (holds : Lasts s) (alike : Alike o s a) (there : is_gone (situation_of_state s).engine ≡ false) where
   abbrev h : Situation
@@ -314,15 +337,18 @@ module _ (o : Settings) (s : State) (a : Alone) (holds : Lasts s) (alike : Alike
 
       equal_replies : d ≡ x → may_report_engine d ≡ false → step_replies s e ≡ lone_replies o a e
       equal_replies q t =
-          ap (λ (b : Bool). replies_of b owes h d) closed_alike
-          ∙ ap (λ (b : Bool). replies_of closed_then b h d) owed_alike
+          ap (λ (b : Bool). replies_of (closed_after s e) owes b h d) (hintless_misses s e alike.hint)
+          ∙ ap (λ (b : Bool). replies_of b owes false h d) closed_alike
+          ∙ ap (λ (b : Bool). replies_of closed_then b false h d) owed_alike
+          ∙ plain_replies closed_then (lone_owes o a e) h d
           ∙ ap (λ (b : Bool). cond closed_then [] (reply_row h d ++ resign_where b ++ cond (lone_owes o a e) [] (map reply.Pong (desk_after_effect h d).pings)))
           (no_resigner s.settings.resign_when_gone (is_gone h.engine || is_death d) (is_move (call_of_desk closed_then false (desk_after_effect h d))) still_here)
           ∙ ap (λ (rows : List Reply). cond closed_then [] (rows ++ [] ++ cond (lone_owes o a e) [] (map reply.Pong (desk_after_effect h d).pings))) (row_alike d of_iface t)
           ∙ ap (λ (c : Commanded). cond closed_then [] (reply_row g d ++ [] ++ cond (lone_owes o a e) [] (map reply.Pong c.pings))) (alike_effect d of_iface)
           ∙ sym (ap (λ (b : Bool). cond closed_then [] (reply_row g d ++ resign_where b ++ cond (lone_owes o a e) [] (map reply.Pong (desk_after_effect g d).pings)))
           (no_resigner o.resign_when_gone (is_death d) (is_move (call_of_desk closed_then false (desk_after_effect g d))) (no_death d of_iface)))
-          ∙ ap (λ (y : Effect). replies_of closed_then (lone_owes o a e) g y) q
+          ∙ sym (plain_replies closed_then (lone_owes o a e) g d)
+          ∙ ap (λ (y : Effect). replies_of closed_then (lone_owes o a e) false g y) q
 
     iface_replies : is_of_iface e ≡ true → Pair d x → may_report_engine d ≡ false → step_replies s e ≡ lone_replies o a e
     iface_replies i (Equal q) t = equal_replies i (Equal q) q t

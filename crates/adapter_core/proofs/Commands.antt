@@ -5,9 +5,9 @@ use Rattle.cecp_lines.specs.Messages as says
 use Rattle.cecp_lines.specs.declared.reply.Reason.TheVariants as reasons
 use Rattle.uci_lines.specs.Orders.{Order, uci_order_text}
 use Rattle.game_record.specs.Game.{Game, game_from}
-use Rattle.option_map.specs.Settings.{OptionSetting}
-use Rattle.option_map.specs.Asked.{asked}
-use Rattle.policy_rules.specs.declared.settings.Settings.{Settings}
+use Rattle.option_map.specs.DeclaredOptions.Settings.{OptionSetting}
+use Rattle.option_map.specs.WaitingOrders.Asked.{asked}
+use Rattle.policy_rules.specs.declared.setting_rules.settings.Settings.{Settings}
 use Rattle.desk_rules.specs.declared.mode.Mode.{Mode}
 use Rattle.desk_rules.specs.declared.effect.Refusal.{Refusal}
 use Rattle.desk_rules.specs.declared.effect.Refusal.TheVariants as refusals

@@ -5,8 +5,8 @@ use Rattle.protocol_tokens.specs.declared.kinds.GoKind.{GoKind}
 use Rattle.cecp_lines.specs.Messages as says
 use Rattle.uci_lines.specs.Orders.{Order}
 use Rattle.clock_map.specs.Clocks.{ClocksAreShort, first_clocks}
-use Rattle.policy_rules.specs.declared.settings.Settings.{Settings}
-use Rattle.policy_rules.specs.Policy.{IsProper}
+use Rattle.policy_rules.specs.declared.setting_rules.settings.Settings.{Settings}
+use Rattle.policy_rules.specs.SettingRules.Policy.{IsProper}
 use Rattle.search_epochs.specs.declared.words.Call.{Call}
 use Rattle.search_epochs.specs.declared.words.Orders.{Orders}
 use Rattle.search_epochs.specs.declared.words.Orders.TheVariants as chosen

@@ -6,7 +6,7 @@ use Rattle.chess_board.specs.declared.board.Move.{Move}
 use Rattle.chess_board.specs.Board.{same_side}
 use Rattle.cecp_lines.specs.Messages.{IfaceMsg}
 use Rattle.cecp_lines.specs.Messages as says
-use Rattle.option_map.specs.Shown.{check_named}
+use Rattle.option_map.specs.DeclaredOptions.Shown.{check_named}
 use Rattle.game_record.specs.Game.{Game, current_position}
 use Rattle.game_record.specs.Ending.{has_legal}
 use Rattle.search_epochs.specs.declared.words.Call.{Call}

@@ -7,6 +7,7 @@ pub mod Unique
 pub mod Ended
 pub mod RepliesShown
 pub mod Resigns
+pub mod Repeats
 pub mod SeenCalls
 pub mod Serving
 pub mod First

@@ -13,7 +13,7 @@ use Rattle.clock_map.specs.declared.clocks.Control.{Control}
 use Rattle.clock_map.specs.declared.clocks.Control.TheVariants.{Session, Fixed}
 use Rattle.clock_map.specs.declared.request.SearchRequest.{SearchRequest}
 use Rattle.clock_map.specs.Search.{order_by_kind, time_of}
-use Rattle.policy_rules.specs.declared.settings.Settings.{Settings}
+use Rattle.policy_rules.specs.declared.setting_rules.settings.Settings.{Settings}
 use Rattle.search_epochs.specs.declared.words.Orders.{Orders}
 use Rattle.search_epochs.specs.declared.words.Orders.TheVariants as chosen
 use Rattle.search_epochs.specs.declared.words.Said.TheVariants as said
@@ -29,13 +29,13 @@ use Rattle.adapter_core.specs.Parts.{none_held}
 
 -- WORDS
 
-times_named : (c : Clocks) (control : Control) (side : Side) (q : ℕ) → go_kind_named false (time_of control c side q) ≡ kinds.Move
-times_named c Session White q = refl
-times_named c Session Black q = refl
-times_named c (Fixed time) side q = refl
+times_named : (c : Clocks) (control : Control) (side : Side) (q margin : ℕ) → go_kind_named false (time_of control c side q margin) ≡ kinds.Move
+times_named c Session White q margin = refl
+times_named c Session Black q margin = refl
+times_named c (Fixed time) side q margin = refl
 
 search_word : (k : GoKind) (r : SearchRequest) (c : Clocks) → dialogue_word_of (order_by_kind k r c) ≡ Go k
-search_word kinds.Move r c = ap Go (times_named c c.control r.side r.plies)
+search_word kinds.Move r c = ap Go (times_named c c.control r.side r.plies r.settings.time_margin)
 search_word kinds.Ponder r c = refl
 search_word kinds.Analyse r c = refl
 

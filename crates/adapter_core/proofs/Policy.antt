@@ -1,10 +1,10 @@
 -- The core's counts of the scores go with the scores.
 use Rattle.std.proofs.Common.{◌≡◌, List, [], ◌∷◌, Bool, true, false, cond, refl, ap, ◌∙◌}
 use Rattle.line_io.specs.Out.{Text}
-use Rattle.policy_rules.specs.declared.settings.Settings.{Settings}
-use Rattle.policy_rules.specs.Policy.{IsProper}
-use Rattle.policy_rules.specs.Scores.{Score, no_scores, score_counts}
-use Rattle.policy_rules.proofs.Counts.{counts_match, settings_kept}
+use Rattle.policy_rules.specs.declared.setting_rules.settings.Settings.{Settings}
+use Rattle.policy_rules.specs.SettingRules.Policy.{IsProper}
+use Rattle.policy_rules.specs.ScoreRules.Scores.{Score, no_scores, score_counts}
+use Rattle.policy_rules.proofs.ScoreRules.Counts.{counts_match, settings_kept}
 use Rattle.desk_rules.specs.Desk.{Situation}
 use Rattle.desk_rules.specs.Lines.{clears_scores}
 use Rattle.desk_rules.specs.Steps.{Effect, Accepts, Shows, scores_after, counts_after}

@@ -4,8 +4,8 @@ use Rattle.std.specs.List.{flat_map}
 use Rattle.line_io.specs.Event.{Event}
 use Rattle.cecp_lines.specs.Replies.{Reply, reply_text}
 use Rattle.uci_lines.specs.Orders.{Order, uci_order_text}
-use Rattle.option_map.specs.Features.{reply_lines, reply_line}
-use Rattle.option_map.specs.Held.{held_order_line}
+use Rattle.option_map.specs.FeatureLists.Features.{reply_lines, reply_line}
+use Rattle.option_map.specs.WaitingOrders.Held.{held_order_line}
 use Rattle.desk_rules.specs.Texts.{order_lines}
 use Rattle.adapter_core.specs.Parts.{CoreParts}
 use Rattle.adapter_core.specs.Represents.{IsWholeLines, Extends}

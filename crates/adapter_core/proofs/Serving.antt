@@ -1,5 +1,5 @@
 -- A current search goes on to serve the call.
-use Rattle.std.proofs.Common.{◌≡◌, ℕ, List, Bool, true, false, cond, ◌&&◌, ◌||◌, Some, refl, sym, ap, subst, ◌∙◌}
+use Rattle.std.proofs.Common.{◌≡◌, ℕ, List, Bool, true, false, cond, ◌&&◌, ◌||◌, Option, Some, refl, sym, ap, subst, ◌∙◌}
 use Rattle.protocol_tokens.specs.declared.kinds.GoKind.{GoKind}
 use Rattle.protocol_tokens.specs.declared.kinds.GoKind.TheVariants as kinds
 use Rattle.uci_lines.specs.Orders.{Order}
@@ -10,6 +10,7 @@ use Rattle.search_epochs.specs.declared.words.EngineState.{EngineState}
 use Rattle.search_epochs.specs.declared.words.EngineState.TheVariants as states
 use Rattle.search_epochs.specs.Tickets.{What, Says, SearchServesCall, kind_of, is_move}
 use Rattle.think_text.specs.declared.search_info.SearchInfo.{SearchInfo}
+use Rattle.think_text.specs.Last.{ThinkingLine}
 use Rattle.search_epochs.specs.Dialogue as dialogues
 use Rattle.search_epochs.specs.Dialogue.{after_what, mid_dialogue, stale_state, heard_state, settled_state, choose}
 use Rattle.search_epochs.proofs.Current.{IfCurrent, settled_current}
@@ -148,9 +149,10 @@ given_up : (closed gone : Bool) (d : Desk) (b : Bool) → (b ≡ true → gone �
 given_up closed gone d true f = gone_calls closed gone d (f refl) ∙ sym (gone_calls closed gone (record d { mode = over_where true d.mode }) (f refl))
 given_up closed gone d false f = refl
 
-other_parts : (closed gone : Bool) (d : Desk) (pings : List ℕ) (early : List (List ℕ)) (search_info : SearchInfo) → call_of_desk closed gone d ≡ call_of_desk closed gone (record d { pings = pings; early = early; search_info = search_info })
+other_parts : (closed gone : Bool) (d : Desk) (pings : List ℕ) (early : List (List ℕ)) (search_info : SearchInfo) (last : Option ThinkingLine)
+    → call_of_desk closed gone d ≡ call_of_desk closed gone (record d { pings = pings; early = early; search_info = search_info; last_thinking = last })
 unfolding call_of_desk
-other_parts closed gone d pings early search_info = refl
+other_parts closed gone d pings early search_info last = refl
 
 -- a game that is abandoned, answered pings and cleared values change no call
 pub call_settled : (closed owes hits c : Bool) (h : Situation) (d : Effect)
@@ -159,4 +161,4 @@ call_settled closed owes hits c h d =
     let gone = is_gone h.engine || is_death d in
     let desk = desk_after_effect h d in
     given_up closed gone desk (resigns_when_gone c h d) (resigner_gone h.settings.resign_when_gone gone (is_move (call_of_desk c false desk)))
-    ∙ other_parts closed gone (record desk { mode = over_where (resigns_when_gone c h d) desk.mode }) _ _ _
+    ∙ other_parts closed gone (record desk { mode = over_where (resigns_when_gone c h d) desk.mode }) _ _ _ _

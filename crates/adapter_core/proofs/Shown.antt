@@ -1,5 +1,5 @@
 -- A move is shown exactly where a current search for a move answers with a legal one.
-use Rattle.std.proofs.Common.{◌≡◌, ◌⊎◌, inl, inr, ℕ, ◌≤◌, List, [], ◌∷◌, ◌++◌, length, map, codes, Bool, true, false, not, cond, ◌==◌, Option, Some, None, Result, Ok, Err, refl, sym, ap, subst, ◌∙◌, arith}
+use Rattle.std.proofs.Common.{◌≡◌, ◌⊎◌, inl, inr, ℕ, ◌≤◌, List, [], ◌∷◌, ◌++◌, length, map, codes, Bool, true, false, not, cond, ◌&&◌, ◌==◌, Option, Some, None, Result, Ok, Err, refl, sym, ap, subst, ◌∙◌, arith}
 use Rattle.std.specs.Prelude.{Contains}
 use Rattle.std.specs.Option.{option_to_list}
 use Rattle.std.proofs.lemmas.Bool.Decides.{nat_tests}
@@ -27,15 +27,16 @@ use Rattle.uci_lines.specs.Engine.{engine_message}
 use Rattle.game_record.specs.declared.ending.GameEnd.{GameEnd}
 use Rattle.game_record.specs.Game.{Game, current_position}
 use Rattle.game_record.specs.Ending.{ended_of}
-use Rattle.option_map.specs.Settings.{OptionSetting}
-use Rattle.option_map.specs.Shown.{takes_tables}
+use Rattle.option_map.specs.DeclaredOptions.Settings.{OptionSetting}
+use Rattle.option_map.specs.DeclaredOptions.Shown.{takes_tables}
 use Rattle.uci_lines.specs.declared.messages.Score.{Score}
 use Rattle.think_text.specs.Line.{thinking_line, line_with, legal_run, run_texts, hint_text}
-use Rattle.option_map.specs.declared.negotiation.ProtoverAnswer.{ProtoverAnswer}
-use Rattle.option_map.specs.declared.negotiation.ProtoverAnswer.TheVariants as say
-use Rattle.option_map.specs.Due.{protover_answer}
-use Rattle.option_map.specs.Features.{feature_list, tables, option_feature, shown_options}
-use Rattle.policy_rules.specs.declared.settings.Settings.{Settings}
+use Rattle.think_text.specs.Last.{ThinkingLine}
+use Rattle.option_map.specs.declared.feature_lists.negotiation.ProtoverAnswer.{ProtoverAnswer}
+use Rattle.option_map.specs.declared.feature_lists.negotiation.ProtoverAnswer.TheVariants as say
+use Rattle.option_map.specs.WaitingOrders.Due.{protover_answer}
+use Rattle.option_map.specs.FeatureLists.Features.{feature_list, tables, option_feature, shown_options}
+use Rattle.policy_rules.specs.declared.setting_rules.settings.Settings.{Settings}
 use Rattle.search_epochs.specs.declared.words.EngineState.{EngineState}
 use Rattle.search_epochs.specs.declared.words.EngineState.TheVariants as states
 use Rattle.search_epochs.specs.Tickets.{Engine, Boot, Getting, Idle, Search, Gone, is_move}
@@ -45,9 +46,9 @@ use Rattle.desk_rules.specs.declared.effect.Refusal.TheVariants as refusals
 use Rattle.desk_rules.specs.declared.desk.Desk.{Desk}
 use Rattle.desk_rules.specs.Desk.{Situation, is_boot, is_getting, is_gone, current, table, on_move, game_played, plays}
 use Rattle.desk_rules.specs.Lines.{Verdict, Refused, Accepted, Early, line_verdict, change, refused_option, early_answer}
-use Rattle.desk_rules.specs.Steps.{Effect, Nothing, LongLine, Refuses, Accepts, Names, Declares, Boots, Readies, Thinks, Shows, Forfeits, Dies, classify, line_effect, engine_says, answers, shows, search_reports, searched_by, resigns_after, resigns_at_end, resigns_when_gone, desk_after_effect}
-use Rattle.desk_rules.specs.Replies.{refused, result_reply_by, result_reply_of, protover_row, offer_where, hint_row, row_accepted, list_where, resign_where, early_refusal, early_refusals, reply_row, shows_thinking, named_hint, spelling_of, replies_of}
-use Rattle.adapter_core.specs.Trace.{State, state, situation_of_state, effect, step_replies, owed_after, closed_after}
+use Rattle.desk_rules.specs.Steps.{Effect, Nothing, LongLine, Refuses, Accepts, Names, Declares, Boots, Readies, Thinks, Shows, Forfeits, Dies, classify, line_effect, engine_says, answers, shows, search_reports, searched_by, shows_thinking, named_hint, spelling_of, resigns_after, resigns_at_end, resigns_when_gone, desk_after_effect}
+use Rattle.desk_rules.specs.Replies.{refused, result_reply_by, result_reply_of, protover_row, offer_where, hint_row, row_accepted, list_where, resign_where, early_refusal, early_refusals, reply_row, repeated_thinking, replies_of}
+use Rattle.adapter_core.specs.Trace.{State, state, situation_of_state, effect, step_replies, owed_after, closed_after, step_hits}
 use Rattle.adapter_core.specs.Shown.{AnswersWithMove, MovesAreShownInTime, MovesAreShownOnce, moves_shown}
 
 -- LINES THAT SHOW A MOVE
@@ -155,9 +156,14 @@ no_line (Some depth) (Some score) [] facts s hint = refl
 no_line (Some depth) None texts facts s hint = refl
 no_line None score texts facts s hint = refl
 
-no_thinking : (b : Bool) (x : Option Reply) → moves_shown (option_to_list x) ≡ [] → moves_shown (cond b (option_to_list x) []) ≡ []
+no_thinking : (b : Bool) (x : Option Reply) → moves_shown (option_to_list x) ≡ [] → moves_shown (option_to_list (cond b x None)) ≡ []
 no_thinking true x e = e
 no_thinking false x e = refl
+
+no_repeated : (b : Bool) (last : Option ThinkingLine) → moves_shown (repeated_thinking b last) ≡ []
+no_repeated true None = refl
+no_repeated true (Some line) = refl
+no_repeated false last = refl
 
 no_answer : (h : Situation) (m : IfaceMsg) → moves_shown (row_accepted h m) ≡ []
 unfolding row_accepted
@@ -203,11 +209,13 @@ row_shows h Dies = none_joined (list_where h.desk.due h.desk) (reply.TellError _
 row_shows h d = refl
 
 -- the moves that are told in an open session
-pub open_shows : (owes : Bool) (h : Situation) (d : Effect) → moves_shown (replies_of false owes h d) ≡ shown_by d
-open_shows owes h d =
+pub open_shows : (owes hits : Bool) (h : Situation) (d : Effect) → moves_shown (replies_of false owes hits h d) ≡ shown_by d
+open_shows owes hits h d =
     let pongs = cond owes [] (map reply.Pong (desk_after_effect h d).pings) in
     let resign = resign_where (resigns_when_gone false h d) in
-    joined (reply_row h d ++ resign) pongs ∙ ap (λ (l : List AnyMove). moves_shown (reply_row h d ++ resign) ++ l) (no_pongs owes (desk_after_effect h d).pings) ∙ append_none (moves_shown (reply_row h d ++ resign))
+    let again = repeated_thinking (h.settings.repeat_thinking && hits) (desk_after_effect h d).last_thinking in
+    joined (reply_row h d ++ resign ++ again) pongs ∙ ap (λ (l : List AnyMove). moves_shown (reply_row h d ++ resign ++ again) ++ l) (no_pongs owes (desk_after_effect h d).pings) ∙ append_none (moves_shown (reply_row h d ++ resign ++ again))
+    ∙ joined (reply_row h d ++ resign) again ∙ ap (λ (l : List AnyMove). moves_shown (reply_row h d ++ resign) ++ l) (no_repeated (h.settings.repeat_thinking && hits) (desk_after_effect h d).last_thinking) ∙ append_none (moves_shown (reply_row h d ++ resign))
     ∙ joined (reply_row h d) resign ∙ ap (λ (l : List AnyMove). moves_shown (reply_row h d) ++ l) (no_resign (resigns_when_gone false h d)) ∙ append_none (moves_shown (reply_row h d)) ∙ row_shows h d where
       append_none : (l : List AnyMove) → l ++ [] ≡ l
       append_none [] = refl
@@ -217,14 +225,14 @@ shown_few : (d : Effect) → length (shown_by d) ≤ 1
 shown_few (Shows best hint) = omega arith
 shown_few d = omega arith
 
-few_by : (closed owes : Bool) (h : Situation) (d : Effect) → length (moves_shown (replies_of closed owes h d)) ≤ 1
-few_by true owes h d = omega arith
-few_by false owes h d = subst (λ (l : List AnyMove). length l ≤ 1) (sym (open_shows owes h d)) (shown_few d)
+few_by : (closed owes hits : Bool) (h : Situation) (d : Effect) → length (moves_shown (replies_of closed owes hits h d)) ≤ 1
+few_by true owes hits h d = omega arith
+few_by false owes hits h d = subst (λ (l : List AnyMove). length l ≤ 1) (sym (open_shows owes hits h d)) (shown_few d)
 
 pub once : (o : Settings) → MovesAreShownOnce o
 once o step t l =
     let s = state o t in
-    subst (λ (rs : List Reply). length (moves_shown rs) ≤ 1) (sym l.1.replies) (few_by (closed_after s step.event) (is_move (owed_after s step.event)) (situation_of_state s) (effect s step.event))
+    subst (λ (rs : List Reply). length (moves_shown rs) ≤ 1) (sym l.1.replies) (few_by (closed_after s step.event) (is_move (owed_after s step.event)) (step_hits s step.event) (situation_of_state s) (effect s step.event))
 
 -- FROM THE MOVE TO THE ANSWER
 
@@ -328,9 +336,9 @@ shown_is (Shows best hint) m c = (hint, ap (λ (x : AnyMove). Shows x hint) (alo
   alone (inr n) = absurd (none_in m n)
 shown_is d m c = absurd (none_in m c)
 
-shown_reply_by : (closed owes : Bool) (h : Situation) (d : Effect) (m : AnyMove) → Contains (replies_of closed owes h d) (reply.Move m) → (hint : Option AnyMove) × (d ≡ Shows m hint)
-shown_reply_by true owes h d m c = absurd (none_in (reply.Move m) c)
-shown_reply_by false owes h d m c = shown_is d m (subst (λ (l : List AnyMove). Contains l m) (open_shows owes h d) (is_shown_in (replies_of false owes h d) m c))
+shown_reply_by : (closed owes hits : Bool) (h : Situation) (d : Effect) (m : AnyMove) → Contains (replies_of closed owes hits h d) (reply.Move m) → (hint : Option AnyMove) × (d ≡ Shows m hint)
+shown_reply_by true owes hits h d m c = absurd (none_in (reply.Move m) c)
+shown_reply_by false owes hits h d m c = shown_is d m (subst (λ (l : List AnyMove). Contains l m) (open_shows owes hits h d) (is_shown_in (replies_of false owes hits h d) m c))
 
 -- FROM THE ANSWER TO THE MOVE
 
@@ -358,15 +366,13 @@ event_shows s line m hint stopped b c n l =
 effect_shows : (s : State) (e : Event) (m : AnyMove) (a : AnswersWithMove s e m) → effect s e ≡ Shows m a.hint
 effect_shows s e m a = ap (effect s) a.event ∙ event_shows s a.line m a.hint a.stopped a.best a.is_open a.current a.is_legal
 
-row_first : (owes : Bool) (h : Situation) (m : AnyMove) (hint : Option AnyMove) → Contains (replies_of false owes h (Shows m hint)) (reply.Move m)
+row_first : (owes hits : Bool) (h : Situation) (m : AnyMove) (hint : Option AnyMove) → Contains (replies_of false owes hits h (Shows m hint)) (reply.Move m)
 unfolding reply_row
-row_first owes h m hint =
-    Contains-append_left (reply_row h (Shows m hint) ++ resign_where (resigns_when_gone false h (Shows m hint))) _ (reply.Move m)
-    (Contains-append_left (reply_row h (Shows m hint)) (resign_where (resigns_when_gone false h (Shows m hint))) (reply.Move m) (is_first (reply.Move m) _))
+row_first owes hits h m hint = is_first (reply.Move m) _
 
-reports_it : (closed owes : Bool) (h : Situation) (d : Effect) (m : AnyMove) (hint : Option AnyMove) → closed ≡ false → d ≡ Shows m hint → Contains (replies_of closed owes h d) (reply.Move m)
-reports_it true owes h d m hint c e = absurd (cc)
-reports_it false owes h d m hint c e = subst (λ (x : Effect). Contains (replies_of false owes h x) (reply.Move m)) (sym e) (row_first owes h m hint)
+reports_it : (closed owes hits : Bool) (h : Situation) (d : Effect) (m : AnyMove) (hint : Option AnyMove) → closed ≡ false → d ≡ Shows m hint → Contains (replies_of closed owes hits h d) (reply.Move m)
+reports_it true owes hits h d m hint c e = absurd (cc)
+reports_it false owes hits h d m hint c e = subst (λ (x : Effect). Contains (replies_of false owes hits h x) (reply.Move m)) (sym e) (row_first owes hits h m hint)
 
 closed_still : (s : State) (e : Event) (m : AnyMove) (a : AnswersWithMove s e m) → closed_after s e ≡ false
 closed_still s e m a = ap (closed_after s) a.event ∙ a.is_open
@@ -379,13 +385,16 @@ shown o step t l m = (there, back) where
   owes : Bool
   owes = is_move (owed_after s step.event)
 
+  hits : Bool
+  hits = step_hits s step.event
+
   there : Contains step.replies (reply.Move m) → AnswersWithMove s step.event m
   there c =
       let c' : Contains (step_replies s step.event) (reply.Move m) = subst (λ (rs : List Reply). Contains rs (reply.Move m)) l.1.replies c in
-      let d = shown_reply_by (closed_after s step.event) owes (situation_of_state s) (effect s step.event) m c' in
+      let d = shown_reply_by (closed_after s step.event) owes hits (situation_of_state s) (effect s step.event) m c' in
       answer_back s step.event m d.0 d.1
 
   back : AnswersWithMove s step.event m → Contains step.replies (reply.Move m)
   back a =
       subst (λ (rs : List Reply). Contains rs (reply.Move m)) (sym l.1.replies)
-      (reports_it (closed_after s step.event) owes (situation_of_state s) (effect s step.event) m a.hint (closed_still s step.event m a) (effect_shows s step.event m a))
+      (reports_it (closed_after s step.event) owes hits (situation_of_state s) (effect s step.event) m a.hint (closed_still s step.event m a) (effect_shows s step.event m a))

@@ -17,7 +17,7 @@ use Rattle.uci_lines.specs.Messages.{EngineMsg}
 use Rattle.uci_lines.specs.Messages as hears
 use Rattle.uci_lines.specs.Engine.{engine_message}
 use Rattle.game_record.specs.Game.{Game, current_position}
-use Rattle.policy_rules.specs.Scores.{Score}
+use Rattle.policy_rules.specs.ScoreRules.Scores.{Score}
 use Rattle.search_epochs.specs.declared.words.EngineState.{EngineState}
 use Rattle.search_epochs.specs.declared.words.EngineState.TheVariants as states
 use Rattle.desk_rules.specs.declared.effect.Refusal.{Refusal}

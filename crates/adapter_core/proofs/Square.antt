@@ -5,15 +5,16 @@ use Rattle.line_io.specs.Event.{Event}
 use Rattle.line_io.specs.Event as events
 use Rattle.line_io.specs.Out.{Text, empty, with}
 use Rattle.chess_board.specs.declared.board.Move.{Move}
+use Rattle.cecp_lines.specs.Replies.{Reply}
 use Rattle.uci_lines.specs.Orders.{Order}
 use Rattle.uci_lines.specs.Orders as orders
-use Rattle.policy_rules.specs.declared.scores.Scores.{Scores}
-use Rattle.policy_rules.specs.Scores.{score_counts}
+use Rattle.policy_rules.specs.declared.score_rules.scores.Scores.{Scores}
+use Rattle.policy_rules.specs.ScoreRules.Scores.{score_counts}
 use Rattle.search_epochs.specs.declared.words.Call.{Call}
 use Rattle.search_epochs.specs.declared.words.Call.TheVariants as calls
 use Rattle.search_epochs.specs.declared.words.Orders.{Orders}
 use Rattle.search_epochs.specs.declared.words.Orders.TheVariants as chosen
-use Rattle.search_epochs.specs.Tickets.{Ticketed, DialogueTurn, Engine, Boot, Getting, Idle, Search, Gone, Word, Uci, Quit, AllSetup, Settled, before_orders, engine_after_orders, ticket_ponders, ponders_at, engine_after_word, sent_all, is_due, is_ponder_hit, is_move, is_move_now, has_go, has_stop, leaves_boot, is_call_spent, needs_fence}
+use Rattle.search_epochs.specs.Tickets.{Ticketed, DialogueTurn, Engine, Boot, Getting, Idle, Search, Gone, Word, Uci, Quit, AllSetup, Settled, before_orders, engine_after_orders, ticket_ponders, ponders_at, engine_after_word, sent_all, is_due, is_ponder_hit, is_hint_played, Quiet, is_move, is_move_now, has_go, has_stop, leaves_boot, is_call_spent, needs_fence}
 use Rattle.search_epochs.specs.Dialogue as dialogues
 use Rattle.search_epochs.specs.Dialogue.{forget, dialogue_between_steps, words, settle, after_settled, is_pondered, played_of, is_hit_order, is_batch_order}
 use Rattle.search_epochs.proofs.Whole.{mid_kept, kept_mid, is_unsent, settled_by, whole_mid, ponders_before, same_parts, hit_kept}
@@ -21,11 +22,12 @@ use Rattle.search_epochs.proofs.Fences.{go_fenced}
 use Rattle.search_epochs.proofs.Turns.{TicketWithin}
 use Rattle.search_epochs.proofs.Rests.{rested, hit_chosen, batch_chosen, begun}
 use Rattle.search_epochs.proofs.Histories.{quit_sent}
-use Rattle.option_map.specs.Features.{reply_lines}
+use Rattle.option_map.specs.FeatureLists.Features.{reply_lines}
 use Rattle.think_text.specs.Kept.{nothing_seen}
 use Rattle.desk_rules.specs.declared.desk.Desk.{Desk}
 use Rattle.desk_rules.specs.Desk.{Situation}
-use Rattle.desk_rules.specs.Steps.{classify, what_of, begins_epoch, desk_after_effect, answers_pings, scores_after, over_where, resigns_when_gone}
+use Rattle.desk_rules.specs.Replies.{replies_of}
+use Rattle.desk_rules.specs.Steps.{Effect, counts_after, classify, what_of, begins_epoch, desk_after_effect, answers_pings, scores_after, over_where, resigns_when_gone}
 use Rattle.desk_rules.specs.Orders.{orders_waiting, order_list, dialogue_word_of}
 use Rattle.desk_rules.specs.Texts.{order_lines}
 use Rattle.desk_rules.specs.Fits.{EffectFitsDesk, DeskInvariant, IsLineEvent}
@@ -34,7 +36,7 @@ use Rattle.desk_rules.proofs.Hints.{hint_kept, call_hint}
 use Rattle.desk_rules.proofs.Waits.{all_setup, all_held}
 use Rattle.desk_rules.specs.Orders.{AreHeld}
 use Rattle.adapter_core.specs.Ends.{may, ends_after, is_open}
-use Rattle.adapter_core.specs.Trace.{State, Step, IsLawfulStep, AreSettled, trace_state_after, situation_of_state, effect, turn_of_event, mid, owed_after, closed_after, desk_of, is_gone_after, step_replies, still_held, has_ready, closing_step_orders}
+use Rattle.adapter_core.specs.Trace.{State, Step, IsLawfulStep, AreSettled, trace_state_after, situation_of_state, effect, turn_of_event, mid, owed_after, closed_after, step_hits, desk_of, is_gone_after, step_replies, still_held, has_ready, closing_step_orders}
 use Rattle.adapter_core.specs.Parts as parts
 use Rattle.adapter_core.specs.Parts.{CoreParts, advance, advance_at, advance_from, finish, step_choice, desk_with, none_held, step_orders}
 use Rattle.adapter_core.specs.Represents.{parts_of_state, StateInvariant, TicketIsWithin, step_from, step_at, step_by}
@@ -78,6 +80,26 @@ unfolding classify
 open_engine s events.Open o m b = b (not-true s.ends.opened m)
 open_engine s e o m b = cc
 
+-- no `ponderhit` is written at Open
+opened_misses : (o c : Bool) (x : Orders) → o ≡ true → is_hit_order (cond (o || c) chosen.None x) ≡ false
+opened_misses true c x e = refl
+opened_misses false c x e = cc
+
+quiet_misses : (ponders wants : Bool) (hint : Option Move) → (ponders && is_hint_played hint Quiet && wants) ≡ false
+quiet_misses true wants None = refl
+quiet_misses true wants (Some h) = refl
+quiet_misses false wants None = refl
+quiet_misses false wants (Some h) = refl
+
+open_misses : (s : State) (e : Event) → is_open e ≡ true → step_hits s e ≡ false
+unfolding classify
+open_misses s events.Open o = quiet_misses (ticket_ponders s.dialogue) (is_move (owed_after s events.Open)) s.desk.hint
+open_misses s e o = cc
+
+hits_alike : (closed owes a b : Bool) (h : Situation) (d : Effect) → (closed ≡ false → a ≡ b) → replies_of closed owes a h d ≡ replies_of closed owes b h d
+hits_alike true owes a b h d f = refl
+hits_alike false owes a b h d f = ap (λ (x : Bool). replies_of false owes x h d) (f refl)
+
 module _ (s : State) (to_iface to_engine : Text) (e : Event) (holds : StateInvariant s) (sound : DeskInvariant s.desk) (line : IsLineEvent e) where
   abbrev old : CoreParts
   old = parts_of_state s to_iface to_engine
@@ -117,14 +139,32 @@ module _ (s : State) (to_iface to_engine : Text) (e : Event) (holds : StateInvar
       not_skipped (is_open e) (closed_after s e) (settle dialogue_mid (turn_of_event s e).call (parts.is_batch_unsent (situation_of_state s) waits (effect s e) dialogue_mid (turn_of_event s e).call) (played_of (what_of (effect s e))) (is_move_now (what_of (effect s e)))) o c
       ∙ ap (λ b. settle dialogue_mid (turn_of_event s e).call b (played_of (what_of (effect s e))) (is_move_now (what_of (effect s e)))) unsent_kept
 
-  hit_situation : begins_epoch (situation_of_state s) (effect s e) ≡ true → is_hit_order choice_situation ≡ is_ponder_hit s.dialogue (turn_of_event s e)
-  hit_situation r =
-      let o : is_open e ≡ false = false_from_ne_true (is_open e) (λ x. both_ways (begins_epoch (situation_of_state s) (effect s e)) (open_rises (situation_of_state s) s.held e x) r) in
-      let c : closed_after s e ≡ false = false_from_ne_true (closed_after s e) (λ x. both_ways (begins_epoch (situation_of_state s) (effect s e)) (closed_rises s.ends (situation_of_state s) s.held e refl x) r) in
+  -- where an order may be chosen
+  hit_settled : is_open e ≡ false → closed_after s e ≡ false → is_hit_order choice_situation ≡ step_hits s e
+  hit_settled o c =
       let m = mid s e in
       ap is_hit_order (chosen_by o c)
       ∙ hit_chosen m.epoch m.engine (owed_after s e) (is_unsent s.dialogue (turn_of_event s e)) (is_pondered (cond (ticket_ponders s.dialogue) s.desk.hint None) (played_of (turn_of_event s e).what)) (is_move_now (turn_of_event s e).what)
       ∙ hit_kept s.dialogue.epoch s.dialogue.engine s.desk.hint (turn_of_event s e).what (is_move (owed_after s e))
+
+  hit_open : (o : Bool) → is_open e ≡ o → closed_after s e ≡ false → is_hit_order choice_situation ≡ step_hits s e
+  hit_open true o c =
+      opened_misses (is_open e) (closed_after s e) (settle dialogue_mid (turn_of_event s e).call (parts.is_batch_unsent (situation_of_state s) waits (effect s e) dialogue_mid (turn_of_event s e).call) (played_of (what_of (effect s e))) (is_move_now (what_of (effect s e)))) o
+      ∙ sym (open_misses s e o)
+  hit_open false o c = hit_settled o c
+
+  -- the replies that the core writes
+  abbrev written : List Reply
+  written = replies_of (closed_after s e) owes (is_hit_order choice_situation) (situation_of_state s) (effect s e)
+
+  replies_kept : written ≡ step_replies s e
+  replies_kept = hits_alike (closed_after s e) owes (is_hit_order choice_situation) (step_hits s e) (situation_of_state s) (effect s e) (hit_open (is_open e) refl)
+
+  hit_situation : begins_epoch (situation_of_state s) (effect s e) ≡ true → is_hit_order choice_situation ≡ is_ponder_hit s.dialogue (turn_of_event s e)
+  hit_situation r =
+      let o : is_open e ≡ false = false_from_ne_true (is_open e) (λ x. both_ways (begins_epoch (situation_of_state s) (effect s e)) (open_rises (situation_of_state s) s.held e x) r) in
+      let c : closed_after s e ≡ false = false_from_ne_true (closed_after s e) (λ x. both_ways (begins_epoch (situation_of_state s) (effect s e)) (closed_rises s.ends (situation_of_state s) s.held e refl x) r) in
+      hit_settled o c
 
   desk_kept : desk_with (situation_of_state s) (effect s e) e old owes choice_situation ≡ desk_of s e
   desk_kept =
@@ -133,6 +173,7 @@ module _ (s : State) (to_iface to_engine : Text) (e : Event) (holds : StateInvar
         pings = cond (answers_pings (closed_after s e) owes) [] (desk_after_effect (situation_of_state s) (effect s e)).pings;
         early = cond (closed_after s e) [] (desk_after_effect (situation_of_state s) (effect s e)).early;
         search_info = cond c nothing_seen (desk_after_effect (situation_of_state s) (effect s e)).search_info;
+        last_thinking = cond c None (desk_after_effect (situation_of_state s) (effect s e)).last_thinking;
       } in d) (clears (begins_epoch (situation_of_state s) (effect s e)) (is_hit_order choice_situation) (is_ponder_hit s.dialogue (turn_of_event s e)) hit_situation)
 
   -- THE CORE AFTER THE EVENT
@@ -164,9 +205,10 @@ module _ (s : State) (to_iface to_engine : Text) (e : Event) (holds : StateInvar
       ∙ ap (λ (m : dialogues.Dialogue). step_from (situation_of_state s) (effect s e) old e waits m) (mid_kept s.dialogue s.desk.hint (turn_of_event s e) ticket holds.last)
       ∙ ap (λ (d : Desk). let x : Step = record {
         event = e;
-        replies = step_replies s e;
+        replies = written;
         orders = step_orders s.settings (is_open e) s.ends.closed (closed_after s e) (is_gone_after s e) waits d choice_situation;
       } in x) desk_kept
+      ∙ ap (λ (rs : List Reply). let x : Step = record { event = e; replies = rs; orders = orders_situation } in x) replies_kept
 
   same_hint : begins_epoch (situation_of_state s) (effect s e) ≡ false → (desk_of s e).hint ≡ s.desk.hint
   same_hint r = hint_kept (situation_of_state s) (effect s e) r
@@ -278,15 +320,15 @@ module _ (s : State) (to_iface to_engine : Text) (e : Event) (holds : StateInvar
   ready_case false true o c = rw (o, c) (elim (s.ends.closed || is_gone_after s e) as (λ b. false ≡ has_ready (map dialogue_word_of (cond b [] (orders.Quit ∷ [])))) [ true ↦ refl | false ↦ refl ])
   ready_case false false o c = sym (ready_words (map dialogue_word_of waits) choice_situation setup) ∙ ap has_ready (sym (words_settled o c))
 
-  abbrev part : Scores → List Order → dialogues.Dialogue → CoreParts
-  part scores held dialogue = record {
+  abbrev part : List Reply → Scores → List Order → dialogues.Dialogue → CoreParts
+  part replies scores held dialogue = record {
     settings = s.settings;
     ends = ends_after s.ends e;
     desk = desk_of s e;
     scores = scores;
     held = held;
     dialogue = dialogue;
-    to_iface = with (empty to_iface.room) (reply_lines (step_replies s e));
+    to_iface = with (empty to_iface.room) (reply_lines replies);
     to_engine = with (empty to_engine.room) (order_lines orders_situation);
   }
 
@@ -298,9 +340,9 @@ module _ (s : State) (to_iface to_engine : Text) (e : Event) (holds : StateInvar
 
   parts_stand : may s.ends e ≡ true → StandsAfter (finish (situation_of_state s) (effect s e) e old waits dialogue_mid owes choice_situation (desk_of s e))
   parts_stand m =
-      ap (λ (c : Scores). part c (cond (is_batch_order choice_situation) [] waits) (after_settled dialogue_mid choice_situation)) (counts_kept s.settings (situation_of_state s) (effect s e) s.scores)
-      ∙ ap (λ (os : List Order). part (score_counts s.settings (scores_after (situation_of_state s) (effect s e) s.scores)) os (after_settled dialogue_mid choice_situation)) held_kept
-      ∙ ap (λ (t : dialogues.Dialogue). part (score_counts s.settings (scores_after (situation_of_state s) (effect s e) s.scores)) (still_held waits (map dialogue_word_of orders_situation)) t)
+      ap (λ (c : Scores). part written c (cond (is_batch_order choice_situation) [] waits) (after_settled dialogue_mid choice_situation)) (counts_kept s.settings (situation_of_state s) (effect s e) s.scores)
+      ∙ ap (λ (os : List Order). part written (score_counts s.settings (scores_after (situation_of_state s) (effect s e) s.scores)) os (after_settled dialogue_mid choice_situation)) held_kept
+      ∙ ap (λ (t : dialogues.Dialogue). part written (score_counts s.settings (scores_after (situation_of_state s) (effect s e) s.scores)) (still_held waits (map dialogue_word_of orders_situation)) t)
       (goes_on (is_open e) (closed_after s e) refl refl m)
 
   -- the core stands for the longer trace

@@ -4,8 +4,8 @@ use Rattle.std.proofs.lemmas.Bool.{both_ways}
 use Rattle.line_io.specs.Event.{Event}
 use Rattle.line_io.specs.Out.{Text}
 use Rattle.uci_lines.specs.Orders.{Order}
-use Rattle.policy_rules.specs.declared.settings.Settings.{Settings}
-use Rattle.policy_rules.specs.Policy.{IsProper}
+use Rattle.policy_rules.specs.declared.setting_rules.settings.Settings.{Settings}
+use Rattle.policy_rules.specs.SettingRules.Policy.{IsProper}
 use Rattle.search_epochs.specs.Tickets.{Engine, Boot, Getting, Idle, Search, Gone}
 use Rattle.search_epochs.proofs.Turns.{TicketWithin}
 use Rattle.search_epochs.proofs.Within.{all_within, turned_within, turned_last}

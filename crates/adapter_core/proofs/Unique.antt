@@ -4,7 +4,7 @@ use Rattle.line_io.specs.Event.{Event}
 use Rattle.cecp_lines.specs.Replies.{Reply}
 use Rattle.uci_lines.specs.Orders.{Order}
 use Rattle.uci_lines.specs.Orders as orders
-use Rattle.policy_rules.specs.declared.settings.Settings.{Settings}
+use Rattle.policy_rules.specs.declared.setting_rules.settings.Settings.{Settings}
 use Rattle.search_epochs.specs.Tickets.{Word, Stop, PonderHit, Quit, Paired, has_batch, has_go, is_due, is_ponder_hit, is_move_now}
 use Rattle.search_epochs.proofs.Same.{same}
 use Rattle.desk_rules.specs.Orders.{dialogue_word_of}

@@ -8,7 +8,7 @@ use Rattle.protocol_tokens.specs.declared.kinds.GoKind.{GoKind}
 use Rattle.protocol_tokens.specs.declared.kinds.GoKind.TheVariants as kinds
 use Rattle.game_record.specs.Game.{Game, ply_of, current_position, IsPlayablePly}
 use Rattle.game_record.specs.Ending.{has_legal}
-use Rattle.option_map.specs.Shown.{check_named}
+use Rattle.option_map.specs.DeclaredOptions.Shown.{check_named}
 use Rattle.search_epochs.specs.declared.words.Call.{Call}
 use Rattle.search_epochs.specs.declared.words.Call.TheVariants as calls
 use Rattle.search_epochs.specs.declared.words.EngineState.{EngineState}

@@ -9,8 +9,8 @@ use Rattle.cecp_lines.specs.Replies.{Reply}
 use Rattle.cecp_lines.specs.declared.reply.Reason.TheVariants as reasons
 use Rattle.game_record.specs.Game.{Game}
 use Rattle.clock_map.specs.declared.clocks.Clocks.{Clocks}
-use Rattle.policy_rules.specs.declared.settings.Settings.{Settings}
-use Rattle.policy_rules.specs.Scores.{does_accept}
+use Rattle.policy_rules.specs.declared.setting_rules.settings.Settings.{Settings}
+use Rattle.policy_rules.specs.ScoreRules.Scores.{does_accept}
 use Rattle.search_epochs.specs.declared.words.EngineState.TheVariants as states
 use Rattle.search_epochs.specs.Tickets.{is_move}
 use Rattle.desk_rules.specs.declared.mode.Mode.{Mode}
@@ -88,7 +88,7 @@ commanded_alone o (e ∷ es) = lone_after o (commanded_alone o es) e
 
 abbrev pub lone_replies : Settings → Alone → Event → List Reply
 lone_replies o a e =
-    replies_of (ends_after a.ends e).closed (lone_owes o a e) (lone_situation o a)
+    replies_of (ends_after a.ends e).closed (lone_owes o a e) false (lone_situation o a)
     (lone_effect o a e)
 
 -- TRACES IN WHICH THE ENGINE HAS NO SAY

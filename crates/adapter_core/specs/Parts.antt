@@ -5,10 +5,10 @@ use Rattle.line_io.specs.Event.{Event}
 use Rattle.line_io.specs.Out.{empty, with}
 use Rattle.uci_lines.specs.Orders.{Order}
 use Rattle.uci_lines.specs.Orders as orders
-use Rattle.option_map.specs.Features.{reply_lines}
-use Rattle.policy_rules.specs.declared.settings.Settings.{Settings}
-use Rattle.policy_rules.specs.declared.scores.Scores.{Scores}
-use Rattle.policy_rules.specs.Scores.{Score, no_scores, after_shown, resigns_by, accepts_by}
+use Rattle.option_map.specs.FeatureLists.Features.{reply_lines}
+use Rattle.policy_rules.specs.declared.setting_rules.settings.Settings.{Settings}
+use Rattle.policy_rules.specs.declared.score_rules.scores.Scores.{Scores}
+use Rattle.policy_rules.specs.ScoreRules.Scores.{Score, no_scores, after_shown, resigns_by, accepts_by}
 use Rattle.search_epochs.specs.declared.words.Call.{Call}
 use Rattle.search_epochs.specs.declared.words.Call.TheVariants as calls
 use Rattle.search_epochs.specs.declared.words.EngineState.{EngineState}
@@ -109,7 +109,7 @@ finish h d e v held m owes o desk = record {
   held = (if is_batch_order o then [] else held);
   dialogue = after_settled m o;
   to_iface =
-      with (empty v.to_iface.room) (reply_lines (replies_of (ends_after v.ends e).closed owes h d));
+      with (empty v.to_iface.room) (reply_lines (replies_of (ends_after v.ends e).closed owes (is_hit_order o) h d));
   to_engine =
       with (empty v.to_engine.room)
       (order_lines (step_orders h.settings (is_open e) v.ends.closed (ends_after v.ends e).closed

@@ -5,13 +5,14 @@ use Rattle.std.specs.List.{flat_map}
 use Rattle.line_io.specs.Event.{Event}
 use Rattle.line_io.specs.Out.{Text}
 use Rattle.uci_lines.specs.Orders.{Order}
-use Rattle.policy_rules.specs.declared.settings.Settings.{Settings}
-use Rattle.policy_rules.specs.Policy.{IsProper}
-use Rattle.policy_rules.specs.Scores.{score_counts}
+use Rattle.policy_rules.specs.declared.setting_rules.settings.Settings.{Settings}
+use Rattle.policy_rules.specs.SettingRules.Policy.{IsProper}
+use Rattle.policy_rules.specs.ScoreRules.Scores.{score_counts}
 use Rattle.search_epochs.specs.declared.words.EngineState.TheVariants as states
 use Rattle.search_epochs.specs.Tickets.{Engine, Boot, Search, is_move}
 use Rattle.search_epochs.specs.Dialogue as dialogues
 use Rattle.search_epochs.specs.Dialogue.{dialogue_between_steps, mid_dialogue, owed_by_dialogue}
+use Rattle.search_epochs.specs.Dialogue.{is_hit_order}
 use Rattle.desk_rules.specs.Desk.{Situation, is_gone}
 use Rattle.desk_rules.specs.Steps.{Effect, classify, what_of, begins_epoch, call_after, is_death}
 use Rattle.desk_rules.specs.Orders.{orders_waiting, AreHeld}
@@ -76,7 +77,7 @@ step_from h d v e held m =
     let o = step_choice (is_open e) (ends_after v.ends e).closed h held d m in
     record {
       event = e;
-      replies = replies_of (ends_after v.ends e).closed owes h d;
+      replies = replies_of (ends_after v.ends e).closed owes (is_hit_order o) h d;
       orders = step_orders h.settings (is_open e) v.ends.closed (ends_after v.ends e).closed
           (is_gone h.engine || is_death d) held (desk_with h d e v owes o) o;
     }

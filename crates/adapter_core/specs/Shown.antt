@@ -10,7 +10,7 @@ use Rattle.cecp_lines.specs.Replies.{Reply, Move}
 use Rattle.uci_lines.specs.Messages.{Best}
 use Rattle.uci_lines.specs.Engine.{engine_message}
 use Rattle.game_record.specs.Game.{current_position}
-use Rattle.policy_rules.specs.declared.settings.Settings.{Settings}
+use Rattle.policy_rules.specs.declared.setting_rules.settings.Settings.{Settings}
 use Rattle.search_epochs.specs.Tickets.{Search}
 use Rattle.desk_rules.specs.declared.effect.Refusal.{Refusal}
 use Rattle.desk_rules.specs.Steps.{Refuses}

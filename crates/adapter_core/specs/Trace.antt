@@ -5,8 +5,8 @@ use Rattle.line_io.specs.Event.{Event}
 use Rattle.cecp_lines.specs.Replies.{Reply}
 use Rattle.uci_lines.specs.Orders.{Order}
 use Rattle.uci_lines.specs.Orders as orders
-use Rattle.policy_rules.specs.declared.settings.Settings.{Settings}
-use Rattle.policy_rules.specs.Scores.{Score, does_resign, does_accept}
+use Rattle.policy_rules.specs.declared.setting_rules.settings.Settings.{Settings}
+use Rattle.policy_rules.specs.ScoreRules.Scores.{Score, does_resign, does_accept}
 use Rattle.search_epochs.specs.declared.words.Call.{Call}
 use Rattle.search_epochs.specs.Tickets as dialogues
 use Rattle.search_epochs.specs.Tickets.{Ticketed, DialogueTurn, Word, IsReady, Settled}
@@ -19,7 +19,7 @@ use Rattle.desk_rules.specs.Steps.{Effect, classify, what_of, begins_epoch}
 use Rattle.desk_rules.specs.Steps.{call_after, desk_after, scores_after, is_death}
 use Rattle.desk_rules.specs.Orders.{orders_waiting, search_orders, dialogue_word_of}
 use Rattle.desk_rules.specs.Replies.{replies_of}
-use Rattle.option_map.specs.Features.{reply_lines}
+use Rattle.option_map.specs.FeatureLists.Features.{reply_lines}
 use Rattle.desk_rules.specs.Texts.{order_lines}
 use Rattle.adapter_core.specs.declared.ends.Ends.{Ends}
 use Rattle.adapter_core.specs.Ends.{may, ends_after, is_open, at_start}
@@ -98,15 +98,21 @@ mid s e = before_orders s.dialogue (turn_of_event s e)
 abbrev pub owed_after : State → Event → Call
 owed_after s e = owed (mid s e) (turn_of_event s e).call
 
+-- the step writes `ponderhit`
+abbrev pub step_hits : State → Event → Bool
+step_hits s e = is_ponder_hit s.dialogue (turn_of_event s e)
+
 -- the lines to the interface
 abbrev pub step_replies : State → Event → List Reply
-step_replies s e = replies_of (closed_after s e) (is_move (owed_after s e)) (situation_of_state s) (effect s e)
+step_replies s e =
+    replies_of (closed_after s e) (is_move (owed_after s e)) (step_hits s e) (situation_of_state s)
+    (effect s e)
 
 -- the desk after an event
 abbrev pub desk_of : State → Event → Desk
 desk_of s e =
-    desk_after (closed_after s e) (is_move (owed_after s e)) (is_ponder_hit s.dialogue (turn_of_event s e))
-    (situation_of_state s) (effect s e)
+    desk_after (closed_after s e) (is_move (owed_after s e)) (step_hits s e) (situation_of_state s)
+    (effect s e)
 
 abbrev pub has_ready : List Word → Bool
 has_ready [] = false

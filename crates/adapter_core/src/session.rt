@@ -3,7 +3,7 @@ ghost use Rattle.std.specs.Prelude.{◌≡◌, ◌≤◌, ◌<◌, [], length, t
 ghost use Rattle.std.specs.Borrow.{sem};
 ghost use Rattle.line_io.specs.Event.{event_of};
 ghost use Rattle.line_io.specs.Out.{empty};
-ghost use Rattle.policy_rules.specs.Policy.{IsProper};
+ghost use Rattle.policy_rules.specs.SettingRules.Policy.{IsProper};
 ghost use Rattle.desk_rules.specs.Desk.{at};
 ghost use Rattle.desk_rules.specs.Steps.{effect_of, starts_from, begins_epoch as epoch_begun, classify, quits as quits_by};
 ghost use Rattle.adapter_core.specs.Ends.{may, are_both_ended};
@@ -116,13 +116,16 @@ impl CoreParts {
         let owes = is_move(self.dialogue.owed(call));
         let unsent = is_unsent(context.settings, &self.held, effect, &self.dialogue, call);
         let orders = choose(&mut self.dialogue, stage, call, unsent, effect);
-        let clears = event_effect.begins_epoch && !is_hit(orders);
+        let hits = is_hit(orders);
+        let clears = event_effect.begins_epoch && !hits;
         self.desk.resign_when_gone(
             context.settings,
             stage.closed,
             stage.gone,
             &mut self.to_iface,
         );
+        self.desk
+            .repeat_thinking(context.settings, hits, &mut self.to_iface);
         self.desk
             .finish(stage.closed, owes, clears, &mut self.to_iface);
         put_orders(

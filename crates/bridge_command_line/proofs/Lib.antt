@@ -3,3 +3,4 @@ mod Numbers
 mod Refused
 mod OneFault
 mod Reading
+mod Sources

@@ -1,5 +1,5 @@
 -- The request that the arguments make, by the answer of the command.
-use Rattle.std.proofs.Common.{◌≡◌, ◌∙◌, sym, subst, inl, inr, List, [], ◌∷◌, true, false, Bool, refl}
+use Rattle.std.proofs.Common.{◌≡◌, ◌∙◌, sym, subst, ◌⊎◌, inl, inr, List, [], ◌∷◌, true, false, Bool, refl}
 use Rattle.clap.specs.Words.{Text, HasKind, IsAmong, Kinds, fault_of, is_simple, is_simple_and_free, kind_of, matches_of}
 use Rattle.clap.specs.declared.error.Error.{Error}
 use Rattle.clap.specs.declared.error.kind.ErrorKind.{ErrorKind}
@@ -7,9 +7,9 @@ use Rattle.clap.specs.declared.error.kind.ErrorKind.TheVariants as kinds
 use Rattle.clap.specs.Simple.{built}
 use Rattle.clap.specs.Walk.{nothing_held}
 use Rattle.clap.proofs.OnLiterals.{clap_on_literals}
-use Rattle.program_command_line.specs.Arguments.{AreUtf8}
+use Rattle.program_command_line.specs.Arguments.Request.{AreUtf8}
 use Rattle.bridge_command_line.specs.WineravineCommand.{wineravine}
-use Rattle.bridge_command_line.specs.WineravineArguments.{wineravine_argument_faults, wineravine_argument_values, has_feed_within, WineravineArgumentsAreTaken, AskFor, AreWrong, Ask, Fail, ErrorAsksFor, Blames, BlamesFeed}
+use Rattle.bridge_command_line.specs.WineravineArguments.{wineravine_argument_faults, wineravine_argument_values, has_feed_within, WineravineArgumentsAreTaken, AskFor, AreWrong, Ask, Fail, ErrorAsksFor, Blames, BlamesValues, has_two_logs}
 use Rattle.bridge_command_line.specs.declared.wineravine_request.AskedProgram.{AskedProgram}
 use Rattle.bridge_command_line.specs.declared.wineravine_request.AskedProgram.TheVariants as asked
 use Rattle.bridge_command_line.specs.declared.wineravine_request.WrongArguments.{WrongArguments}
@@ -68,7 +68,7 @@ module _ (arguments : List Text) (utf8 : AreUtf8 arguments) (e : Error) (fails :
         no_version = λ version. blames.1.0 (head _ _ (sym only ∙ version.request));
       }
 
--- words that are not UTF-8
+-- arguments that are not UTF-8
 pub not_utf8 : (arguments : List Text) (w : WrongArguments) → (AreUtf8 arguments → ⊥) → Fail arguments w
 not_utf8 arguments wrong.NoMemory bad = tt
 not_utf8 arguments (wrong.Words text) bad = record {
@@ -77,11 +77,16 @@ not_utf8 arguments (wrong.Words text) bad = record {
   no_version = λ version. bad version.utf8;
 }
 
--- a value has a line feed
-pub fed_by : (arguments : List Text) (w : WrongArguments) → wineravine_argument_faults arguments ≡ [] → BlamesFeed (wineravine_argument_values arguments) w → Fail arguments w
-fed_by arguments wrong.NoMemory fine blames = tt
-fed_by arguments (wrong.Words text) fine blames = record {
-  no_run = λ taken. let z : false ≡ true = sym taken.no_feed ∙ blames in cc;
+not_taken : (arguments : List Text) → WineravineArgumentsAreTaken arguments
+    → (has_feed_within (wineravine_argument_values arguments) ≡ true) ⊎ (has_two_logs (wineravine_argument_values arguments) ≡ true) → ⊥
+not_taken arguments taken (inl fed) = let z : false ≡ true = sym taken.no_feed ∙ fed in cc
+not_taken arguments taken (inr two) = let z : false ≡ true = sym taken.one_log ∙ two in cc
+
+-- a value has a line feed, or two logs are named
+pub blamed_values : (arguments : List Text) (w : WrongArguments) → wineravine_argument_faults arguments ≡ [] → BlamesValues (wineravine_argument_values arguments) w → Fail arguments w
+blamed_values arguments wrong.NoMemory fine blames = tt
+blamed_values arguments (wrong.Words text) fine blames = record {
+  no_run = λ taken. not_taken arguments taken blames;
   no_help = λ help. let z : [] ≡ kinds.DisplayHelp ∷ [] = sym fine ∙ help.request in cc;
   no_version = λ version. let z : [] ≡ kinds.DisplayVersion ∷ [] = sym fine ∙ version.request in cc;
 }

@@ -7,8 +7,8 @@ use Rattle.clap.specs.declared.error.kind.ErrorKind.TheVariants as kinds
 use Rattle.clap.proofs.OnLiterals.{clap_on_literals}
 use Rattle.bridge_command_line.specs.BridgeCommand.{bridge}
 use Rattle.bridge_command_line.specs.BridgeArguments.{bridge_argument_faults, bridge_argument_values}
-use Rattle.program_command_line.specs.declared.refusal.ArgumentsRefusal.{ArgumentsRefusal}
-use Rattle.program_command_line.specs.declared.refusal.ArgumentsRefusal.TheVariants as refusals
+use Rattle.program_command_line.specs.declared.arguments.refusal.ArgumentsRefusal.{ArgumentsRefusal}
+use Rattle.program_command_line.specs.declared.arguments.refusal.ArgumentsRefusal.TheVariants as refusals
 
 pub is_free : is_simple_and_free bridge ≡ true
 unfolding clap_on_literals

@@ -2,7 +2,7 @@
 use Rattle.std.specs.Prelude.{[], ◌∷◌, Some, codes}
 use Rattle.clap.specs.Words.{App, Rule, Text, new_rule, with_rule}
 use Rattle.clap.specs.declared.builder.value_parser.ValueParser.TheVariants as parsers
-use Rattle.policy_rules.specs.declared.settings.TheConstants.{MOST_MOVES, MOST_SCORE}
+use Rattle.policy_rules.specs.declared.setting_rules.settings.TheConstants.{MOST_MOVES, MOST_SCORE}
 
 -- an option with one value, and the value that it has if no word gives one
 abbrev pub option_rule : Text → Text → Rule

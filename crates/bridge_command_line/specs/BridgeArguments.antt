@@ -1,11 +1,11 @@
 -- The request that the bridge's arguments make.
 use Rattle.std.specs.Prelude.{◌≡◌, string_bytes, List, [], ◌∷◌, map, codes}
 use Rattle.clap.specs.Words.{Kinds, Row, Text, fault_of, matches_of, first_of, all_of}
-use Rattle.policy_rules.specs.declared.settings.Settings.{Settings}
+use Rattle.policy_rules.specs.declared.setting_rules.settings.Settings.{Settings}
 use Rattle.bridge_command_line.specs.Values.{AsksPolicy, HasUsualOthers, all_values, argument_or_empty}
 use Rattle.bridge_command_line.specs.BridgeCommand.{bridge}
 use Rattle.bridge_command_line.specs.declared.bridge_request.BridgeRequest.{BridgeRequest}
-use Rattle.program_command_line.specs.Arguments.{AreUtf8}
+use Rattle.program_command_line.specs.Arguments.Request.{AreUtf8}
 
 -- the faults that the command finds in the arguments, and the values that it finds for its arguments
 unfoldable pub bridge_argument_faults : List Text → Kinds
@@ -19,7 +19,7 @@ pub record BridgeArgumentsAreTaken (arguments : List Text) : Type 0 where
   pub utf8 : AreUtf8 arguments
   pub no_fault : bridge_argument_faults arguments ≡ []
 
--- the words of the engine: its program and its arguments
+-- the command of the engine: its program and its arguments
 abbrev pub bridge_engine_command : List Row → List Text
 bridge_engine_command rows =
     argument_or_empty (first_of (codes "ENGINE") rows) ∷ all_values (all_of (codes "ARG") rows)

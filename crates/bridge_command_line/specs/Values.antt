@@ -1,17 +1,33 @@
 -- The requests that values of arguments make.
-use Rattle.std.specs.Prelude.{◌≡◌, ℕ, Bool, false, ◌&&◌, nat_le, if◌then◌else◌}
+use Rattle.std.specs.Prelude.{◌≡◌, ℕ, Bool, true, false, ◌&&◌, nat_le, if◌then◌else◌}
 use Rattle.std.specs.Prelude.{List, [], Option, Some, None, codes}
+use Rattle.std.specs.List.{find}
+use Rattle.std.specs.Option.{option_and_then}
 use Rattle.std.specs.Str.{bytes_eq}
 use Rattle.clap.specs.Words.{Row, Text, first_of, one_of, ReadsOne}
 use Rattle.std.specs.Str.Parse.{ParsesUnsigned, ExplainsUnsignedError, HasUnsignedDigitsIfOk}
-use Rattle.policy_rules.specs.declared.settings.Settings.{Settings}
-use Rattle.policy_rules.specs.declared.settings.TheConstants.{MOST_MOVES, USUAL_MOVES}
-use Rattle.policy_rules.specs.declared.settings.TheConstants.{MOST_SCORE, USUAL_SCORE}
-use Rattle.policy_rules.specs.Policy.{usual}
+use Rattle.clap.specs.declared.parser.matches.ValueSource.{ValueSource}
+use Rattle.clap.specs.declared.parser.matches.ValueSource.TheVariants as sources
+use Rattle.policy_rules.specs.declared.setting_rules.settings.Settings.{Settings}
+use Rattle.policy_rules.specs.declared.setting_rules.settings.TheConstants.{MOST_MOVES, USUAL_MOVES}
+use Rattle.policy_rules.specs.declared.setting_rules.settings.TheConstants.{MOST_SCORE, USUAL_SCORE}
+use Rattle.policy_rules.specs.SettingRules.Policy.{usual}
 
 abbrev pub is_true_text : Option Text → Bool
 is_true_text (Some text) = bytes_eq text (codes "true")
 is_true_text None = false
+
+-- where the value of an argument comes from, if it has one
+abbrev pub source_of : Text → List Row → Option ValueSource
+source_of id rows = option_and_then (λ r. r.source) (find (λ r. bytes_eq r.id id) rows)
+
+abbrev pub is_command_line : Option ValueSource → Bool
+is_command_line (Some sources.CommandLine) = true
+is_command_line source = false
+
+-- whether words, and not a default, give an argument its value
+abbrev pub is_named : Text → List Row → Bool
+is_named id rows = is_command_line (source_of id rows)
 
 abbrev pub argument_or_empty : Option Text → Text
 argument_or_empty (Some text) = text

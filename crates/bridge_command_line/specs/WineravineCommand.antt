@@ -5,7 +5,9 @@ use Rattle.clap.specs.Words.{App, Rule, new_app, new_rule, with_rule}
 use Rattle.clap.specs.Simple.{on_top}
 use Rattle.clap.specs.Lexer.{usize_max}
 use Rattle.clap.specs.declared.builder.action.ArgAction.TheVariants.{Append}
-use Rattle.bridge_command_line.specs.Arguments.{flag_rule, log_file_rule, with_policy_rules}
+use Rattle.clap.specs.declared.builder.value_parser.ValueParser.TheVariants as parsers
+use Rattle.policy_rules.specs.declared.setting_rules.settings.TheConstants.{MOST_MARGIN}
+use Rattle.bridge_command_line.specs.Arguments.{flag_rule, log_file_rule, option_rule, with_policy_rules}
 
 abbrev pub early_settings_rule : Rule
 early_settings_rule = flag_rule (codes "EarlySettings") (codes "true")
@@ -24,6 +26,24 @@ strength_options_rule = flag_rule (codes "StrengthOptions") (codes "true")
 
 abbrev pub fence_stops_rule : Rule
 fence_stops_rule = flag_rule (codes "FenceStops") (codes "true")
+
+abbrev pub time_margin_rule : Rule
+time_margin_rule =
+    record (option_rule (codes "TimeMargin") (codes "20")) {
+      parser = Some (parsers.Unsigned 0 MOST_MARGIN);
+    }
+
+abbrev pub repeat_thinking_rule : Rule
+repeat_thinking_rule = flag_rule (codes "RepeatThinking") (codes "true")
+
+-- the folder of a new log
+abbrev pub log_dir_rule : Rule
+log_dir_rule =
+    record (new_rule (codes "LogDir")) {
+      long = Some (codes "LogDir");
+      value_names = 1;
+      parser = Some parsers.NonEmptyString;
+    }
 
 -- an option of the engine, any number of times
 abbrev pub set_option_rule : Rule
@@ -51,14 +71,15 @@ bare_wineravine =
 
 abbrev pub with_new_settings : App → App
 with_new_settings a =
-    with_rule (with_rule (with_rule (with_rule
+    with_rule (with_rule (with_rule (with_rule (with_rule (with_rule
     (with_rule (with_rule a early_settings_rule) resign_when_gone_rule)
-    handle_draws_rule) show_san_rule) strength_options_rule) fence_stops_rule
+    handle_draws_rule) show_san_rule) strength_options_rule) fence_stops_rule) time_margin_rule)
+    repeat_thinking_rule
 
 abbrev pub with_names : App → App
 with_names a =
-    with_rule (with_rule (with_rule a (log_file_rule (codes "wineravine.log"))) set_option_rule)
-    wineravine_engine_rule
+    with_rule (with_rule (with_rule (with_rule a (log_file_rule (codes "wineravine.log"))) log_dir_rule)
+    set_option_rule) wineravine_engine_rule
 
 abbrev pub wineravine : App
 wineravine = with_names (with_new_settings (with_policy_rules bare_wineravine))

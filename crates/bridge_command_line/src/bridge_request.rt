@@ -2,9 +2,9 @@
 ghost use Rattle.std.specs.Prelude.{◌≡◌, ◌<◌, [], length, Err, map, string_bytes, IfOk, OnOk};
 ghost use Rattle.clap.specs.Words.{rows_of, found_of};
 ghost use Rattle.clap.specs.declared.error.kind.ErrorKind.TheVariants as kinds;
-ghost use Rattle.policy_rules.specs.Policy.{IsProper};
-ghost use Rattle.program_command_line.specs.Arguments.{argument_bytes_of};
-ghost use Rattle.program_command_line.specs.declared.refusal.ArgumentsRefusal.TheVariants as refusals;
+ghost use Rattle.policy_rules.specs.SettingRules.Policy.{IsProper};
+ghost use Rattle.program_command_line.specs.Arguments.Request.{argument_bytes_of};
+ghost use Rattle.program_command_line.specs.declared.arguments.refusal.ArgumentsRefusal.TheVariants as refusals;
 ghost use Rattle.bridge_command_line.specs.BridgeArguments.{bridge_argument_faults, bridge_argument_values, BridgeArgumentsAreTaken, BridgeRequestIs, bridge_engine_command};
 
 use crate::bridge_arguments::bridge_command;

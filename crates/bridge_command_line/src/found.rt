@@ -1,12 +1,13 @@
-// The values that a command finds in words.
+// The values that a command finds in arguments.
 ghost use Rattle.std.specs.Prelude.{◌≡◌, ◌≤◌, ◌++◌, Err, map, option_map, string_bytes, IfOk, OnOk};
 ghost use Rattle.clap.specs.Words.{first_of, one_of, all_of, rows_of, found_of};
-ghost use Rattle.policy_rules.specs.Policy.{IsProper};
-ghost use Rattle.program_command_line.specs.Arguments.{argument_bytes_of, AreUtf8};
-ghost use Rattle.program_command_line.specs.declared.refusal.ArgumentsRefusal.TheVariants as refusals;
-ghost use Rattle.bridge_command_line.specs.Values.{AsksNumber, AsksPolicy, HasUsualOthers, all_values, is_true_text, setting_within, argument_or_empty};
+ghost use Rattle.policy_rules.specs.SettingRules.Policy.{IsProper};
+ghost use Rattle.program_command_line.specs.Arguments.Request.{argument_bytes_of, AreUtf8};
+ghost use Rattle.program_command_line.specs.declared.arguments.refusal.ArgumentsRefusal.TheVariants as refusals;
+ghost use Rattle.bridge_command_line.specs.Values.{AsksNumber, AsksPolicy, HasUsualOthers, all_values, is_named, is_true_text, setting_within, source_of, argument_or_empty};
 
 use clap::ArgMatches;
+use clap::parser::ValueSource;
 use policy_rules::{MOST_MOVES, MOST_SCORE, Settings, USUAL_MOVES, USUAL_SCORE};
 use program_command_line::ArgumentsRefusal;
 use std::alloc::{AllocError, Global};
@@ -42,6 +43,20 @@ pub fn values<'f, 'a>(found: &'f ArgMatches<'a>, name: &str) -> Option<&'f [&'a 
         ≡ all_of name.now (rows_of (found_of found.now)) }
 {
     found.get_strs(name)
+}
+
+// Where the value of an argument comes from.
+fn source_of(found: &ArgMatches, name: &str) -> Option<ValueSource>
+    ensures { result ≡ source_of name.now (rows_of (found_of found.now)) }
+{
+    found.value_source(name)
+}
+
+/// True if words, and not a default, give an argument its value.
+pub fn is_named(found: &ArgMatches, name: &str) -> bool
+    ensures { result ≡ is_named name.now (rows_of (found_of found.now)) }
+{
+    matches!(source_of(found, name), Some(ValueSource::CommandLine))
 }
 
 /// True if an option's value is `true`.
@@ -111,7 +126,7 @@ fn put_all(
 
 // The number that an option's value spells. The command lets none pass that is not within its
 // bounds, and the usual number stands in for such a one.
-fn number(found: &ArgMatches, name: &str, least: u32, most: u32, usual: u32) -> u32
+pub(crate) fn number(found: &ArgMatches, name: &str, least: u32, most: u32, usual: u32) -> u32
     requires { (least ≤ usual) × (usual ≤ most) }
     ensures value { AsksNumber least most usual
         (one_of name.now (rows_of (found_of found.now))) result }

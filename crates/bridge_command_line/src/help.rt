@@ -21,7 +21,10 @@ Settings:
       --ShowSan <true|false>          Whether thinking lines have Nf3 and not g1f3 [default: true]
       --StrengthOptions <true|false>  Whether the options that limit the engine's strength are shown [default: true]
       --FenceStops <true|false>       Whether a search waits until the engine has read the stop before it [default: true]
+      --TimeMargin <milliseconds>     What is kept back of a fixed time for a move, 0 to 10000 [default: 20]
+      --RepeatThinking <true|false>   Whether the last thinking line is shown again once the expected move is played [default: true]
       --LogFile <file>                The log, made anew by each run [default: wineravine.log]
+      --LogDir <folder>               The folder of the logs, in which each run makes a new one, in place of --LogFile
       --Option <name=value>           Sets an option of the engine, or presses a button if there is no =; may be repeated
 
 Engine:

@@ -1,4 +1,4 @@
-//! The words of the programs `bridge` and `wineravine`, read by `clap`: the settings that both choose, and
+//! The arguments of the programs `bridge` and `wineravine`, read by `clap`: the settings that both choose, and
 //! what else each asks for.
 #![tactic(auto)]
 
@@ -14,7 +14,7 @@ mod wineravine_request;
 pub use arguments::{flag_option, log_file, option, with_arg, with_policy};
 pub use bridge_request::{BridgeRequest, read_bridge_arguments};
 pub use found::{
-    copied_value, first_value, flag, policy_of, put_copies, put_values, texts, values,
+    copied_value, first_value, flag, is_named, policy_of, put_copies, put_values, texts, values,
 };
 pub use help::HELP;
 pub use wineravine_arguments::wineravine_command;

@@ -1,11 +1,13 @@
 // The command, and its arguments.
 ghost use Rattle.std.specs.Prelude.{◌≡◌, true, false, IfOk};
 ghost use Rattle.clap.specs.Words.{app_of, rule_of};
-ghost use Rattle.bridge_command_line.specs.WineravineCommand.{wineravine, bare_wineravine, with_new_settings, with_names, early_settings_rule, resign_when_gone_rule, handle_draws_rule, show_san_rule, strength_options_rule, fence_stops_rule, set_option_rule, wineravine_engine_rule};
+ghost use Rattle.bridge_command_line.specs.WineravineCommand.{wineravine, bare_wineravine, with_new_settings, with_names, early_settings_rule, resign_when_gone_rule, handle_draws_rule, show_san_rule, strength_options_rule, fence_stops_rule, time_margin_rule, repeat_thinking_rule, log_dir_rule, set_option_rule, wineravine_engine_rule};
 
-use crate::arguments::and_arg;
+use crate::arguments::{and_arg, option};
 use crate::{flag_option, log_file, with_arg, with_policy};
+use clap::builder::ValueParser;
 use clap::{Arg, ArgAction, Command};
+use policy_rules::MOST_MARGIN;
 use program_command_line::VERSION;
 use std::alloc::{AllocError, Global};
 
@@ -57,6 +59,36 @@ fn fence_stops<'a>(alloc: Global) -> Arg<'a>
     flag_option(alloc, "FenceStops", "true", help)
 }
 
+fn time_margin<'a>(alloc: Global) -> Arg<'a>
+    ensures rule { rule_of result ≡ time_margin_rule }
+    ensures local { result.global ≡ false }
+{
+    let help = "What is kept back of a fixed time for a move, 0 to 10000";
+    option(alloc, "TimeMargin", "20", "milliseconds", help).value_parser(ValueParser::unsigned(
+        0,
+        u64::from(MOST_MARGIN),
+    ))
+}
+
+fn repeat_thinking<'a>(alloc: Global) -> Arg<'a>
+    ensures rule { rule_of result ≡ repeat_thinking_rule }
+    ensures local { result.global ≡ false }
+{
+    let help = "Whether the last thinking line is shown again once the expected move is played";
+    flag_option(alloc, "RepeatThinking", "true", help)
+}
+
+fn log_dir<'a>(alloc: Global) -> Arg<'a>
+    ensures rule { rule_of result ≡ log_dir_rule }
+    ensures local { result.global ≡ false }
+{
+    Arg::new(alloc, "LogDir")
+        .long("LogDir")
+        .value_parser(ValueParser::NonEmptyString)
+        .value_name("folder")
+        .help("The folder of the logs, in which each run makes a new one, in place of --LogFile")
+}
+
 fn set_option<'a>(alloc: Global) -> Arg<'a>
     ensures rule { rule_of result ≡ set_option_rule }
     ensures local { result.global ≡ false }
@@ -102,7 +134,9 @@ fn with_new<'a>(alloc: Global, command: Command<'a>) -> Result<Command<'a>, Allo
     let command = and_arg(command, handle_draws(alloc));
     let command = and_arg(command, show_san(alloc));
     let command = and_arg(command, strength_options(alloc));
-    and_arg(command, fence_stops(alloc))
+    let command = and_arg(command, fence_stops(alloc));
+    let command = and_arg(command, time_margin(alloc));
+    and_arg(command, repeat_thinking(alloc))
 }
 
 // The command with what names the log, options of the engine, and the engine.
@@ -110,6 +144,7 @@ fn with_named<'a>(alloc: Global, command: Command<'a>) -> Result<Command<'a>, Al
     ensures { IfOk result (λ c. app_of c ≡ with_names (app_of command.entry)) }
 {
     let command = with_arg(command, log_file(alloc, "wineravine.log"));
+    let command = and_arg(command, log_dir(alloc));
     let command = and_arg(command, set_option(alloc));
     and_arg(command, engine(alloc))
 }

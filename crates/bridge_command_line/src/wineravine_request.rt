@@ -2,17 +2,18 @@
 ghost use Rattle.std.specs.Prelude.{◌≡◌, ◌<◌, ◌++◌, false, [], length, map, drop, option_map, is_some, string_bytes, IfOk, IfErr, OnOk};
 ghost use Rattle.clap.specs.Words.{rows_of, found_of, kind_of, HasKind};
 ghost use Rattle.line_io.specs.Event.{has_feed};
-ghost use Rattle.policy_rules.specs.Policy.{IsProper};
-ghost use Rattle.program_command_line.specs.Arguments.{argument_bytes_of};
-ghost use Rattle.bridge_command_line.specs.WineravineArguments.{wineravine_argument_faults, wineravine_argument_values, has_feed_within, wineravine_log_name, wineravine_engine_command, WineravineSettingsAreAsked, WineravineRequestIs, Ask, Fail, ErrorAsksFor, Blames, BlamesFeed};
-ghost use Rattle.bridge_command_line.specs.Values.{all_values};
+ghost use Rattle.policy_rules.specs.SettingRules.Policy.{IsProper};
+ghost use Rattle.program_command_line.specs.Arguments.Request.{argument_bytes_of};
+ghost use Rattle.bridge_command_line.specs.WineravineArguments.{wineravine_argument_faults, wineravine_argument_values, has_feed_within, wineravine_log_name, wineravine_engine_command, WineravineSettingsAreAsked, wineravine_log_folder, has_two_logs, WineravineRequestIs, Ask, Fail, ErrorAsksFor, Blames, BlamesValues};
+ghost use Rattle.bridge_command_line.specs.Values.{all_values, argument_or_empty};
 
+use crate::found::number;
 use crate::lines::{any_with_feed, has_feed, lines_setting};
 use crate::wineravine_arguments::wineravine_command;
-use crate::{copied_value, first_value, flag, policy_of, put_copies, texts, values};
+use crate::{copied_value, first_value, flag, is_named, policy_of, put_copies, texts, values};
 use clap::error::ErrorKind;
 use clap::{ArgMatches, Error};
-use policy_rules::Settings;
+use policy_rules::{MOST_MARGIN, Settings, USUAL_MARGIN};
 use program_command_line::ArgumentsRefusal;
 use std::alloc::{AllocError, Global};
 
@@ -20,7 +21,10 @@ use std::alloc::{AllocError, Global};
 #[derive(Drop)]
 pub struct WineravineRequest {
     pub settings: Settings,
+    /// The file of the log, if there is no folder.
     pub log_name: String,
+    /// The folder in which a new log is to be made.
+    pub log_folder: Option<String>,
     /// The interface's lines that come before all others.
     pub first: Vec<u8>,
     /// The engine's program and its arguments.
@@ -78,11 +82,11 @@ fn text_of(alloc: Global, error: &Error) -> Result<String, AllocError> {
 }
 
 // Arguments that are wrong for a reason that the command does not know.
-fn wrong_by(alloc: Global, reason: &str) -> WrongArguments {
+fn wrong_by(alloc: Global, kind: ErrorKind, reason: &str) -> WrongArguments {
     let Ok(mut command) = wineravine_command(alloc) else {
         return WrongArguments::NoMemory;
     };
-    let Ok(error) = command.error(ErrorKind::InvalidValue, reason) else {
+    let Ok(error) = command.error(kind, reason) else {
         return WrongArguments::NoMemory;
     };
     match text_of(alloc, &error) {
@@ -115,6 +119,8 @@ fn settings_of(found: &ArgMatches) -> Settings
         show_san: flag(found, "ShowSan"),
         strength_options: flag(found, "StrengthOptions"),
         fence_stops: flag(found, "FenceStops"),
+        time_margin: number(found, "TimeMargin", 0, MOST_MARGIN, USUAL_MARGIN),
+        repeat_thinking: flag(found, "RepeatThinking"),
         ..policy_of(found)
     }
 }
@@ -134,6 +140,15 @@ fn log_name_with_feed<'a>(found: &ArgMatches<'a>) -> Option<&'a str>
     if has_feed(name) { Some(name) } else { None }
 }
 
+// The folder of logs if it has a line feed.
+fn log_folder_with_feed<'a>(found: &ArgMatches<'a>) -> Option<&'a str>
+    ensures { is_some result ≡ has_feed (argument_or_empty (wineravine_log_folder (rows_of (found_of
+        found.now)))) }
+{
+    let folder = first_value(found, "LogDir")?;
+    if has_feed(folder) { Some(folder) } else { None }
+}
+
 // The first value that has a line feed, among those that may be any text.
 fn value_with_feed<'a>(found: &ArgMatches<'a>) -> Option<BadValue<'a>>
     ensures { is_some result ≡ has_feed_within (rows_of (found_of found.now)) }
@@ -141,6 +156,12 @@ fn value_with_feed<'a>(found: &ArgMatches<'a>) -> Option<BadValue<'a>>
     if let Some(value) = log_name_with_feed(found) {
         return Some(BadValue {
             option: "LogFile",
+            value,
+        });
+    }
+    if let Some(value) = log_folder_with_feed(found) {
+        return Some(BadValue {
+            option: "LogDir",
             value,
         });
     }
@@ -155,7 +176,7 @@ fn value_with_feed<'a>(found: &ArgMatches<'a>) -> Option<BadValue<'a>>
 fn wrong_value(alloc: Global, bad: &BadValue) -> WrongArguments {
     let BadValue { option, value } = *bad;
     match format!(in alloc; "invalid value {value:?} for '--{option}': it has a line feed") {
-        Ok(reason) => wrong_by(alloc, reason.as_str()),
+        Ok(reason) => wrong_by(alloc, ErrorKind::InvalidValue, reason.as_str()),
         Err(_) => WrongArguments::NoMemory,
     }
 }
@@ -187,6 +208,17 @@ fn engine_of(alloc: Global, found: &ArgMatches) -> Result<Vec<String>, AllocErro
     Ok(engine)
 }
 
+// The folder of a new log, if one is asked for.
+fn log_folder_of(alloc: Global, found: &ArgMatches) -> Result<Option<String>, AllocError>
+    ensures { IfOk result (λ folder. option_map string_bytes folder
+        ≡ wineravine_log_folder (rows_of (found_of found.now))) }
+{
+    match first_value(found, "LogDir") {
+        Some(folder) => Ok(Some(String::from_str(alloc, folder)?)),
+        None => Ok(None),
+    }
+}
+
 fn request_of(alloc: Global, found: &ArgMatches) -> Result<WineravineRequest, AllocError>
     ensures asked { IfOk result (WineravineRequestIs (rows_of (found_of found.now))) }
     ensures proper { IfOk result (λ r. IsProper r.settings) }
@@ -195,19 +227,37 @@ fn request_of(alloc: Global, found: &ArgMatches) -> Result<WineravineRequest, Al
     Ok(WineravineRequest {
         settings: settings_of(found),
         log_name: copied_value(alloc, found, "LogFile")?,
+        log_folder: log_folder_of(alloc, found)?,
         first: lines_setting(alloc, values(found, "Option"))?,
         engine: engine_of(alloc, found)?,
     })
 }
 
+// True if both a file and a folder of logs are named.
+fn has_two_logs(found: &ArgMatches) -> bool
+    ensures { result ≡ has_two_logs (rows_of (found_of found.now)) }
+{
+    is_named(found, "LogFile") && first_value(found, "LogDir").is_some()
+}
+
+// Arguments that are wrong since both are named.
+fn wrong_logs(alloc: Global) -> WrongArguments {
+    let reason = "the argument '--LogDir <folder>' cannot be used with '--LogFile <file>'";
+    wrong_by(alloc, ErrorKind::ArgumentConflict, reason)
+}
+
 // The run that the values ask for.
 fn run_of(alloc: Global, found: &ArgMatches) -> Result<WineravineRequest, WrongArguments>
     ensures no_feed { OnOk result (has_feed_within (rows_of (found_of found.now)) ≡ false) }
+    ensures one_log { OnOk result (has_two_logs (rows_of (found_of found.now)) ≡ false) }
     ensures asked { IfOk result (WineravineRequestIs (rows_of (found_of found.now))) }
     ensures proper { IfOk result (λ r. IsProper r.settings) }
     ensures some { IfOk result (λ r. 0 < length r.engine.items) }
-    ensures wrong { IfErr result (BlamesFeed (rows_of (found_of found.now))) }
+    ensures wrong { IfErr result (BlamesValues (rows_of (found_of found.now))) }
 {
+    if has_two_logs(found) {
+        return Err(wrong_logs(alloc));
+    }
     match value_with_feed(found) {
         Some(bad) => Err(wrong_value(alloc, &bad)),
         None => Ok(request_of(alloc, found)?),
@@ -227,7 +277,7 @@ pub fn read_wineravine_arguments(
         Err(ArgumentsRefusal::NoMemory) => return Err(WrongArguments::NoMemory),
         Err(ArgumentsRefusal::Usage) => {
             let reason = "invalid UTF-8 was detected in one or more arguments";
-            return Err(wrong_by(alloc, reason));
+            return Err(wrong_by(alloc, ErrorKind::InvalidValue, reason));
         }
     };
     match find_in(alloc, texts.as_slice()) {

@@ -3,7 +3,7 @@ use Rattle.std.proofs.Common.{◌≡◌, ◌≢◌, inl, inr, ℕ, List, [], ◌
 use Rattle.line_io.specs.Event.{Event, Open, IfaceLost, EngineLost}
 use Rattle.line_io.specs.Out.{Text, with}
 use Rattle.line_io.specs.Lines.{line_feed}
-use Rattle.policy_rules.specs.declared.settings.Settings.{Settings}
+use Rattle.policy_rules.specs.declared.setting_rules.settings.Settings.{Settings}
 use Rattle.script_lines.specs.Header.{header_text}
 use Rattle.script_lines.specs.StepText.{numbered_marks}
 use Rattle.trace_scripts.specs.Script.{numbered_text, script2}

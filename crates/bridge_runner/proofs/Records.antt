@@ -2,7 +2,7 @@
 use Rattle.std.proofs.Common.{◌≡◌, ◌∙◌, ℕ, Bool, true, false, ◌||◌, refl, sym, ap, subst, arith, List, [], ◌∷◌, ◌++◌, filter, Some}
 use Rattle.line_io.specs.Source.{Supplied, Received}
 use Rattle.line_io.specs.Event.{Event}
-use Rattle.policy_rules.specs.declared.settings.Settings.{Settings}
+use Rattle.policy_rules.specs.declared.setting_rules.settings.Settings.{Settings}
 use Rattle.adapter_core.specs.Trace.{Step, LawfulTrace, iface_text, engine_text}
 use Rattle.adapter_core.proofs.Unique.{unique}
 use Rattle.trace_scripts.specs.Script.{script2}

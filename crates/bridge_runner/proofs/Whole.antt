@@ -1,6 +1,6 @@
 -- A run in which nothing failed.
 use Rattle.std.proofs.Common.{◌≡◌, ℕ, List, Option, None, Some, IfSome, true}
-use Rattle.policy_rules.specs.declared.settings.Settings.{Settings}
+use Rattle.policy_rules.specs.declared.setting_rules.settings.Settings.{Settings}
 use Rattle.program_lifecycle.specs.Early.{no_failure}
 use Rattle.program_lifecycle.specs.Outside.{Outside}
 use Rattle.program_lifecycle.specs.declared.failures.Failures.{Failures}

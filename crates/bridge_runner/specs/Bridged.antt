@@ -1,6 +1,6 @@
 -- The result of a run of the bridge.
 use Rattle.std.specs.Prelude.{◌≡◌, ◌<◌, ℕ, List, map, true, IfSome}
-use Rattle.policy_rules.specs.declared.settings.Settings.{Settings}
+use Rattle.policy_rules.specs.declared.setting_rules.settings.Settings.{Settings}
 use Rattle.adapter_core.specs.Trace.{Step, LawfulTrace, event_of_step}
 use Rattle.program_lifecycle.specs.declared.failures.Failures.{Failures}
 use Rattle.program_lifecycle.specs.Early.{no_failure}
@@ -21,10 +21,10 @@ pub record Bridged (settings : Settings) (first : List ℕ) (before after : Outs
   pub only : (other : List Step) → LawfulTrace settings other
       → map event_of_step other ≡ map event_of_step mediated.ran.looped.did.trace
       → other ≡ mediated.ran.looped.did.trace
-  -- what the ledger says of the trace that the run made
+  -- the ledger's record of the trace that the run made
   pub recorded : BridgeRecorded settings mediated.ran.looped.did.trace before.ledger after.ledger failures
 
--- what the bridge leaves, whether an engine was started or not
+-- the result of the bridge, whether an engine was started or not
 pub record BridgeLeaves (settings : Settings) (first : List ℕ) (before after : Outside)
     (failures : Failures) : Type 0 where
   pub reported : AreReported before after failures

@@ -1,7 +1,7 @@
 -- Results that no whole run leaves, over a host that reports its bytes.
 use Rattle.std.specs.Prelude.{◌≡◌, ℕ, List, [], ◌∷◌, ◌++◌, Some}
 use Rattle.program_lifecycle.specs.Outside.{Outside}
-use Rattle.policy_rules.specs.declared.settings.Settings.{Settings}
+use Rattle.policy_rules.specs.declared.setting_rules.settings.Settings.{Settings}
 use Rattle.trace_scripts.specs.Script.{script2}
 use Rattle.bridge_runner.specs.Recorded.{BridgeRunIsWhole}
 

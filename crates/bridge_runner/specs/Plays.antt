@@ -3,7 +3,7 @@ use Rattle.std.specs.Prelude.{◌≡◌, ◌≢◌, ℕ, suc, List, [], ◌∷�
 use Rattle.line_io.specs.Event.{Event}
 use Rattle.line_io.specs.Out.{Text, with}
 use Rattle.line_io.specs.Lines.{line_feed}
-use Rattle.policy_rules.specs.declared.settings.Settings.{Settings}
+use Rattle.policy_rules.specs.declared.setting_rules.settings.Settings.{Settings}
 use Rattle.script_lines.specs.Header.{header_text}
 use Rattle.script_lines.specs.StepLine.{step_number}
 use Rattle.script_lines.specs.StepText.{numbered_marks}

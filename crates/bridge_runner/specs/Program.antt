@@ -1,7 +1,7 @@
 -- The behaviour of the program, and the meaning of its status.
 use Rattle.std.specs.Prelude.{ℕ, List, codes}
-use Rattle.policy_rules.specs.declared.settings.Settings.{Settings}
-use Rattle.policy_rules.specs.Policy.{IsProper}
+use Rattle.policy_rules.specs.declared.setting_rules.settings.Settings.{Settings}
+use Rattle.policy_rules.specs.SettingRules.Policy.{IsProper}
 use Rattle.trace_laws.specs.Laws.{HasLaws}
 use Rattle.trace_scripts.specs.OneWay.{HasOneSession}
 use Rattle.bridge_runner.specs.Bridged.{BridgeLeaves}
@@ -13,7 +13,7 @@ use Rattle.program_lifecycle.specs.declared.failures.Failures.{Failures}
 abbrev pub program : List ℕ
 program = codes "bridge"
 
--- what the bridge leaves that ran with these settings and first lines
+-- the result of a bridge that ran with these settings and first lines
 pub record BridgeRuns (settings : Settings) (first : List ℕ) (before after : Outside)
     (failures : Failures) : Type 0 where
   pub leaves : BridgeLeaves settings first before after failures

@@ -22,7 +22,7 @@ events_of_steps (s ∷ t) = events_of_steps t ++ (if is_own_step s.event then []
 abbrev pub steps_have_loss : Peer → List Step → Bool
 steps_have_loss p trace = list_any (λ s. is_loss p s.event) trace
 
--- what the steps wrote, in order
+-- the texts of the steps, in order
 abbrev pub step_texts : (Step → List ℕ) → List Step → List ℕ
 step_texts text [] = []
 step_texts text (s ∷ t) = step_texts text t ++ text s

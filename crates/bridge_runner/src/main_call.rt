@@ -1,8 +1,9 @@
 // The program over any host.
 ghost use Rattle.std.specs.Prelude.{◌≡◌, [], true, IfSome};
-ghost use Rattle.program_command_line.specs.Arguments.{argument_bytes_of};
+ghost use Rattle.program_command_line.specs.Arguments.Request.{argument_bytes_of};
 ghost use Rattle.bridge_command_line.specs.BridgeArguments.{BridgeSettingsAreAsked, BridgeArgumentsAreTaken, bridge_engine_command, bridge_log_name, bridge_argument_values};
 ghost use Rattle.child_engine.specs.Hosts.{HostIsUnused};
+ghost use Rattle.child_engine.specs.Places.{log_file};
 ghost use Rattle.program_lifecycle.specs.Asked.{AsksAsReported};
 ghost use Rattle.program_lifecycle.specs.Endings.{program_status, program_diagnostic};
 ghost use Rattle.program_lifecycle.specs.Outside.{outside_of};
@@ -12,7 +13,7 @@ ghost use Rattle.bridge_runner.specs.Program.{RunsAsAsked, BridgeRunsWhole, prog
 
 use crate::running::run_bridge;
 use bridge_command_line::read_bridge_arguments;
-use child_engine::Host;
+use child_engine::{Host, LogPlace};
 use event_loop::RunRequest;
 use line_io::{Sink, Source, Status};
 use program_lifecycle::{Interface, ProgramEnding, finish};
@@ -39,7 +40,7 @@ fn end_of<I: Source + Send, O: Sink + Send, H: Host, R: Threads + Wait + Sync>(
         result }
     ensures asked { AsksAsReported (bridge_engine_command (bridge_argument_values
         (argument_bytes_of arguments.now)))
-        (bridge_log_name (bridge_argument_values (argument_bytes_of arguments.now)))
+        (log_file (bridge_log_name (bridge_argument_values (argument_bytes_of arguments.now))))
         (H.asked host.old) (H.asked host.new)
         (H.faults host.old) (H.faults host.new) (H.ledger host.new) }
 {
@@ -47,7 +48,7 @@ fn end_of<I: Source + Send, O: Sink + Send, H: Host, R: Threads + Wait + Sync>(
         Ok(asked) => {
             let request = RunRequest {
                 first: b"",
-                log_name: asked.log_name.as_str(),
+                log: LogPlace::File(asked.log_name.as_str()),
                 engine: asked.engine.as_slice(),
             };
             ProgramEnding::of(run_bridge(rt, alloc, &asked.settings, &request, interface, host))
@@ -96,7 +97,7 @@ pub fn bridge_main<I: Source + Send, O: Sink + Send, H: Host, D: Sink, R: Thread
         (outside_of I.state O.state H.faults H.ledger interface.new host.new)) }
     ensures asked { AsksAsReported (bridge_engine_command (bridge_argument_values
         (argument_bytes_of arguments.now)))
-        (bridge_log_name (bridge_argument_values (argument_bytes_of arguments.now)))
+        (log_file (bridge_log_name (bridge_argument_values (argument_bytes_of arguments.now))))
         (H.asked host.old) (H.asked host.new)
         (H.faults host.old) (H.faults host.new) (H.ledger host.new) }
     ensures unstarted { result.code ≡ 8

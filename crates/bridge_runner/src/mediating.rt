@@ -1,7 +1,7 @@
 // A session as a mediator.
 ghost use Rattle.std.specs.Prelude.{◌≡◌, ◌+◌, ◌≤◌, length, true, IfOk};
 ghost use Rattle.line_io.specs.Event.{event_of};
-ghost use Rattle.policy_rules.specs.Policy.{IsProper};
+ghost use Rattle.policy_rules.specs.SettingRules.Policy.{IsProper};
 ghost use Rattle.script_lines.specs.declared.step_text.TheConstants.{STEP_ROOM};
 ghost use Rattle.adapter_core.specs.Ends.{may};
 ghost use Rattle.bridge_runner.specs.Plays.{IsNew, BridgeTookStep};

@@ -1,7 +1,8 @@
 // A run of the bridge, and what holds of it by the laws of lawful traces.
 ghost use Rattle.std.specs.Prelude.{◌≡◌, ◌<◌, length, map, string_bytes};
-ghost use Rattle.policy_rules.specs.Policy.{IsProper};
+ghost use Rattle.policy_rules.specs.SettingRules.Policy.{IsProper};
 ghost use Rattle.child_engine.specs.Hosts.{HostIsUnused};
+ghost use Rattle.child_engine.specs.Places.{asked_place};
 ghost use Rattle.program_lifecycle.specs.Asked.{AsksFor};
 ghost use Rattle.program_lifecycle.specs.Outside.{outside_of};
 ghost use Rattle.event_loop.specs.First.{AreOpening};
@@ -37,7 +38,7 @@ pub fn run_bridge<I: Source + Send, O: Sink + Send, H: Host, R: Threads + Wait +
         (outside_of I.state O.state H.faults H.ledger interface.old host.old)
         (outside_of I.state O.state H.faults H.ledger interface.new host.new)
         result }
-    ensures asked { AsksFor (map string_bytes request.now.engine.now) request.now.log_name.now
+    ensures asked { AsksFor (map string_bytes request.now.engine.now) (asked_place request.now.log)
         (H.asked host.old) (H.asked host.new) (H.ledger host.new) result }
 {
     laws_hold(*settings);

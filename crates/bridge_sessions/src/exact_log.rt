@@ -2,7 +2,7 @@
 use crate::expected::expect_bytes;
 use crate::program::{Counts, Given, run_bridge};
 use bridge_runner::logs_are_whole;
-use child_engine::Fails;
+use child_engine::{Fails, LogPlace};
 use paced_host::DueText;
 use std::alloc::Global;
 use std::process::Abort;
@@ -29,7 +29,10 @@ fn expect_session<R: Threads + Wait + Sync + Abort>(rt: &R, alloc: Global, sessi
     let run = run_bridge(rt, alloc, &session.given, &fails, &counts);
     expect_bytes(rt, run.host.logged(), session.log);
     expect_bytes(rt, run.output.sink.taken(), session.answers);
-    assert!(rt; run.host.was_asked_for(1, &["toy", "-x y"], "b.log"));
+    assert!(rt;
+        run.host
+            .was_asked_for(1, &["toy", "-x y"], &LogPlace::File("b.log"))
+    );
     assert_eq!(rt; run.code, session.code);
 }
 

@@ -1,7 +1,7 @@
 // A host in memory whose engine waits for its orders.
 ghost use Rattle.std.specs.Prelude.{◌≡◌};
 
-use child_engine::{Host, HostFault, MemHost, Started};
+use child_engine::{Host, HostFault, LogPlace, MemHost, Started};
 use line_io::{Failed, MemSink};
 use paced_host::{PacedLog, PacedSource};
 use std::alloc::Global;
@@ -77,8 +77,8 @@ impl<'a> Host for WaitingHost<'a> {
         })
     }
 
-    fn open_log(&mut self, alloc: Global, name: &str) -> Result<MemSink, HostFault> {
-        self.host.open_log(alloc, name)
+    fn open_log(&mut self, alloc: Global, place: &LogPlace) -> Result<MemSink, HostFault> {
+        self.host.open_log(alloc, place)
     }
 
     fn close(&mut self, run: Started<PacedSource<'a>, PacedLog<'a>, ()>) -> Result<(), Failed>

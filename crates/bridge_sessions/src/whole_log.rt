@@ -1,6 +1,6 @@
 // The log of a run over a host in memory is the script of the run's trace.
 ghost use Rattle.std.specs.Prelude.{IfOk, IfSome};
-ghost use Rattle.program_command_line.specs.Arguments.{argument_bytes_of};
+ghost use Rattle.program_command_line.specs.Arguments.Request.{argument_bytes_of};
 ghost use Rattle.child_engine.specs.Hosts.{HostIsUnused};
 ghost use Rattle.child_engine.specs.Memory.{memory_ledger, means_of};
 ghost use Rattle.bridge_sessions.specs.Scripts.{IsScriptOfRun};

@@ -15,7 +15,8 @@ use Rattle.driver_state_machine.specs.declared.words.ToEngine.{ToEngine}
 use Rattle.driver_state_machine.specs.Lines.{DownLine, lines_text}
 use Rattle.driver_state_machine.specs.Parts.{feature_parts}
 use Rattle.driver_state_machine.proofs.Busy.{open_is_busy}
-use Rattle.driver_state_machine.proofs.Prompts.{prompts_are_due, prompts_have_cause, prompts_once}
+use Rattle.driver_state_machine.proofs.PromptCauses.{prompts_have_cause}
+use Rattle.driver_state_machine.proofs.Prompts.{prompts_are_due, prompts_once}
 use Rattle.driver_state_machine.specs.declared.order_words.OrderWord.{OrderWord}
 use Rattle.driver_state_machine.specs.declared.order_words.OrderWord.TheVariants as orders
 use Rattle.driver_state_machine.specs.Words.{order_word_in as order_in}

@@ -50,7 +50,7 @@ board_known boards.Same sent_game g k = k
 board_known (boards.Moved m) sent_game g k = λ h. ap (λ (x : Game). with_ply x (ply_of m)) (k h)
 board_known boards.Lost sent_game g k = λ h. absurd (cc)
 
--- what comes of an event
+-- the outcome of an event
 abbrev Result : Event → DriverParts → DriverParts → Game → Type 0
 Result event v v' g = (g' : Game) × (Sets event v v' g g' × (DriverInvariant v' × (IsKnown v'.sent_game g' × IsGame v'.game)))
 
@@ -169,7 +169,7 @@ quit_still : (before : Bool) → before ≡ true → DriverQuitIsLast before bef
 quit_still true e = (refl, refl)
 quit_still false e = absurd (cc)
 
--- what is written for features
+-- the line that is written for features
 answered : (event : Event) (v v' : DriverParts) (g : Game) (lines : List DownLine) → DriverInvariant v' → IsKnown v'.sent_game g → IsGame v'.game → AllByRecursion EngineLineCanBeRead lines → AreCalm lines → DriverQuitIsLast (interface_is_gone v.talk.stage) (interface_is_gone v'.talk.stage) lines
     → IsOwn event v None → v'.down.text ≡ lines_text lines → AreQuiet lines → set_by_all g lines ≡ g → Result event v v' g
 answered event v v' g lines keeps known game said calm quits own written q s = (

@@ -62,7 +62,7 @@ fits_down g sent_game (downs.Play clocks at_once) f = f
 fits_down g sent_game (downs.Analyse clocks ping) f = f
 fits_down g sent_game down f = tt
 
--- what a turn gives can be written, and what is open then is served
+-- the output of a turn can be written, and a search that is open then is served
 abbrev pub IsGood : Game → SentGame → DriverTurn → Type 0
 IsGood g sent_game r =
     SaysLegal g r.action.up × FitsSent g sent_game r.action.down × CanPush r.action.board (sent_after_line g r.action.down sent_game)
@@ -73,7 +73,7 @@ abbrev pub FirstFits : Game → Option Move → Type 0
 FirstFits g None = IsMoveless g
 FirstFits g (Some m) = legal (current_position g) m ≡ true
 
--- what is known of the moves and the game of a call
+-- the facts on the moves and the game of a call
 abbrev pub CallFits : Game → DriverCall → Type 0
 CallFits g (calls.Go w) = FirstFits g w.first × ((w.reach ≡ reaches.Nothing) ⊎ (length g.moves ≤ MOST_PLIES))
 CallFits g (calls.Moved shown) = IfSome shown (λ m. legal (current_position g) m ≡ true)

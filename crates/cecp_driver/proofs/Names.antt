@@ -30,7 +30,7 @@ pub record IsWholeFeature (f : Feature) : Type 0 where
 abbrev AreWhole : List Feature → Type 0
 AreWhole fs = AllByRecursion IsWholeFeature fs
 
--- what is cut off is a feature of a line, and what is left is one
+-- the part that is cut off is a feature of a line, and the rest is one
 record IsCut (c : CutFeature) : Type 0 where
   part : IfSome c.part IsWholeFeature
   left : IsWhole c.rest

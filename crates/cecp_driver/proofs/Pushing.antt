@@ -12,7 +12,7 @@ use Rattle.game_record.specs.declared.game.PlayFault.TheVariants.{Illegal, TooLo
 use Rattle.game_record.specs.Game.{Game, ply_of, current_position, with_ply, IsPlayablePly}
 use Rattle.cecp_driver.specs.Ordered.{push_one, game_after_texts}
 
--- what comes of a try, by the tests of a move
+-- the outcome of a try, by the tests of a move
 record IsTried (r : Result (Unit {0}) PlayFault) (left next : Option Game) : Type 0 where
   done : is_ok r ≡ true → next ≡ left
   refused : is_ok r ≡ false → next ≡ None

@@ -201,7 +201,7 @@ over_still gone awaited pings search calls.Ended = (refl, refl)
 
 -- IN A TURN
 
--- what a turn writes, if it is no `quit`
+-- the line of a turn, if it is no `quit`
 abbrev Unquit : Game → SentGame → Bool → DriverTurn → Type 0
 Unquit g sent_game has_usermove r = says_quit r.action.down ≡ false → AllByRecursion IsNoQuit (down_lines sent_game g has_usermove r.action.down)
 

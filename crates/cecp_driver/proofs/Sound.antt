@@ -106,7 +106,7 @@ causes_of event v (ups.Info thought) h = (tt, tt)
 abbrev IsKnown : DriverParts → Option Game → Type 0
 IsKnown v asked = is_search_open v.talk.search ≡ true → asked ≡ Some v.game
 
--- what comes of an event
+-- the outcome of an event
 abbrev Result : Event → DriverParts → DriverParts → Option Game → ℕ → ℕ → Type 0
 Result event v v' asked gos answers = EventGave event v v' asked gos answers × (DriverInvariant v' × IsKnown v' (game_asked event v asked))
 

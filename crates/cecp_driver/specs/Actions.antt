@@ -78,7 +78,7 @@ FitsDown game (downs.Play clocks at_once) = length game.moves ≤ MOST_PLIES
 FitsDown game (downs.Analyse clocks ping) = length game.moves ≤ MOST_PLIES
 FitsDown game down = Unit {0}
 
--- what the engine was given then
+-- the line that the engine was given then
 abbrev pub sent_after_line : Game → ToEngine → SentGame → SentGame
 sent_after_line game (downs.Play clocks at_once) sent_game =
     sent_with_limit (set_up sent_game game (has_depth clocks)) (has_depth clocks)

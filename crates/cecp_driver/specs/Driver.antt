@@ -91,7 +91,7 @@ reach_of v =
     if is_usable v then (if v.has.analyze then reaches.Analyse else reaches.Play)
     else reaches.Nothing
 
--- what a `go` asks for
+-- the search that a `go` asks for
 pub record Wants (v : DriverParts) (line : List ℕ) (w : WantedSearch) : Type 0 where
   pub kind : w.kind ≡ kind_asked line
   pub clocks : w.clocks ≡ clocks_in line
@@ -118,7 +118,7 @@ abbrev pub placed_if : OrderWord → DriverParts → List ℕ → DriverParts
 placed_if orders.Position v line = driver_after_position v line
 placed_if ordered v line = v
 
--- what an order asks for, besides a position
+-- the request of an order, besides a position
 abbrev pub GoIsAsked : DriverParts → List ℕ → OrderWord → DriverCall → Type 0
 GoIsAsked v line orders.Quit call = call ≡ calls.Quit
 GoIsAsked v line orders.Uci call = call ≡ calls.Uci
@@ -136,7 +136,7 @@ thought_call depth score time nodes None = calls.Other
 thought_call depth score time nodes (Some best) =
     calls.Thought (record { depth = depth; score = score; time = time; nodes = nodes; best = best })
 
--- what the engine says, besides its features: its moves are those of the ordered position
+-- the meaning of the engine's lines, besides its features: its moves are those of the ordered position
 abbrev pub EngineLineIsHeard : DriverParts → EngineMessageSeen → DriverCall → Type 0
 EngineLineIsHeard v (SaysMove text) call =
     (shown : Option Move) × (EngineMoveIs (current_position v.game) text shown × (call ≡ calls.Moved shown))
@@ -193,7 +193,7 @@ pub record OrdersBy (ordered : OrderWord) (line : List ℕ) (v v' : DriverParts)
   pub asked : GoIsAsked (placed_if ordered (driver_without_lines v) line) line ordered call
   pub after : v' ≡ driver_after_call (placed_if ordered (driver_without_lines v) line) call
 
--- what comes of an order
+-- the outcome of an order
 abbrev pub Orders : List ℕ → DriverParts → DriverParts → Type 0
 Orders line v v' = OrdersBy (order_in (first_token line)) line v v'
 
@@ -206,10 +206,10 @@ abbrev pub HeardBy : EngineMessageSeen → DriverParts → DriverParts → Type 
 HeardBy (Feature text) v v' = v' ≡ driver_after_features v text
 HeardBy said v v' = (call : DriverCall) × (EngineLineIsHeard v said call × (v' ≡ driver_after_call v call))
 
--- what comes of a line of the engine
+-- the outcome of a line of the engine
 abbrev pub DriverHears : List ℕ → DriverParts → DriverParts → Type 0
 DriverHears line v v' = HeardBy (says_in line) (driver_without_lines v) v'
 
--- what comes of the end of the engine
+-- the outcome of the end of the engine
 abbrev pub EngineEndGives : DriverParts → DriverParts → Type 0
 EngineEndGives v v' = v' ≡ driver_after_call (driver_without_lines v) calls.Ended

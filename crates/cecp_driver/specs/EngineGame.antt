@@ -19,7 +19,7 @@ use Rattle.cecp_driver.specs.Driver.{opening_driver}
 use Rattle.cecp_driver.specs.Said.{EngineLineCanBeRead}
 use Rattle.cecp_driver.specs.Script.{DriverTakesAll}
 
--- what a line does to the game of an engine: `new`, `setboard` and moves set
+-- the effect of a line on the game of an engine: `new`, `setboard` and moves set
 -- it, and nothing else does
 abbrev pub game_set_by : Game → DownLine → Game
 game_set_by g New = game_from start_position

@@ -35,7 +35,7 @@ abbrev pub is_go : OrderWord → Bool
 is_go orders.Go = true
 is_go ordered = false
 
--- whether an event is a `go` that is accepted
+-- true if an event is a `go` that is accepted
 abbrev pub accepts_go : Event → DriverParts → Bool
 accepts_go (Iface line) v = is_go (order_in (first_token line)) && is_free v.talk
 accepts_go event v = false

@@ -19,7 +19,7 @@ may_come v (Engine line) = not v.talk.gone
 may_come v EngineEnd = not v.talk.gone
 may_come v event = false
 
--- what comes of an event: a line of the interface is an order, and its end is `quit`
+-- the outcome of an event: a line of the interface is an order, and its end is `quit`
 abbrev pub DriverEventGives : Event → DriverParts → DriverParts → Type 0
 DriverEventGives (Iface line) v v' = Orders line v v'
 DriverEventGives IfaceEnd v v' = Orders (codes "quit") v v'
@@ -52,7 +52,7 @@ DriverTakesAll v [] (v' ∷ later) = ⊥
 DriverTakesAll v (event ∷ events) [] = ⊥
 DriverTakesAll v (event ∷ events) (v' ∷ later) = DriverTakes event v v' × DriverTakesAll v' events later
 
--- what it is after the last of them
+-- the state after the last of them
 abbrev pub last_of : DriverParts → List DriverParts → DriverParts
 last_of v [] = v
 last_of v (v' ∷ later) = last_of v' later

@@ -184,7 +184,7 @@ blank_false xs l h = blank_by xs (is_blank xs) refl l h
 blank_more : (xs ys : List ℕ) → is_blank ys ≡ false → is_blank (xs ++ ys) ≡ false
 blank_more xs ys h = list_all-append is_white xs ys ∙ ap (λ b. is_blank xs && b) h ∙ and-false (is_blank xs)
 
--- what is not blank at the end keeps what is before it
+-- an end that is not blank keeps the bytes before it
 right_over : (xs ys : List ℕ) → is_blank ys ≡ false → trim_right (xs ++ ys) ≡ xs ++ trim_right ys
 right_over [] ys h = refl
 right_over (x ∷ xs) ys h = rw (ap (λ b. is_white x && b) (blank_more xs ys h) ∙ and-false (is_white x), right_over xs ys h) refl

@@ -28,7 +28,7 @@ no_prefix : (prefix line : List ℕ) (o : Option (List ℕ)) → rest_after_pref
 no_prefix prefix line None e h = refl
 no_prefix prefix line (Some rest) e h = absurd (h rest (stripped_is prefix line rest e))
 
--- what `strip_prefix` gives
+-- the result of `strip_prefix`
 pub prefix_found : (prefix line : List ℕ) (r : Option (Bor (List ℕ))) → MatchOption r ((rest : List ℕ) → line ≢ prefix ++ rest) (λ x. line ≡ prefix ++ x.now) → option_map (λ t. t.now) r ≡ rest_after_prefix prefix line
 prefix_found prefix line None h = no_prefix prefix line (rest_after_prefix prefix line) refl h
 prefix_found prefix line (Some x) h = sym (ap (rest_after_prefix prefix) h ∙ stripped_prefix prefix x.now)

@@ -26,7 +26,7 @@ use Rattle.cecp_lines.specs.Replies as cecp
 use Rattle.cecp_lines.specs.Replies.{Reply, reply_of, is_feature_name}
 use Rattle.protocol_tokens.specs.Bytes.{digit_zero, blank, right_parenthesis}
 
--- what follows a front
+-- the text behind a prefix
 abbrev pub rest_after_prefix : List ℕ → List ℕ → Option (List ℕ)
 rest_after_prefix [] line = Some line
 rest_after_prefix (f ∷ fs) [] = None
@@ -230,7 +230,7 @@ thinking_in text =
     option_and_then (thinking_of depth.0 score.0 time.0 nodes.0) (hint_in_reply nodes.1))
     (number_field time.1)) (number_field score.1)) (score_field depth.1)) (number_field text)
 
--- what is read after a prefix, or else
+-- the reading after a prefix, or else
 abbrev pub behind : Option (List ℕ) → (List ℕ → Option Reply) → Option Reply → Option Reply
 behind None read other = other
 behind (Some text) read other = read text

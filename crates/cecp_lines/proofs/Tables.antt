@@ -23,7 +23,7 @@ looked_by P w a x c true others e p k h =
     subst (λ (y : Command). P w y) what (subst (λ (u : List ℕ). P u x) (sym same) p)
 looked_by P w a x c false others e p k h = k h
 
--- what holds of each row holds of what is found
+-- a fact of each row is a fact of the one that is found
 pub looked_up : (P : List ℕ → Command → Type 0) (rows : List (List ℕ × Command)) → AllByRecursion (λ row. P row.0 row.1) rows → (w : List ℕ) (c : Command) → lookup (bytes_eq w) rows ≡ Some c → P w c
 looked_up P [] all w c h = absurd (cc)
 looked_up P (row ∷ rows) all w c h = looked_by P w row.0 row.1 c (bytes_eq w row.0) (lookup (bytes_eq w) rows) refl all.0 (looked_up P rows all.1 w c) h
@@ -44,7 +44,7 @@ verb_text verbs.Memory = codes "memory"
 verb_text verbs.Cores = codes "cores"
 verb_text verbs.EgtPath = codes "egtpath"
 
--- what a found word is
+-- the row of a word that was found
 abbrev pub Means : List ℕ → Command → Type 0
 Means w Ignored = is_ignored w ≡ true
 Means w (Bare word) = (line : List ℕ) → first_token line ≡ w → SpellsIfaceMsg line (bare_message word)

@@ -76,7 +76,7 @@ message_of (says.Memory n) = Memory n
 message_of (says.Cores n) = Cores n
 message_of (says.EgtPath kind path) = EgtPath kind.now path.now
 
--- what was read, or why nothing was
+-- the message that was read, or why none was
 abbrev pub read_as : Answer CodeIfaceMsg IfaceFault → Answer IfaceMsg IfaceFault
 read_as (Ok msg) = Ok (message_of msg)
 read_as (Err fault) = Err fault

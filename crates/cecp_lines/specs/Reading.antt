@@ -139,7 +139,7 @@ other_line word more =
     if is_empty_text word then Ok says.Blank
     else (if is_empty_text more then move_or_unknown (move_spelled_by word) else Err UnknownCommand)
 
--- what is read of a line by what its first token means
+-- the reading of a line by the meaning of its first token
 abbrev pub command_line : Option Command → List ℕ → Result IfaceMsg IfaceFault
 command_line (Some Ignored) line = Ok (says.Ignored (trimmed line))
 command_line (Some (Bare word)) line = Ok (bare_message word)

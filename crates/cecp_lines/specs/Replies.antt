@@ -1,6 +1,6 @@
 -- The replies to the interface, whatever memory their bytes lie in, and how they are written.
 use Rattle.std.specs.Prelude.{◌≡◌, ℕ, ℤ, ◌+◌, ◌<◌, ◌≤◌, ◌^◌, List, [], ◌∷◌, ◌++◌}
-use Rattle.std.specs.Prelude.{length, map, Bool, true, not, ◌&&◌, ◌||◌, ◌==◌}
+use Rattle.std.specs.Prelude.{length, map, Bool, true, false, not, ◌&&◌, ◌||◌, ◌==◌}
 use Rattle.std.specs.Prelude.{nat_lt, codes, decimal, Option, Some, None, IfSome}
 use Rattle.std.specs.Fmt.{signed_decimal}
 use Rattle.std.specs.Int.RustNames.{FitsSigned}
@@ -114,6 +114,12 @@ reply_text (Stat01 time nodes depth left all current) =
     codes "stat01: " ++ field (decimal time) ++ field (decimal nodes) ++ field (decimal depth)
     ++ field (decimal left) ++ decimal all ++ current_text current
 
+-- a reply that reports the search
+abbrev pub is_search_report : Reply → Bool
+is_search_report (Thinking depth score time nodes spelling hint pv) = true
+is_search_report (Stat01 time nodes depth left all current) = true
+is_search_report reply = false
+
 -- neither empty, nor with white space or `=` in it
 abbrev pub is_name_byte : ℕ → Bool
 is_name_byte b = not (is_white b || b == equals)
@@ -147,7 +153,7 @@ abbrev pub IsRepeated : Reason → List ℕ → Type 0
 IsRepeated reasons.LineTooLong line = line ≡ codes "..."
 IsRepeated _ line = trimmed line ≡ line
 
--- what the fields of a reply that some line spells meet, besides the range of their types
+-- the conditions on the fields of a reply that some line spells, besides the range of their types
 abbrev pub IsReply : Reply → Type 0
 IsReply (Feature name value) = is_feature_name name ≡ true
 IsReply (Move m) = IsWritable m

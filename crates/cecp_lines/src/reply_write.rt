@@ -1,10 +1,10 @@
 // The texts of replies.
-ghost use Rattle.std.specs.Prelude.{◌≡◌, ◌+◌, ◌≤◌, ◌++◌, codes, length, decimal, IfSome};
+ghost use Rattle.std.specs.Prelude.{◌≡◌, ◌+◌, ◌≤◌, ◌++◌, codes, length, decimal, true, IfSome};
 ghost use Rattle.std.specs.Fmt.{signed_decimal};
 ghost use Rattle.std.specs.Option.{option_map};
 ghost use Rattle.line_io.specs.Out.{with};
 ghost use Rattle.chess_board.specs.Text.{text_of_move};
-ghost use Rattle.cecp_lines.specs.Replies.{Feature, Error, Pong, Stat01, reply_of, reply_text, reason_text, user_error_text, outcome_text, hint_in_parentheses, current_text, field, HasWritableMoves, IsWritable};
+ghost use Rattle.cecp_lines.specs.Replies.{Feature, Error, Pong, Stat01, is_search_report, reply_of, reply_text, reason_text, user_error_text, outcome_text, hint_in_parentheses, current_text, field, HasWritableMoves, IsWritable};
 
 use crate::reply::{Outcome, Reason, Reply, UserError};
 use chess_board::{Move, write_move};
@@ -150,6 +150,19 @@ struct ThinkingNumbers {
     nodes: u64,
 }
 
+impl ThinkingNumbers {
+    fn new(depth: u64, score: i64, time: u64, nodes: u64) -> ThinkingNumbers
+        ensures { result ≡ record { depth = depth; score = score; time = time; nodes = nodes } }
+    {
+        ThinkingNumbers {
+            depth,
+            score,
+            time,
+            nodes,
+        }
+    }
+}
+
 /// The five numbers of a `stat01` line.
 #[derive(Clone, Copy)]
 struct Stat01Numbers {
@@ -158,6 +171,26 @@ struct Stat01Numbers {
     depth: u64,
     left: u64,
     all: u64,
+}
+
+impl Stat01Numbers {
+    fn new(time: u64, nodes: u64, depth: u64, left: u64, all: u64) -> Stat01Numbers
+        ensures { result ≡ record {
+          time = time;
+          nodes = nodes;
+          depth = depth;
+          left = left;
+          all = all;
+        } }
+    {
+        Stat01Numbers {
+            time,
+            nodes,
+            depth,
+            left,
+            all,
+        }
+    }
 }
 
 fn put_thought(n: ThinkingNumbers, out: &mut Out)
@@ -213,6 +246,41 @@ fn put_stat01(n: Stat01Numbers, current: Option<Move>, out: &mut Out)
     put_current(current, out);
 }
 
+// Writes the text of a reply that reports the search.
+fn put_search_report(reply: &Reply, out: &mut Out)
+    requires report { is_search_report (reply_of reply.now) ≡ true }
+    requires moves { HasWritableMoves (reply_of reply.now) }
+    requires room { length out.old.text + length (reply_text (reply_of reply.now)) ≤ out.old.room }
+    ensures { out.new ≡ with out.old (reply_text (reply_of reply.now)) }
+{
+    match reply {
+        Reply::Thinking {
+            depth,
+            score,
+            time,
+            nodes,
+            spelling: _,
+            hint,
+            pv,
+        } => {
+            let numbers = ThinkingNumbers::new(*depth, *score, *time, *nodes);
+            put_thinking(numbers, *hint, pv, out)
+        }
+        Reply::Stat01 {
+            time,
+            nodes,
+            depth,
+            left,
+            all,
+            current,
+        } => {
+            let numbers = Stat01Numbers::new(*time, *nodes, *depth, *left, *all);
+            put_stat01(numbers, *current, out)
+        }
+        _ => unreachable!(),
+    }
+}
+
 /// Writes the text of a reply, without a line feed.
 pub fn write_reply(reply: &Reply, out: &mut Out)
     requires moves { HasWritableMoves (reply_of reply.now) }
@@ -231,39 +299,7 @@ pub fn write_reply(reply: &Reply, out: &mut Out)
         Reply::Resign => out.put(b"resign"),
         Reply::Hint(m) => put_text_and_move(b"Hint: ", *m, out),
         Reply::Result(outcome) => out.put(result_line(*outcome)),
-        Reply::Thinking {
-            depth,
-            score,
-            time,
-            nodes,
-            spelling: _,
-            hint,
-            pv,
-        } => {
-            let numbers = ThinkingNumbers {
-                depth: *depth,
-                score: *score,
-                time: *time,
-                nodes: *nodes,
-            };
-            put_thinking(numbers, *hint, pv, out)
-        }
-        Reply::Stat01 {
-            time,
-            nodes,
-            depth,
-            left,
-            all,
-            current,
-        } => {
-            let numbers = Stat01Numbers {
-                time: *time,
-                nodes: *nodes,
-                depth: *depth,
-                left: *left,
-                all: *all,
-            };
-            put_stat01(numbers, *current, out)
-        }
+        Reply::Thinking { .. } => put_search_report(reply, out),
+        Reply::Stat01 { .. } => put_search_report(reply, out),
     }
 }

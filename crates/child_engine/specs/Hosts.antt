@@ -7,7 +7,7 @@ use Rattle.child_engine.specs.declared.host.Faults.{Faults}
 use Rattle.child_engine.specs.declared.host.HostFault.{HostFault}
 use Rattle.child_engine.specs.declared.host.HostFault.TheVariants as faults
 
--- what a closed run showed: what its source gave and had left, and what its sink took
+-- the report of a closed run: the bytes that its source gave and had left, and those that its sink took
 pub record ShownRun : Type 0 where
   pub given : Option (List ℕ)
   pub left : Option (List ℕ)
@@ -19,9 +19,9 @@ shown_run source sink = record { given = source.given; left = source.left; taken
 -- The reports of a host on its parts, how many runs and logs were handed out, and what those showed
 -- that were closed, in the order of closing.
 pub record Ledger : Type 0 where
-  -- what each engine says, if the sources report what they give and have left
+  -- the bytes that each engine says, if the sources report what they give and have left
   pub says : Option (List ℕ)
-  -- whether the engines' inputs and the logs report what they take
+  -- true if the engines' inputs and the logs report what they take
   pub sinks_report : Bool
   pub runs_out : ℕ
   pub logs_out : ℕ
@@ -61,12 +61,12 @@ with_closed_run ledger source sink = record ledger { runs = ledger.runs ++ shown
 abbrev pub with_closed_log : Ledger → Received → Ledger
 with_closed_log ledger log = record ledger { logs = ledger.logs ++ log.taken ∷ [] }
 
--- what a source shows that is handed out: it gave nothing, has left all that the
+-- the report of a source that is handed out: it gave nothing, has left all that the
 -- engine says, and never failed
 abbrev pub fresh_source : Option (List ℕ) → Supplied
 fresh_source says = record { given = option_map (λ _. []) says; left = says; faults = 0 }
 
--- what a sink or a log shows that is handed out: it took nothing, and never failed
+-- the report of a sink or a log that is handed out: it took nothing, and never failed
 abbrev pub fresh_sink : Bool → Received
 fresh_sink sinks_report = record { taken = if sinks_report then Some [] else None; faults = 0 }
 

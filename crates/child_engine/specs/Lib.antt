@@ -3,5 +3,6 @@ pub mod Closing
 pub mod Hosts
 pub mod Input
 pub mod Memory
+pub mod Places
 pub mod Real
 pub mod Steady

@@ -6,9 +6,13 @@ use Rattle.line_io.specs.declared.memory.MemSource.{MemSource}
 use Rattle.line_io.specs.declared.memory.MemSink.{MemSink}
 use Rattle.child_engine.specs.Asked.{Asked}
 use Rattle.child_engine.specs.Hosts.{Ledger, shown_run}
+use Rattle.child_engine.specs.Places.{Disk, LogAsked, log_file, new_log}
+use Rattle.child_engine.specs.declared.mem_files.MemFiles.{MemFiles}
 use Rattle.child_engine.specs.declared.memory.MemHost.{MemHost}
+use Rattle.child_engine.specs.declared.places.AskedLog.{AskedLog}
+use Rattle.child_engine.specs.declared.places.AskedLog.TheVariants as asked_logs
 
--- what a source and a sink in memory show
+-- the reports of a source and a sink in memory
 abbrev pub shown_by_memory_source : MemSource → Supplied
 shown_by_memory_source s = record {
   given = Some (supply_of s).given;
@@ -31,12 +35,22 @@ memory_ledger h =
       logs = map (λ log. (shown_by_sink log).taken) h.closed_logs.items;
     }
 
--- what it was asked for
+-- the place of a log that it was asked for
+abbrev pub kept_place : AskedLog → LogAsked
+kept_place (asked_logs.File name) = log_file (string_bytes name)
+kept_place (asked_logs.New folder name) = new_log (string_bytes folder) (string_bytes name)
+
+-- the files and folders that are there
+abbrev pub disk_of : MemFiles → Disk
+disk_of f =
+    record { files = map string_bytes f.files.items; folders = map string_bytes f.folders.items }
+
+-- the requests so far
 abbrev pub asked_of : MemHost → Asked
 asked_of h =
     record {
       engines = Some (map (λ arguments. map string_bytes (vec_items arguments)) h.engines.items);
-      logs = Some (map string_bytes h.log_names.items);
+      logs = Some (map kept_place h.log_places.items);
     }
 
 -- The means of a host: what each engine says and how much of it a read gives, the room of each

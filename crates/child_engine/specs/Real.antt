@@ -33,6 +33,6 @@ real_ledger h =
       logs = mute_logs h.logs_closed;
     }
 
--- the words of the command that a process was spawned from: its program, and then its arguments
+-- the arguments of the command that a process was spawned from: its program, and then its arguments
 abbrev pub spawned_command : RealProcess → List (List ℕ)
 spawned_command process = command_program process.command ∷ command_args process.command

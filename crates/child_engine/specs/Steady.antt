@@ -38,7 +38,7 @@ steady_ledger h =
       logs = mute_logs h.logs_closed;
     }
 
--- what each engine says, and how much of it a read gives
+-- the bytes that each engine says, and how many of them a read gives
 pub record SteadyEngine : Type 0 where
   pub engine : List ℕ
   pub piece : ℕ

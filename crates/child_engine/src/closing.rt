@@ -30,7 +30,7 @@ impl ClosableSink for NullSink {
     fn close_sink(&mut self) {}
 }
 
-/// A sink over a writer that is closed when it is told so, and not before.
+/// A sink over a writer that is closed when it is asked to be, and not before.
 #[derive(Drop)]
 pub struct Closing<W> {
     writer: Option<W>,

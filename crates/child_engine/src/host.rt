@@ -1,8 +1,10 @@
 // Where engines and logs come from.
 ghost use Rattle.std.specs.Prelude.{◌≡◌, ◌<◌, ◌≤◌, length, map, string_bytes, IfOk, OnOk, OnErr};
 ghost use Rattle.child_engine.specs.Asked.{Asked, Asks, not_kept, and_engines, and_logs};
+ghost use Rattle.child_engine.specs.Places.{asked_place};
 ghost use Rattle.child_engine.specs.Hosts.{Ledger, with_run, with_log, with_closed_run, with_closed_log, fresh_source, fresh_sink, StartsBy, OpensBy, ClosesBy, ClosesLogBy, RisesBy};
 
+use crate::LogPlace;
 use line_io::{Failed, NoMemory, Sink, Source};
 use std::alloc::Global;
 
@@ -71,7 +73,7 @@ pub trait Host {
     /// The reports of the parts, what was handed out, and what was shown by that which was closed.
     ghost ledger: { Self → Ledger };
 
-    /// The words of each engine that was to be started and the name of each log that was to be
+    /// The arguments of each engine that was to be started and the place of each log that was to be
     /// opened, whether that succeeded or failed, if the host keeps them.
     ghost asked: { Self → Asked } = { λ _. not_kept };
 
@@ -94,15 +96,15 @@ pub trait Host {
             result }
         ensures cause { StartsBy (faults self.old) (faults self.new) result };
 
-    /// Makes the log of this name anew.
-    fn open_log(&mut self, alloc: Global, name: &str) -> Result<Self::Log, HostFault>
+    /// Makes the log at this place.
+    fn open_log(&mut self, alloc: Global, place: &LogPlace) -> Result<Self::Log, HostFault>
         requires few { (ledger self.old).logs_out < 10 }
         ensures out { OnOk result (ledger self.new ≡ with_log (ledger self.old)) }
         ensures log { IfOk result (λ log.
             Self.Log.state log ≡ fresh_sink (ledger self.old).sinks_report) }
         ensures err { OnErr result (ledger self.new ≡ ledger self.old) }
         ensures asked { Asks (asked self.old)
-            (and_logs 1 name.now (asked self.old)) (asked self.new) result }
+            (and_logs 1 (asked_place place.now) (asked self.old)) (asked self.new) result }
         ensures cause { OpensBy (faults self.old) (faults self.new) result };
 
     /// Closes the engine's pipes, and waits for the engine's end.

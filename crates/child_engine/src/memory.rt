@@ -1,8 +1,11 @@
 // A host in memory.
-ghost use Rattle.std.specs.Prelude.{◌≡◌, ◌<◌, ◌≤◌, Some, [], slice_get, length, map, string_bytes, vec_items, vec_len, vec_capacity, IfOk, IfSome};
+ghost use Rattle.std.specs.Prelude.{◌≡◌, ◌<◌, ◌≤◌, Some, [], slice_get, length, map, string_bytes, vec_items, vec_len, vec_capacity, IfOk, IfSome, OnOk};
 
+use crate::copies::copies_of;
 use crate::host::raised;
-use crate::{Faults, Host, HostFault, Started};
+use crate::mem_files::{MemFiles, make_file, put_name};
+use crate::places::kept_place;
+use crate::{AskedLog, Faults, Host, HostFault, LogPlace, Started};
 use line_io::{Failed, MemSink, MemSource, NoMemory};
 use std::alloc::Global;
 
@@ -25,27 +28,6 @@ struct ClosedRun {
     sink: MemSink,
 }
 
-// A copy of a text.
-fn copy_of(alloc: Global, text: &str) -> Result<String, NoMemory>
-    ensures { IfOk result (λ s. string_bytes s ≡ text.now) }
-{
-    Ok(String::from_str(alloc, text)?)
-}
-
-// Copies of arguments.
-fn copies_of(alloc: Global, arguments: &[String]) -> Result<Vec<String>, NoMemory>
-    ensures { IfOk result (λ v. map string_bytes v.items ≡ map string_bytes arguments.now) }
-{
-    let mut copies: Vec<String> = Vec::new(alloc);
-    for argument in arguments {
-        let copy = copy_of(alloc, argument.as_str())?;
-        if copies.push(copy).is_err() {
-            return Err(NoMemory);
-        }
-    }
-    Ok(copies)
-}
-
 /// A host whose engine says the same bytes in each run.
 #[derive(Drop)]
 pub struct MemHost {
@@ -63,9 +45,10 @@ pub struct MemHost {
     logs_out: u8,
     runs: Vec<ClosedRun>,
     closed_logs: Vec<MemSink>,
-    // what it was asked for, whether that failed or not
+    // the requests so far, whether they failed or not
     engines: Vec<Vec<String>>,
-    log_names: Vec<String>,
+    log_places: Vec<AskedLog>,
+    disk: MemFiles,
     ghost some_piece: { 0 < piece },
     ghost few_runs: { (vec_len runs ≤ runs_out) × (runs_out ≤ 10) × (10 ≤ vec_capacity runs) },
     ghost few_logs: { (vec_len closed_logs ≤ logs_out) × (logs_out ≤ 10)
@@ -76,7 +59,8 @@ impl MemHost {
     ghost use Rattle.std.specs.Prelude.{true};
     ghost use Rattle.child_engine.specs.Hosts.{unused_ledger};
     ghost use Rattle.child_engine.specs.Asked.{none_asked};
-    ghost use Rattle.child_engine.specs.Memory.{asked_of, memory_ledger, means_of};
+    ghost use Rattle.child_engine.specs.Memory.{asked_of, disk_of, kept_place, memory_ledger, means_of};
+    ghost use Rattle.child_engine.specs.Places.{no_disk, with_file};
     ghost use Rattle.child_engine.specs.Steady.{no_faults};
 
     /// A host that has handed out nothing. Each engine says these bytes, as many at a read as the
@@ -92,6 +76,7 @@ impl MemHost {
         ensures ledger { IfOk result (λ h. memory_ledger h
             ≡ unused_ledger (Some engine.now) true) }
         ensures asked { IfOk result (λ h. asked_of h ≡ none_asked) }
+        ensures disk { IfOk result (λ h. disk_of h.disk ≡ no_disk) }
         ensures faults { IfOk result (λ h. h.faults ≡ no_faults) }
         ensures means { IfOk result (λ h. means_of h ≡ record {
           engine = engine.now;
@@ -121,7 +106,8 @@ impl MemHost {
             runs: Vec::with_capacity(alloc, 10)?,
             closed_logs: Vec::with_capacity(alloc, 10)?,
             engines: Vec::new(alloc),
-            log_names: Vec::new(alloc),
+            log_places: Vec::new(alloc),
+            disk: MemFiles::new(alloc),
         })
     }
 
@@ -142,7 +128,7 @@ impl MemHost {
         self.closed_logs[k].taken()
     }
 
-    /// The words of each engine that was to be started, in their order.
+    /// The arguments of each engine that was to be started, in their order.
     pub fn engines(&self) -> &[Vec<String>]
         ensures { (asked_of self.now).engines
             ≡ Some (map (λ arguments. map string_bytes (vec_items arguments)) result.now) }
@@ -150,11 +136,38 @@ impl MemHost {
         self.engines.as_slice()
     }
 
-    /// The name of each log that was to be opened, in their order.
-    pub fn log_names(&self) -> &[String]
-        ensures { (asked_of self.now).logs ≡ Some (map string_bytes result.now) }
+    /// The place of each log that was to be opened, in their order.
+    pub fn log_places(&self) -> &[AskedLog]
+        ensures { (asked_of self.now).logs ≡ Some (map kept_place result.now) }
     {
-        self.log_names.as_slice()
+        self.log_places.as_slice()
+    }
+
+    /// Puts a file of this name, if none is there.
+    pub fn put_file(&mut self, name: String) -> Result<(), NoMemory>
+        ensures disk { OnOk result (disk_of self.new.disk
+            ≡ with_file (string_bytes name) (disk_of self.old.disk)) }
+        ensures ledger { memory_ledger self.new ≡ memory_ledger self.old }
+        ensures asked { asked_of self.new ≡ asked_of self.old }
+        ensures faults { self.new.faults ≡ self.old.faults }
+        ensures means { means_of self.new ≡ means_of self.old }
+    {
+        put_name(name, &mut self.disk.files)?;
+        Ok(())
+    }
+
+    /// The names of the files that are there, in the order in which they were made.
+    pub fn files(&self) -> &[String]
+        ensures { (disk_of self.now.disk).files ≡ map string_bytes result.now }
+    {
+        self.disk.files.as_slice()
+    }
+
+    /// The names of the folders that are there, in the order in which they were made.
+    pub fn folders(&self) -> &[String]
+        ensures { (disk_of self.now.disk).folders ≡ map string_bytes result.now }
+    {
+        self.disk.folders.as_slice()
     }
 }
 
@@ -163,7 +176,8 @@ impl Host for MemHost {
     ghost use Rattle.line_io.specs.Memory.{supply_of, store_of, unread_supply, unwritten_store};
     ghost use Rattle.child_engine.specs.Hosts.{ClosesBy, OpensBy, StartsBy, with_closed_run, with_log, with_run};
     ghost use Rattle.child_engine.specs.Asked.{Asks, and_engines, and_logs};
-    ghost use Rattle.child_engine.specs.Memory.{asked_of, memory_ledger, means_of, shown_by_memory_source, shown_by_sink};
+    ghost use Rattle.child_engine.specs.Places.{MakesLogAt, asked_place};
+    ghost use Rattle.child_engine.specs.Memory.{asked_of, disk_of, memory_ledger, means_of, shown_by_memory_source, shown_by_sink};
 
     type EngineSource = MemSource;
 
@@ -222,24 +236,31 @@ impl Host for MemHost {
         })
     }
 
-    fn open_log(&mut self, alloc: Global, name: &str) -> Result<MemSink, HostFault>
+    fn open_log(&mut self, alloc: Global, place: &LogPlace) -> Result<MemSink, HostFault>
         requires few { (memory_ledger self.old).logs_out < 10 }
         ensures out { OnOk result (memory_ledger self.new ≡ with_log (memory_ledger self.old)) }
         ensures log { IfOk result (λ log. store_of log
             ≡ unwritten_store (means_of self.old).room (means_of self.old).logs) }
         ensures err { OnErr result (memory_ledger self.new ≡ memory_ledger self.old) }
         ensures asked { Asks (asked_of self.old)
-            (and_logs 1 name.now (asked_of self.old)) (asked_of self.new) result }
+            (and_logs 1 (asked_place place.now) (asked_of self.old)) (asked_of self.new) result }
+        ensures disk { OnOk result (MakesLogAt (asked_place place.now) (disk_of self.old.disk)
+            (disk_of self.new.disk)) }
         ensures cause { OpensBy self.old.faults self.new.faults result }
         ensures fails { (means_of self.old).fails_log ≡ true → IsErr result }
         ensures means { means_of self.new ≡ means_of self.old }
     {
         let log = MemSink::make(alloc, self.room, self.failing_logs.as_slice())?;
-        let name = copy_of(alloc, name)?;
-        if self.log_names.push(name).is_err() {
+        let kept = kept_place(alloc, place)?;
+        let is_made = if self.fails_log {
+            false
+        } else {
+            make_file(alloc, place, &mut self.disk)?
+        };
+        if self.log_places.push(kept).is_err() {
             return Err(HostFault::NoMemory);
         }
-        if self.fails_log {
+        if !is_made {
             self.faults.logs = self.faults.logs.saturating_add(1);
             return Err(HostFault::Failed);
         }

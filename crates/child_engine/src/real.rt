@@ -7,14 +7,15 @@ ghost use Rattle.child_engine.specs.Hosts.{RisesBy};
 ghost use Rattle.child_engine.specs.declared.host.HostFault.TheVariants as faults;
 
 use crate::host::raised;
-use crate::{Faults, Host, HostFault, PipeSink, RealProcess, Started};
+use crate::real_files::log_file;
+use crate::{Faults, Host, HostFault, LogPlace, PipeSink, RealProcess, Started};
 use line_io::{Failed, NoMemory, ReadAdapter, WriteAdapter};
 use std::alloc::Global;
 use std::fs::{File, Files};
+use std::io;
 use std::io::ErrorKind;
 use std::marker::PhantomData;
 use std::process::{ChildStdin, ChildStdout, Command, Processes, Stdio, SystemProcess};
-use std::{fs, io};
 
 /// A host of real programs and files, over the handle `R` by which it starts and opens them. The
 /// engine's standard error is that of this process or the null device. The engine's input is an `S`,
@@ -31,8 +32,8 @@ pub struct RealHost<R, S> {
     input: PhantomData<S>,
 }
 
-// Why the system did not start a program or open a file.
-fn fault_of(error: io::Error) -> HostFault
+/// Why the system did not start a program or open a file.
+pub(crate) fn fault_of(error: io::Error) -> HostFault
     ensures memory { result ≡ faults.NoMemory → error_kind error ≡ kinds.OutOfMemory }
     ensures failed { result ≡ faults.Failed → error_kind error ≢ kinds.OutOfMemory }
 {
@@ -183,11 +184,14 @@ impl<
         })
     }
 
-    fn open_log(&mut self, _alloc: Global, name: &str) -> Result<WriteAdapter<File>, HostFault> {
-        let file = match fs::create(&self.rt, name) {
+    fn open_log(
+        &mut self,
+        alloc: Global,
+        place: &LogPlace,
+    ) -> Result<WriteAdapter<File>, HostFault> {
+        let file = match log_file(&self.rt, alloc, place) {
             Ok(file) => file,
-            Err(error) => {
-                let fault = fault_of(error);
+            Err(fault) => {
                 self.faults.logs = counted(self.faults.logs, fault);
                 return Err(fault);
             }

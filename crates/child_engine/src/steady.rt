@@ -1,7 +1,7 @@
 // A host in memory that never fails.
 ghost use Rattle.std.specs.Prelude.{◌≡◌, ◌<◌, ◌≤◌, [], IfOk, vec_len, vec_capacity};
 
-use crate::{Host, HostFault, Started};
+use crate::{Host, HostFault, LogPlace, Started};
 use line_io::{Failed, NoMemory, NullSink, SteadySource};
 use std::alloc::Global;
 
@@ -87,7 +87,7 @@ impl Host for SteadyHost {
         })
     }
 
-    fn open_log(&mut self, _alloc: Global, _name: &str) -> Result<NullSink, HostFault> {
+    fn open_log(&mut self, _alloc: Global, _place: &LogPlace) -> Result<NullSink, HostFault> {
         self.logs_out += 1;
         Ok(NullSink::new())
     }

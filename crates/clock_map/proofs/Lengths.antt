@@ -58,11 +58,15 @@ clock_length w b i k hw hb hi hk =
     let l4 : length four ≤ 66 = number_length three (codes " binc ") i 50 hi l3 in
     last_length four (codes " movestogo ") k 66 hk l4
 
-control_length : (control : Control) (c : Clocks) (side : Side) (plies : ℕ) → IsShortControl control → ClocksAreShort c → length (control_text (time_of control c side plies)) ≤ 87
-control_length Session c White plies h s = clock_length (at_least_one c.engine) (at_least_one c.opponent) c.increment (moves_to_go c.moves plies) s.engine s.opponent s.increment (to_go_short c.moves plies s.moves)
-control_length Session c Black plies h s = clock_length (at_least_one c.opponent) (at_least_one c.engine) c.increment (moves_to_go c.moves plies) s.opponent s.engine s.increment (to_go_short c.moves plies s.moves)
-control_length (Fixed time) c side plies h s =
-    omega (arith, digits (max time 1) (max_small time h))
+-- a time that is less by a margin is as short
+pub less_small : (n m : ℕ) → HasTenDigits n → HasTenDigits (n - m)
+less_small n m h = omega arith
+
+control_length : (control : Control) (c : Clocks) (side : Side) (plies margin : ℕ) → IsShortControl control → ClocksAreShort c → length (control_text (time_of control c side plies margin)) ≤ 87
+control_length Session c White plies margin h s = clock_length (at_least_one c.engine) (at_least_one c.opponent) c.increment (moves_to_go c.moves plies) s.engine s.opponent s.increment (to_go_short c.moves plies s.moves)
+control_length Session c Black plies margin h s = clock_length (at_least_one c.opponent) (at_least_one c.engine) c.increment (moves_to_go c.moves plies) s.opponent s.engine s.increment (to_go_short c.moves plies s.moves)
+control_length (Fixed time) c side plies margin h s =
+    omega (arith, digits (max (time - margin) 1) (max_small (time - margin) (less_small time margin h)))
 
 go_length : (ponder : Bool) (control : GoControl) (depth : Option ℕ) → length (control_text control) ≤ 87 → IsShortLimit depth → length (go_text ponder control depth) ≤ 113
 go_length true control depth h d =
@@ -74,8 +78,8 @@ go_length false control depth h d =
 
 few_of_kind : (kind : GoKind) (r : SearchRequest) (c : Clocks) → ClocksAreShort c → length (uci_order_text (order_by_kind kind r c)) ≤ 113
 unfolding uci_order_text
-few_of_kind Move r c s = go_length false (time_of c.control c r.side r.plies) c.depth (control_length c.control c r.side r.plies s.control s) s.depth
-few_of_kind Ponder r c s = go_length true (time_of c.control c r.side r.plies) c.depth (control_length c.control c r.side r.plies s.control s) s.depth
+few_of_kind Move r c s = go_length false (time_of c.control c r.side r.plies r.settings.time_margin) c.depth (control_length c.control c r.side r.plies r.settings.time_margin s.control s) s.depth
+few_of_kind Ponder r c s = go_length true (time_of c.control c r.side r.plies r.settings.time_margin) c.depth (control_length c.control c r.side r.plies r.settings.time_margin s.control s) s.depth
 few_of_kind Analyse r c s = lit≤ tt
 
 pub few_bytes : AreFewBytes

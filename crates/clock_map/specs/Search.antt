@@ -28,14 +28,15 @@ clock_times_of c Black plies =
     Clock (at_least_one c.opponent) (at_least_one c.engine) c.increment c.increment
     (moves_to_go c.moves plies)
 
-abbrev pub time_of : Control → Clocks → Side → ℕ → GoControl
-time_of Session c side plies = clock_times_of c side plies
-time_of (Fixed time) c side plies = MoveTime (max time 1)
+-- a fixed time for the move is less by the margin, and at least one millisecond
+abbrev pub time_of : Control → Clocks → Side → ℕ → ℕ → GoControl
+time_of Session c side plies margin = clock_times_of c side plies
+time_of (Fixed time) c side plies margin = MoveTime (max (time - margin) 1)
 
 -- the order for a search of this kind, whatever kind the request names
 abbrev pub order_by_kind : GoKind → SearchRequest → Clocks → Order
-order_by_kind Move r c = Go false (time_of c.control c r.side r.plies) c.depth
-order_by_kind Ponder r c = Go true (time_of c.control c r.side r.plies) c.depth
+order_by_kind Move r c = Go false (time_of c.control c r.side r.plies r.settings.time_margin) c.depth
+order_by_kind Ponder r c = Go true (time_of c.control c r.side r.plies r.settings.time_margin) c.depth
 order_by_kind Analyse r c = Go false Infinite None
 
 -- the order for the search that is requested, under these clocks

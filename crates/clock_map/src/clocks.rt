@@ -35,7 +35,7 @@ pub struct Clocks {
     control: Control,
     // moves from one time control to the next, 0 if the time is for the whole game
     moves: u32,
-    // what both clocks show at the start of a game
+    // the times of both clocks at the start of a game
     base: i64,
     increment: u64,
     // in plies
@@ -160,12 +160,15 @@ impl Clocks {
         }
     }
 
-    fn time(&self, side: Side, plies: u32) -> GoControl
-        ensures { result ≡ time_of self.now.control self.now side plies }
+    // A fixed time for the move is less by the margin.
+    fn time(&self, side: Side, plies: u32, margin: u32) -> GoControl
+        ensures { result ≡ time_of self.now.control self.now side plies margin }
     {
         match self.control {
             Control::Session => self.times(side, plies),
-            Control::Fixed(time) => GoControl::MoveTime(time.max(1)),
+            Control::Fixed(time) => {
+                GoControl::MoveTime(time.saturating_sub(u64::from(margin)).max(1))
+            }
         }
     }
 
@@ -176,12 +179,12 @@ impl Clocks {
         match request.kind {
             GoKind::Move => Order::Go {
                 ponder: false,
-                control: self.time(request.side, request.plies),
+                control: self.time(request.side, request.plies, request.settings.time_margin),
                 depth: self.depth,
             },
             GoKind::Ponder => Order::Go {
                 ponder: true,
-                control: self.time(request.side, request.plies),
+                control: self.time(request.side, request.plies, request.settings.time_margin),
                 depth: self.depth,
             },
             GoKind::Analyse => Order::Go {

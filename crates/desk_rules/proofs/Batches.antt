@@ -1,7 +1,7 @@
 -- The lines of a batch.
 use Rattle.std.proofs.Common.{◌≡◌, ℕ, List, [], ◌∷◌, ◌++◌, length, refl, ap, ◌∙◌, append_assoc}
 use Rattle.uci_lines.specs.Orders.{Order, IsReady, uci_order_text}
-use Rattle.option_map.specs.Held.{held_order_line, held_batch_text}
+use Rattle.option_map.specs.WaitingOrders.Held.{held_order_line, held_batch_text}
 use Rattle.desk_rules.specs.Texts.{order_lines}
 
 pub ready_size : length (held_order_line IsReady) ≡ 8

@@ -15,14 +15,14 @@ use Rattle.cecp_lines.specs.declared.iface.IfaceFault.{IfaceFault}
 use Rattle.cecp_lines.specs.Reading.{SpellsIfaceMsg, message_or_fault, name_at, value_at, is_equals}
 use Rattle.cecp_lines.proofs.Spellings.{reading_spells}
 use Rattle.uci_lines.specs.Orders.{Order, uci_order_text}
-use Rattle.option_map.specs.declared.fault.OptionFault.{OptionFault}
-use Rattle.option_map.specs.Settings.{OptionSetting, SettingKind, Check, Spin, Combo, Button, Text, option_by_name}
-use Rattle.option_map.specs.Asked.{asked, asked_text, message_length, AskedOrdersAreShort, IsRange, HasRange}
-use Rattle.option_map.specs.Spelled.{AreDeclared, OrderIsSpelled}
-use Rattle.option_map.proofs.Short.{orders_short}
-use Rattle.option_map.proofs.HeardOptions.{IsCount}
-use Rattle.option_map.proofs.Usable.{IsSound, IsUsable, found_usable}
-use Rattle.option_map.proofs.Asking.{asked_spelled}
+use Rattle.option_map.specs.declared.declared_options.fault.OptionFault.{OptionFault}
+use Rattle.option_map.specs.DeclaredOptions.Settings.{OptionSetting, SettingKind, Check, Spin, Combo, Button, Text, option_by_name}
+use Rattle.option_map.specs.WaitingOrders.Asked.{asked, asked_text, message_length, AskedOrdersAreShort, IsRange, HasRange}
+use Rattle.option_map.specs.DeclaredOptions.Spelled.{AreDeclared, OrderIsSpelled}
+use Rattle.option_map.proofs.DeclaredOptions.Short.{orders_short}
+use Rattle.option_map.proofs.DeclaredOptions.HeardOptions.{IsCount}
+use Rattle.option_map.proofs.DeclaredOptions.Usable.{IsSound, IsUsable, found_usable}
+use Rattle.option_map.proofs.WaitingOrders.Asking.{asked_spelled}
 use Rattle.desk_rules.specs.Lines.{order_asked_by, answered_by, early_answer}
 use Rattle.desk_rules.specs.Orders.{early_order, early_orders}
 

@@ -6,10 +6,10 @@ use Rattle.cecp_lines.specs.Replies.{reply_text}
 use Rattle.cecp_lines.specs.Replies as cecp
 use Rattle.cecp_lines.specs.declared.reply.Reason.TheVariants as reasons
 use Rattle.uci_lines.specs.Orders.{Order}
-use Rattle.option_map.specs.declared.fault.OptionFault.{OptionFault}
-use Rattle.option_map.specs.declared.fault.OptionFault.TheVariants.{UnknownOption, BadValue}
-use Rattle.option_map.specs.Settings.{OptionSetting}
-use Rattle.option_map.specs.Features.{reply_line, reply_lines}
+use Rattle.option_map.specs.declared.declared_options.fault.OptionFault.{OptionFault}
+use Rattle.option_map.specs.declared.declared_options.fault.OptionFault.TheVariants.{UnknownOption, BadValue}
+use Rattle.option_map.specs.DeclaredOptions.Settings.{OptionSetting}
+use Rattle.option_map.specs.FeatureLists.Features.{reply_line, reply_lines}
 use Rattle.desk_rules.specs.declared.desk.Desk.{Desk}
 use Rattle.desk_rules.specs.Early.{lines_with_feeds, EarlyLinesAreFew}
 use Rattle.desk_rules.specs.Lines.{refused_option, early_answer}

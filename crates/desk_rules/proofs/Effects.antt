@@ -24,9 +24,9 @@ use Rattle.uci_lines.specs.Info.{Info}
 use Rattle.uci_lines.specs.Messages.{EngineMsg}
 use Rattle.uci_lines.specs.Messages as hears
 use Rattle.uci_lines.specs.Engine.{engine_message}
-use Rattle.option_map.specs.declared.fault.OptionFault.{OptionFault}
-use Rattle.option_map.specs.declared.fault.OptionFault.TheVariants.{UnknownOption, BadValue}
-use Rattle.option_map.specs.Asked.{asked}
+use Rattle.option_map.specs.declared.declared_options.fault.OptionFault.{OptionFault}
+use Rattle.option_map.specs.declared.declared_options.fault.OptionFault.TheVariants.{UnknownOption, BadValue}
+use Rattle.option_map.specs.WaitingOrders.Asked.{asked}
 use Rattle.game_record.specs.Game.{Game, current_position}
 use Rattle.search_epochs.specs.declared.words.EngineState.{EngineState}
 use Rattle.search_epochs.specs.declared.words.EngineState.TheVariants as states

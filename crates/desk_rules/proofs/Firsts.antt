@@ -8,10 +8,10 @@ use Rattle.cecp_lines.specs.Messages.{IfaceMsg}
 use Rattle.cecp_lines.specs.Messages as says
 use Rattle.uci_lines.specs.Orders.{Order}
 use Rattle.uci_lines.specs.Orders as orders
-use Rattle.option_map.specs.Names.{same_text}
-use Rattle.option_map.specs.Settings.{OptionSetting}
-use Rattle.option_map.specs.Asked.{asked}
-use Rattle.option_map.specs.Held.{held_list_with, with_orders}
+use Rattle.option_map.specs.DeclaredOptions.Names.{same_text}
+use Rattle.option_map.specs.DeclaredOptions.Settings.{OptionSetting}
+use Rattle.option_map.specs.WaitingOrders.Asked.{asked}
+use Rattle.option_map.specs.WaitingOrders.Held.{held_list_with, with_orders}
 use Rattle.desk_rules.specs.declared.desk.Desk.{Desk}
 use Rattle.desk_rules.specs.Desk.{Situation, table, analyses, is_boot, is_gone, ponder_name, analyse_name}
 use Rattle.desk_rules.specs.Lines.{check_order, asks_for_mode, order_asked_by, asks_of, asks, change, desk_at_position}

@@ -4,12 +4,12 @@ use Rattle.std.specs.Prelude.{IfSome, codes}
 use Rattle.std.specs.Option.{option_map, option_to_list}
 use Rattle.std.proofs.lemmas.Bool.Decides.{nat_tests}
 use Rattle.uci_lines.specs.Orders.{Order, NewGame, uci_order_text}
-use Rattle.option_map.specs.Settings.{OptionSetting}
-use Rattle.option_map.specs.Shown.{check_named}
-use Rattle.option_map.specs.Held.{held_for_same, held_orders_staying, held_list_with, with_orders, held_batch_text, held_order_can_join}
-use Rattle.option_map.specs.Spelled.{AreDeclared, OrderIsSpelled}
-use Rattle.option_map.proofs.KeptOrders.{batch_first, batch_last}
-use Rattle.option_map.proofs.Asking.{switches_spelled}
+use Rattle.option_map.specs.DeclaredOptions.Settings.{OptionSetting}
+use Rattle.option_map.specs.DeclaredOptions.Shown.{check_named}
+use Rattle.option_map.specs.WaitingOrders.Held.{held_for_same, held_orders_staying, held_list_with, with_orders, held_batch_text, held_order_can_join}
+use Rattle.option_map.specs.DeclaredOptions.Spelled.{AreDeclared, OrderIsSpelled}
+use Rattle.option_map.proofs.WaitingOrders.KeptOrders.{batch_first, batch_last}
+use Rattle.option_map.proofs.WaitingOrders.Asking.{switches_spelled}
 use Rattle.desk_rules.specs.declared.desk.Desk.{Desk}
 use Rattle.desk_rules.specs.Desk.{Situation, analyses, is_gone, ponder_name, analyse_name}
 use Rattle.desk_rules.specs.Early.{lines_with_feeds}

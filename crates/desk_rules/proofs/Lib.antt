@@ -9,6 +9,8 @@ pub mod Hints
 pub mod Searches
 pub mod Rooms
 pub mod Rows
+pub mod LastLines
+pub mod Played
 pub mod Batches
 pub mod Calls
 pub mod Plays

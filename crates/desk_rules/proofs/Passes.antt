@@ -12,7 +12,7 @@ use Rattle.cecp_lines.specs.declared.reply.Reason.TheVariants as reasons
 use Rattle.cecp_lines.proofs.Spellings.{reading_spells}
 use Rattle.uci_lines.specs.Orders.{Order}
 use Rattle.game_record.specs.Game.{current_position}
-use Rattle.option_map.specs.Asked.{asked}
+use Rattle.option_map.specs.WaitingOrders.Asked.{asked}
 use Rattle.search_epochs.specs.declared.words.Call.{Call}
 use Rattle.search_epochs.specs.declared.words.Call.TheVariants as calls
 use Rattle.search_epochs.specs.Tickets.{SearchServesCall}

@@ -7,7 +7,7 @@ use Rattle.protocol_tokens.specs.declared.kinds.GoKind.{GoKind}
 use Rattle.protocol_tokens.specs.declared.kinds.GoKind.TheVariants as kinds
 use Rattle.game_record.specs.Game.{Game, ply_of, current_position, IsPlayablePly}
 use Rattle.think_text.specs.Line.{IsPlayableAsHint as CanBePlayed}
-use Rattle.desk_rules.specs.Replies.{named_hint}
+use Rattle.desk_rules.specs.Steps.{named_hint}
 
 pub hint_played : (k : GoKind) (g : Game) (hint : Option Move) → IfSome hint (λ m. IsPlayablePly (current_position g) (ply_of m)) → CanBePlayed (named_hint k g hint)
 hint_played kinds.Ponder g (Some m) h = legal_is (current_position g) m h

@@ -16,9 +16,9 @@ use Rattle.uci_lines.specs.Messages.{Info}
 use Rattle.think_text.specs.declared.line.Pondered.{Pondered}
 use Rattle.think_text.specs.Line.{thinking_line, text_with_line, ThinkingLineHasRoom, IsPlayableAsHint}
 use Rattle.think_text.specs.Short.{most_bytes}
-use Rattle.option_map.specs.Settings.{OptionSetting, text_size}
-use Rattle.option_map.specs.Features.{feature_list, reply_line, reply_lines}
-use Rattle.option_map.proofs.Lists.{short_list}
+use Rattle.option_map.specs.DeclaredOptions.Settings.{OptionSetting, text_size}
+use Rattle.option_map.specs.FeatureLists.Features.{feature_list, reply_line, reply_lines}
+use Rattle.option_map.proofs.DeclaredOptions.Lists.{short_list}
 use Rattle.desk_rules.specs.Fits.{IsSaid}
 use Rattle.think_text.proofs.Short.{lines_short}
 

@@ -3,7 +3,7 @@ use Rattle.std.proofs.Common.{◌≡◌, ◌++◌, Bool, refl, sym}
 use Rattle.std.proofs.lemmas.List.{append-nil}
 use Rattle.cecp_lines.specs.Messages.{IfaceMsg}
 use Rattle.cecp_lines.specs.Messages as says
-use Rattle.option_map.specs.Due.{protover_answer}
+use Rattle.option_map.specs.WaitingOrders.Due.{protover_answer}
 use Rattle.desk_rules.specs.Desk.{Situation, is_boot}
 use Rattle.desk_rules.specs.Lines.{change}
 use Rattle.desk_rules.specs.Replies.{protover_row, draw_row, hint_row, row_accepted, row_before, row_after}

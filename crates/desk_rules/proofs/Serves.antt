@@ -11,7 +11,7 @@ use Rattle.game_record.specs.Ending.{has_legal}
 use Rattle.protocol_tokens.specs.declared.kinds.GoKind.{GoKind}
 use Rattle.cecp_lines.specs.Messages.{IfaceMsg}
 use Rattle.cecp_lines.specs.Messages as says
-use Rattle.option_map.specs.Shown.{check_named}
+use Rattle.option_map.specs.DeclaredOptions.Shown.{check_named}
 use Rattle.search_epochs.specs.declared.words.Call.{Call}
 use Rattle.search_epochs.specs.declared.words.Call.TheVariants as calls
 use Rattle.search_epochs.specs.declared.words.EngineState.{EngineState}

@@ -20,7 +20,7 @@ use Rattle.clock_map.proofs.Messages.{stay_short}
 use Rattle.think_text.specs.declared.search_info.SearchInfo.{SearchInfo}
 use Rattle.think_text.specs.Kept.{nothing_seen}
 use Rattle.think_text.proofs.Legal.{stays_writable}
-use Rattle.option_map.proofs.Usable.{stay_declared}
+use Rattle.option_map.proofs.DeclaredOptions.Usable.{stay_declared}
 use Rattle.desk_rules.specs.declared.desk.Desk.{Desk}
 use Rattle.desk_rules.specs.Desk.{Situation, is_boot, game_played}
 use Rattle.desk_rules.specs.Lines.{change, desk_at_position}

@@ -10,17 +10,17 @@ use Rattle.uci_lines.specs.Written.{is_trimmed_text}
 use Rattle.uci_lines.specs.Orders.{Order}
 use Rattle.uci_lines.specs.Orders as orders
 use Rattle.uci_lines.specs.OrderReading.{is_writable_order}
-use Rattle.option_map.specs.declared.fault.OptionFault.{OptionFault}
-use Rattle.option_map.specs.declared.fault.OptionFault.TheVariants.{UnknownOption, BadValue}
-use Rattle.option_map.specs.Names.{same_text}
-use Rattle.option_map.specs.Shown.{check_named}
-use Rattle.option_map.specs.Asked.{asked}
-use Rattle.option_map.specs.Held.{HasNoLineFeed}
-use Rattle.option_map.specs.Spelled.{AreDeclared}
-use Rattle.option_map.specs.Settings.{OptionSetting, SettingKind, Spin, Text, option_by_name}
-use Rattle.option_map.specs.Asked.{set_found, set_by, set_to, value_by, is_button, clamped, clamped_by, path_for, path_by}
-use Rattle.option_map.proofs.Orders.{all_stay}
-use Rattle.option_map.proofs.Asking.{asked_spelled, switches_spelled}
+use Rattle.option_map.specs.declared.declared_options.fault.OptionFault.{OptionFault}
+use Rattle.option_map.specs.declared.declared_options.fault.OptionFault.TheVariants.{UnknownOption, BadValue}
+use Rattle.option_map.specs.DeclaredOptions.Names.{same_text}
+use Rattle.option_map.specs.DeclaredOptions.Shown.{check_named}
+use Rattle.option_map.specs.WaitingOrders.Asked.{asked}
+use Rattle.option_map.specs.WaitingOrders.Held.{HasNoLineFeed}
+use Rattle.option_map.specs.DeclaredOptions.Spelled.{AreDeclared}
+use Rattle.option_map.specs.DeclaredOptions.Settings.{OptionSetting, SettingKind, Spin, Text, option_by_name}
+use Rattle.option_map.specs.WaitingOrders.Asked.{set_found, set_by, set_to, value_by, is_button, clamped, clamped_by, path_for, path_by}
+use Rattle.option_map.proofs.WaitingOrders.Orders.{all_stay}
+use Rattle.option_map.proofs.WaitingOrders.Asking.{asked_spelled, switches_spelled}
 use Rattle.search_epochs.specs.Tickets.{AllSetup, Word}
 use Rattle.desk_rules.specs.declared.desk.Desk.{Desk}
 use Rattle.desk_rules.specs.Desk.{Situation, table, analyses, is_gone, ponder_name, analyse_name}

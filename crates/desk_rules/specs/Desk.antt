@@ -15,10 +15,10 @@ use Rattle.game_record.specs.Game.{Game, ply_of, game_from, with_ply, current_po
 use Rattle.game_record.specs.Ending.{has_legal, ended_of}
 use Rattle.clock_map.specs.Clocks.{first_clocks}
 use Rattle.think_text.specs.Kept.{nothing_seen}
-use Rattle.option_map.specs.Settings.{OptionSetting}
-use Rattle.option_map.specs.Shown.{check_named}
-use Rattle.option_map.specs.Features.{shown_name}
-use Rattle.policy_rules.specs.declared.settings.Settings.{Settings}
+use Rattle.option_map.specs.DeclaredOptions.Settings.{OptionSetting}
+use Rattle.option_map.specs.DeclaredOptions.Shown.{check_named}
+use Rattle.option_map.specs.FeatureLists.Features.{shown_name}
+use Rattle.policy_rules.specs.declared.setting_rules.settings.Settings.{Settings}
 use Rattle.search_epochs.specs.declared.words.Call.{Call}
 use Rattle.search_epochs.specs.declared.words.Call.TheVariants as calls
 use Rattle.search_epochs.specs.declared.words.EngineState.{EngineState}
@@ -45,6 +45,7 @@ opening_desk = record {
   due = false;
   early = [];
   search_info = nothing_seen;
+  last_thinking = None;
 }
 
 -- the options that count as declared: none before `uciok`

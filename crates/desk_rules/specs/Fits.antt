@@ -17,9 +17,9 @@ use Rattle.uci_lines.specs.Engine.{engine_message}
 use Rattle.game_record.specs.declared.game.TheConstants.{MOST_PLIES}
 use Rattle.game_record.specs.Game.{Game, ply_of, current_position, IsPlayablePly}
 use Rattle.clock_map.specs.Clocks.{ClocksAreShort}
-use Rattle.option_map.specs.Held.{held_batch_text}
+use Rattle.option_map.specs.WaitingOrders.Held.{held_batch_text}
 use Rattle.uci_lines.specs.Orders.{Order, NewGame}
-use Rattle.option_map.specs.Spelled.{AreDeclared}
+use Rattle.option_map.specs.DeclaredOptions.Spelled.{AreDeclared}
 use Rattle.search_epochs.specs.declared.words.Call.{Call}
 use Rattle.search_epochs.specs.declared.words.Call.TheVariants as calls
 use Rattle.search_epochs.specs.declared.words.EngineState.{EngineState}

@@ -21,14 +21,14 @@ use Rattle.uci_lines.specs.Orders.{Order}
 use Rattle.uci_lines.specs.Orders as orders
 use Rattle.game_record.specs.Game.{Game, game_from, current_position, without_last}
 use Rattle.clock_map.specs.Clocks.{after_message, after_new}
-use Rattle.option_map.specs.declared.fault.OptionFault.{OptionFault}
-use Rattle.option_map.specs.declared.fault.OptionFault.TheVariants.{UnknownOption, BadValue}
-use Rattle.option_map.specs.Settings.{OptionSetting}
-use Rattle.option_map.specs.Shown.{check_named}
-use Rattle.option_map.specs.Asked.{asked}
-use Rattle.option_map.specs.Held.{held_order_can_join}
-use Rattle.option_map.specs.Due.{due_after}
-use Rattle.policy_rules.specs.declared.settings.Settings.{Settings}
+use Rattle.option_map.specs.declared.declared_options.fault.OptionFault.{OptionFault}
+use Rattle.option_map.specs.declared.declared_options.fault.OptionFault.TheVariants.{UnknownOption, BadValue}
+use Rattle.option_map.specs.DeclaredOptions.Settings.{OptionSetting}
+use Rattle.option_map.specs.DeclaredOptions.Shown.{check_named}
+use Rattle.option_map.specs.WaitingOrders.Asked.{asked}
+use Rattle.option_map.specs.WaitingOrders.Held.{held_order_can_join}
+use Rattle.option_map.specs.WaitingOrders.Due.{due_after}
+use Rattle.policy_rules.specs.declared.setting_rules.settings.Settings.{Settings}
 use Rattle.desk_rules.specs.declared.mode.Mode.{Mode}
 use Rattle.desk_rules.specs.declared.mode.Mode.TheVariants as modes
 use Rattle.desk_rules.specs.declared.effect.Refusal.{Refusal}

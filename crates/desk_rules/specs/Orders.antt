@@ -17,9 +17,9 @@ use Rattle.game_record.specs.Game.{Game}
 use Rattle.game_record.specs.Line.{ply_text, is_standard}
 use Rattle.clock_map.specs.declared.request.SearchRequest.{SearchRequest}
 use Rattle.clock_map.specs.Search.{search_order}
-use Rattle.policy_rules.specs.declared.settings.Settings.{Settings}
-use Rattle.option_map.specs.Held.{held_list_with, with_orders, held_order_can_join}
-use Rattle.option_map.specs.Data.{setup_seen}
+use Rattle.policy_rules.specs.declared.setting_rules.settings.Settings.{Settings}
+use Rattle.option_map.specs.WaitingOrders.Held.{held_list_with, with_orders, held_order_can_join}
+use Rattle.option_map.specs.DeclaredOptions.Data.{setup_seen}
 use Rattle.search_epochs.specs.declared.words.Call.{Call}
 use Rattle.search_epochs.specs.declared.words.Call.TheVariants as calls
 use Rattle.search_epochs.specs.declared.words.Orders.{Orders}
@@ -31,7 +31,7 @@ use Rattle.desk_rules.specs.declared.effect.AskedOrders.TheVariants as asks
 use Rattle.desk_rules.specs.declared.desk.Desk.{Desk}
 use Rattle.desk_rules.specs.Desk.{Situation, is_gone, analyses, on_move}
 use Rattle.desk_rules.specs.Desk.{plies, game_played, ponder_name, analyse_name}
-use Rattle.option_map.specs.Settings.{OptionSetting}
+use Rattle.option_map.specs.DeclaredOptions.Settings.{OptionSetting}
 use Rattle.desk_rules.specs.Lines.{check_order, asks as asked_of, order_asked_by, early_answer}
 use Rattle.desk_rules.specs.Steps.{Effect, Accepts, Boots}
 use Rattle.protocol_tokens.specs.Bytes.{blank}

@@ -1,7 +1,7 @@
 -- The lines to the interface.
 use Rattle.std.specs.Prelude.{ℕ, List, [], ◌∷◌, ◌++◌, map, codes, Bool, true}
 use Rattle.std.specs.Prelude.{false, not, if◌then◌else◌, ◌&&◌, Option, Some, None}
-use Rattle.std.specs.Option.{option_to_list}
+use Rattle.std.specs.Option.{option_to_list, option_map}
 use Rattle.std.specs.List.{flat_map}
 use Rattle.chess_board.specs.declared.board.Move.{Move}
 use Rattle.chess_board.specs.declared.board.Side.{Side}
@@ -13,8 +13,6 @@ use Rattle.cecp_lines.specs.Messages.{IfaceMsg}
 use Rattle.cecp_lines.specs.Messages as says
 use Rattle.cecp_lines.specs.Replies.{Reply}
 use Rattle.cecp_lines.specs.Replies as cecp
-use Rattle.cecp_lines.specs.declared.reply.Spelling.{Spelling}
-use Rattle.cecp_lines.specs.declared.reply.Spelling.TheVariants.{Coordinates, San}
 use Rattle.cecp_lines.specs.declared.reply.Reason.TheVariants as reasons
 use Rattle.cecp_lines.specs.declared.reply.UserError.TheVariants as user_error
 use Rattle.cecp_lines.specs.declared.reply.Outcome.{Outcome}
@@ -24,22 +22,20 @@ use Rattle.game_record.specs.declared.ending.GameEnd.{GameEnd}
 use Rattle.game_record.specs.declared.ending.GameEnd.TheVariants as ends
 use Rattle.game_record.specs.Game.{Game, current_position}
 use Rattle.game_record.specs.Ending.{ended_of}
-use Rattle.policy_rules.specs.declared.settings.Settings.{Settings}
-use Rattle.think_text.specs.declared.line.Pondered.{Pondered}
-use Rattle.think_text.specs.Line.{thinking_line}
+use Rattle.think_text.specs.Last.{ThinkingLine, with_hint}
 use Rattle.think_text.specs.Kept.{stat01_of}
-use Rattle.option_map.specs.declared.negotiation.ProtoverAnswer.{ProtoverAnswer}
-use Rattle.option_map.specs.declared.negotiation.ProtoverAnswer.TheVariants as say
-use Rattle.option_map.specs.Due.{protover_answer}
-use Rattle.option_map.specs.Features.{feature_list}
+use Rattle.option_map.specs.declared.feature_lists.negotiation.ProtoverAnswer.{ProtoverAnswer}
+use Rattle.option_map.specs.declared.feature_lists.negotiation.ProtoverAnswer.TheVariants as say
+use Rattle.option_map.specs.WaitingOrders.Due.{protover_answer}
+use Rattle.option_map.specs.FeatureLists.Features.{feature_list}
 use Rattle.desk_rules.specs.declared.effect.Refusal.{Refusal}
 use Rattle.desk_rules.specs.declared.effect.Refusal.TheVariants as refusals
 use Rattle.desk_rules.specs.declared.desk.Desk.{Desk}
 use Rattle.desk_rules.specs.Desk.{Situation, table, plays, is_boot, on_move, game_played, has_ended}
-use Rattle.option_map.specs.Settings.{OptionSetting}
+use Rattle.option_map.specs.DeclaredOptions.Settings.{OptionSetting}
 use Rattle.desk_rules.specs.Lines.{change, refused_option, early_answer}
 use Rattle.desk_rules.specs.Steps.{Effect, LongLine, Refuses, Accepts, Boots, Thinks}
-use Rattle.desk_rules.specs.Steps.{Shows, Forfeits, Dies, desk_after_effect, searched_by}
+use Rattle.desk_rules.specs.Steps.{Shows, Forfeits, Dies, desk_after_effect, shown_thinking}
 use Rattle.desk_rules.specs.Steps.{resigns_after, resigns_at_end, resigns_when_gone}
 
 -- what the line of `Error (line too long)` says in place of the line
@@ -120,21 +116,6 @@ row_after d says.Go = result_at d
 row_after d says.PlayOther = result_at d
 row_after d m = []
 
--- whether thinking lines of a search are written
-abbrev pub shows_thinking : Situation → GoKind → Bool
-shows_thinking h kinds.Analyse = true
-shows_thinking h kinds.Move = h.desk.post
-shows_thinking h kinds.Ponder = h.desk.post && h.settings.show_ponder
-
--- how the moves of thinking lines are written
-abbrev pub spelling_of : Settings → Spelling
-spelling_of o = if o.show_san then San else Coordinates
-
--- a thinking line of a Ponder search names the hint, which would be played in the present position
-abbrev pub named_hint : GoKind → Game → Option Move → Option Pondered
-named_hint kinds.Ponder g (Some hint) = Some (record { before = current_position g; hint = hint })
-named_hint k g hint = None
-
 abbrev pub list_where : Bool → Desk → List Reply
 list_where b d = if b then feature_list (table d) d.name else []
 
@@ -143,12 +124,7 @@ resign_where b = if b then cecp.Resign ∷ [] else []
 
 -- a thinking line, if it is shown
 abbrev pub thinking_replies : Situation → GoKind → Info → List Reply
-thinking_replies h k facts =
-    if shows_thinking h k then
-    option_to_list
-    (thinking_line (spelling_of h.settings) facts (current_position (searched_by k h.desk.game h.desk.hint))
-    (named_hint k h.desk.game h.desk.hint))
-    else []
+thinking_replies h k facts = option_to_list (shown_thinking h k facts)
 
 -- a move that is shown
 abbrev pub shown_row : Situation → Move → List Reply
@@ -186,11 +162,19 @@ reply_row h Forfeits = cecp.TellError user_error.Move ∷ cecp.Resign ∷ []
 reply_row h Dies = end_row h
 reply_row h d = []
 
--- all lines of a step: its row, `resign` for an engine that is gone, then the pongs
-abbrev pub replies_of : Bool → Bool → Situation → Effect → List Reply
-replies_of closed owes h d =
+-- The last thinking line that was written of the search, once more and without its hint, if the
+-- step writes `ponderhit` and the settings say so.
+abbrev pub repeated_thinking : Bool → Option ThinkingLine → List Reply
+repeated_thinking repeats last =
+    if repeats then option_to_list (option_map (with_hint None) last) else []
+
+-- all lines of a step: its row, `resign` for an engine that is gone, the repeated thinking line,
+-- then the pongs
+abbrev pub replies_of : Bool → Bool → Bool → Situation → Effect → List Reply
+replies_of closed owes hits h d =
     if closed then []
     else reply_row h d ++ resign_where (resigns_when_gone closed h d)
+    ++ repeated_thinking (h.settings.repeat_thinking && hits) (desk_after_effect h d).last_thinking
     ++ (if owes then [] else map cecp.Pong (desk_after_effect h d).pings)
 
 abbrev pub pongs : Bool → List ℕ → List Reply

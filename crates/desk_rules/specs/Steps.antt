@@ -18,11 +18,18 @@ use Rattle.uci_lines.specs.Messages.{EngineMsg, OptionKind, option_kind_of}
 use Rattle.uci_lines.specs.Messages as hears
 use Rattle.uci_lines.specs.Engine.{engine_message}
 use Rattle.game_record.specs.Game.{Game, current_position}
+use Rattle.cecp_lines.specs.Replies.{Reply}
+use Rattle.cecp_lines.specs.declared.reply.Spelling.{Spelling}
+use Rattle.cecp_lines.specs.declared.reply.Spelling.TheVariants.{Coordinates, San}
+use Rattle.policy_rules.specs.declared.setting_rules.settings.Settings.{Settings}
+use Rattle.think_text.specs.declared.line.Pondered.{Pondered}
+use Rattle.think_text.specs.Line.{thinking_line}
 use Rattle.think_text.specs.Kept.{nothing_seen, after_info}
-use Rattle.option_map.specs.Settings.{after_declared}
-use Rattle.option_map.specs.Features.{shown_name}
-use Rattle.policy_rules.specs.declared.scores.Scores.{Scores}
-use Rattle.policy_rules.specs.Scores.{Score, no_scores, after_shown}
+use Rattle.think_text.specs.Last.{last_after}
+use Rattle.option_map.specs.DeclaredOptions.Settings.{after_declared}
+use Rattle.option_map.specs.FeatureLists.Features.{shown_name}
+use Rattle.policy_rules.specs.declared.score_rules.scores.Scores.{Scores}
+use Rattle.policy_rules.specs.ScoreRules.Scores.{Score, no_scores, after_shown}
 use Rattle.search_epochs.specs.declared.words.Call.{Call}
 use Rattle.search_epochs.specs.declared.words.Said.TheVariants as said
 use Rattle.search_epochs.specs.declared.words.EngineState.{EngineState}
@@ -169,6 +176,29 @@ abbrev pub searched_by : GoKind → Game → Option Move → Game
 searched_by kinds.Ponder g (Some m) = game_played g m
 searched_by k g hint = g
 
+-- whether thinking lines of a search are written
+abbrev pub shows_thinking : Situation → GoKind → Bool
+shows_thinking h kinds.Analyse = true
+shows_thinking h kinds.Move = h.desk.post
+shows_thinking h kinds.Ponder = h.desk.post && h.settings.show_ponder
+
+-- how the moves of thinking lines are written
+abbrev pub spelling_of : Settings → Spelling
+spelling_of o = if o.show_san then San else Coordinates
+
+-- a thinking line of a Ponder search names the hint, which would be played in the present position
+abbrev pub named_hint : GoKind → Game → Option Move → Option Pondered
+named_hint kinds.Ponder g (Some hint) = Some (record { before = current_position g; hint = hint })
+named_hint k g hint = None
+
+-- the thinking line of what a search reports, if it is shown
+abbrev pub shown_thinking : Situation → GoKind → Info → Option Reply
+shown_thinking h k facts =
+    if shows_thinking h k then
+    thinking_line (spelling_of h.settings) facts (current_position (searched_by k h.desk.game h.desk.hint))
+    (named_hint k h.desk.game h.desk.hint)
+    else None
+
 -- `resign` follows the shown move
 abbrev pub resigns_after : Situation → Move → Bool
 resigns_after h m = h.resigns && not (has_ended (game_played h.desk.game m))
@@ -198,6 +228,7 @@ desk_after_effect h (Declares name shape) = record h.desk {
 desk_after_effect h Boots = record h.desk { booted = true; due = false; early = [] }
 desk_after_effect h (Thinks k facts) = record h.desk {
   search_info = after_info h.desk.search_info facts (current_position (searched_by k h.desk.game h.desk.hint));
+  last_thinking = last_after h.desk.last_thinking (shown_thinking h k facts);
 }
 desk_after_effect h (Shows best hint) = desk_with_move h best hint
 desk_after_effect h Forfeits = record h.desk { mode = modes.Over }
@@ -247,6 +278,8 @@ desk_after closed owes hits h d = record (desk_after_effect h d) {
   early = (if closed then [] else (desk_after_effect h d).early);
   search_info =
       (if clears_seen (begins_epoch h d) hits then nothing_seen else (desk_after_effect h d).search_info);
+  last_thinking =
+      (if clears_seen (begins_epoch h d) hits then None else (desk_after_effect h d).last_thinking);
 }
 
 -- the scores of shown moves, the newest first

@@ -1,5 +1,5 @@
 // The desk after an event, and the lines to the interface.
-ghost use Rattle.std.specs.Prelude.{◌≡◌, ◌+◌, ◌*◌, ◌<◌, ◌≤◌, ◌&&◌, length, cond, [], true, false};
+ghost use Rattle.std.specs.Prelude.{◌≡◌, ◌+◌, ◌*◌, ◌<◌, ◌≤◌, ◌&&◌, length, cond, [], true, false, None};
 ghost use Rattle.line_io.specs.Out.{empty, with};
 ghost use Rattle.cecp_lines.specs.Messages.{message_of};
 ghost use Rattle.cecp_lines.specs.Reading.{CanBeRead};
@@ -9,18 +9,19 @@ ghost use Rattle.game_record.specs.declared.game.TheConstants.{MOST_PLIES};
 ghost use Rattle.game_record.specs.Game.{ply_of, current_position, with_ply, IsPlayablePly};
 ghost use Rattle.think_text.specs.Line.{InfoIsHeard};
 ghost use Rattle.think_text.specs.Kept.{after_info, nothing_seen};
-ghost use Rattle.option_map.specs.Features.{reply_lines};
+ghost use Rattle.think_text.specs.Last.{last_after};
+ghost use Rattle.option_map.specs.FeatureLists.Features.{reply_lines};
 ghost use Rattle.desk_rules.specs.Desk.{at, is_boot};
 ghost use Rattle.desk_rules.specs.Lines.{position_set_up, change};
-ghost use Rattle.desk_rules.specs.Steps.{effect_of, starts_from, hint_after, searched_by, resigns_at_end, owes_when_gone, over_where, desk_with_move, desk_after_effect, answers_pings};
-ghost use Rattle.desk_rules.specs.Replies.{row_accepted, resign_where, thinking_replies, shown_row, boot_row, end_row, reply_row, pongs};
+ghost use Rattle.desk_rules.specs.Steps.{effect_of, starts_from, hint_after, searched_by, resigns_at_end, shown_thinking, owes_when_gone, over_where, desk_with_move, desk_after_effect, answers_pings};
+ghost use Rattle.desk_rules.specs.Replies.{row_accepted, resign_where, thinking_replies, repeated_thinking, shown_row, boot_row, end_row, reply_row, pongs};
 ghost use Rattle.desk_rules.specs.Early.{EarlyLinesAreFew};
 ghost use Rattle.desk_rules.specs.Fits.{IsHintPlayable, DeskInvariant, IsFit, IsServed, IsSaid, CanChange};
 ghost use Rattle.desk_rules.specs.declared.sizes.TheConstants.{BOOT_REPLIES, ENGINE_END, FEATURE_LIST, OBEYED, SHORT_REPLY, STEP_REPLIES, SHOWN_MOVE, THINKING_LINE};
 ghost use Rattle.desk_rules.specs.declared.pings.TheConstants.{MOST_PINGS};
 
 use crate::answers::{
-    named_hint, put_error, put_forfeit, put_pongs, put_refused, put_resign, put_shown,
+    named_hint, put_again, put_error, put_forfeit, put_pongs, put_refused, put_resign, put_shown,
     put_thinking, spelling_of,
 };
 use crate::call::{has_ended, is_boot};
@@ -132,6 +133,8 @@ impl Desk {
             ≡ record self.old {
               search_info = after_info self.old.search_info (info_of info.now)
                   (current_position (searched_by kind self.old.game self.old.hint));
+              last_thinking = last_after self.old.last_thinking
+                  (shown_thinking (at context self.old) kind (info_of info.now));
             } }
         ensures lines { out.new
             ≡ with out.old (reply_lines
@@ -143,7 +146,14 @@ impl Desk {
         let position = self.searched(kind);
         if self.shows_thinking(context, kind) {
             let hint = named_hint(kind, &self.game, self.hint);
-            put_thinking(spelling_of(context.settings), info, &position, hint, out);
+            put_thinking(
+                spelling_of(context.settings),
+                info,
+                &position,
+                hint,
+                &mut self.last_thinking,
+                out,
+            );
         }
         self.search_info.hear(info, &position);
     }
@@ -271,6 +281,19 @@ impl Desk {
         self.mode = over_where(resigns, self.mode);
     }
 
+    /// Shows the last thinking line of the search once more, if the settings say so and `ponderhit` is written.
+    pub fn repeat_thinking(&self, settings: Settings, hits: bool, out: &mut Out)
+        requires room { hits ≡ true → length out.old.text + THINKING_LINE ≤ out.old.room }
+        ensures lines { out.new
+            ≡ with out.old
+            (reply_lines (repeated_thinking (settings.repeat_thinking && hits)
+            self.now.last_thinking)) }
+        ensures short { length (reply_lines (repeated_thinking (settings.repeat_thinking && hits)
+            self.now.last_thinking)) ≤ THINKING_LINE }
+    {
+        put_again(settings.repeat_thinking && hits, &self.last_thinking, out);
+    }
+
     /// Answers the pings unless a Move is owed or the session is closed, and clears the kept values of an epoch that is
     /// over, and the early lines of a session that is closed.
     pub fn finish(&mut self, closed: bool, owes: bool, clears: bool, out: &mut Out)
@@ -283,10 +306,12 @@ impl Desk {
               pings = cond (answers_pings closed owes) [] self.old.pings;
               early = cond closed [] self.old.early;
               search_info = cond clears nothing_seen self.old.search_info;
+              last_thinking = cond clears None self.old.last_thinking;
             } }
     {
         if clears {
             self.search_info = SearchInfo::new();
+            self.last_thinking.clear();
         }
         if closed {
             self.early.clear();

@@ -1,6 +1,6 @@
 // The lines to the interface.
-ghost use Rattle.std.specs.Prelude.{◌≡◌, ◌+◌, ◌*◌, ◌≤◌, ◌∷◌, ◌++◌, [], length, map, IfSome};
-ghost use Rattle.std.specs.Option.{option_to_list};
+ghost use Rattle.std.specs.Prelude.{◌≡◌, ◌+◌, ◌*◌, ◌≤◌, ◌∷◌, ◌++◌, [], length, map, true, IfSome};
+ghost use Rattle.std.specs.Option.{option_map, option_to_list};
 ghost use Rattle.line_io.specs.Out.{with};
 ghost use Rattle.cecp_lines.specs.Messages.{message_of};
 ghost use Rattle.cecp_lines.specs.Replies.{reply_of, HasWritableMoves, IsWritable, borrowed_length, HasFieldRanges as HasNumbers};
@@ -10,10 +10,12 @@ ghost use Rattle.uci_lines.specs.Info.{info_of};
 ghost use Rattle.uci_lines.specs.Messages.{Info as SaysInfo};
 ghost use Rattle.think_text.specs.Line.{thinking_line, IsPlayableAsHint as CanBePlayed};
 ghost use Rattle.think_text.specs.Kept.{stat01_of};
-ghost use Rattle.option_map.specs.Due.{protover_answer};
-ghost use Rattle.option_map.specs.Features.{feature_list, reply_line, reply_lines};
+ghost use Rattle.think_text.specs.Last.{last_after, with_hint};
+ghost use Rattle.option_map.specs.WaitingOrders.Due.{protover_answer};
+ghost use Rattle.option_map.specs.FeatureLists.Features.{feature_list, reply_line, reply_lines};
 ghost use Rattle.desk_rules.specs.Desk.{at, table};
-ghost use Rattle.desk_rules.specs.Replies.{refused, outcome_of, result_reply_by, result_reply_of, protover_row, offer_where, draw_row, hint_row, row_before, row_after, shows_thinking, named_hint, spelling_of, list_where, resign_where};
+ghost use Rattle.desk_rules.specs.Steps.{shows_thinking, named_hint, spelling_of};
+ghost use Rattle.desk_rules.specs.Replies.{refused, outcome_of, result_reply_by, result_reply_of, protover_row, offer_where, draw_row, hint_row, row_before, row_after, list_where, resign_where, repeated_thinking};
 ghost use Rattle.desk_rules.specs.Fits.{DeskInvariant, IsSaid, IsMoveWritable};
 ghost use Rattle.line_io.specs.declared.limits.TheConstants.{PEER_LINE};
 ghost use Rattle.desk_rules.specs.declared.sizes.TheConstants.{ENGINE_END, ERROR_REPLY, FEATURE_LIST, SHORT_REPLY, SHOWN_MOVE, THINKING_LINE};
@@ -27,7 +29,7 @@ use line_io::Out;
 use option_map::{write_bare_list, write_list};
 use policy_rules::Settings;
 use protocol_tokens::{GoKind, trim};
-use think_text::{Pondered, SearchInfo, stat01, thinking};
+use think_text::{LastThinking, Pondered, SearchInfo, stat01};
 use uci_lines::Info;
 
 // Puts a reply and its line feed.
@@ -164,16 +166,34 @@ fn put_stat(search_info: &SearchInfo, at: &Position, out: &mut Out)
     out.put(b"\n");
 }
 
+// Puts the last thinking line, if there is one.
+fn put_last(last: &LastThinking, hint: Option<Pondered>, out: &mut Out)
+    requires hint { CanBePlayed hint }
+    requires room { length out.old.text + THINKING_LINE ≤ out.old.room }
+    ensures line { out.new
+        ≡ with out.old (reply_lines (option_to_list (option_map (with_hint hint) last.now))) }
+    ensures short { length (reply_lines (option_to_list (option_map (with_hint hint) last.now)))
+        ≤ THINKING_LINE }
+{
+    if last.write(hint, out) {
+        out.put(b"\n");
+    }
+}
+
+// Puts the thinking line of a report, which is then the last one.
 pub(crate) fn put_thinking(
     spelling: Spelling,
     info: &Info,
     at: &Position,
     hint: Option<Pondered>,
+    last: &mut LastThinking,
     out: &mut Out,
 )
     requires said { IsSaid (SaysInfo (info_of info.now)) }
     requires hint { CanBePlayed hint }
     requires room { length out.old.text + THINKING_LINE ≤ out.old.room }
+    ensures last { last.new
+        ≡ last_after last.old (thinking_line spelling (info_of info.now) at.now hint) }
     ensures line { out.new
         ≡ with out.old
         (reply_lines (option_to_list
@@ -181,8 +201,19 @@ pub(crate) fn put_thinking(
     ensures short { length (reply_lines (option_to_list
         (thinking_line spelling (info_of info.now) at.now hint))) ≤ THINKING_LINE }
 {
-    if thinking(spelling, info, at, hint, out) {
-        out.put(b"\n");
+    if last.take(spelling, info, at) {
+        put_last(last, hint, out);
+    }
+}
+
+// Puts the last thinking line once more, without its hint.
+pub(crate) fn put_again(repeats: bool, last: &LastThinking, out: &mut Out)
+    requires { repeats ≡ true → length out.old.text + THINKING_LINE ≤ out.old.room }
+    ensures line { out.new ≡ with out.old (reply_lines (repeated_thinking repeats last.now)) }
+    ensures short { length (reply_lines (repeated_thinking repeats last.now)) ≤ THINKING_LINE }
+{
+    if repeats {
+        put_last(last, None, out);
     }
 }
 

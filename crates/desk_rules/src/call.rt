@@ -4,7 +4,7 @@ ghost use Rattle.std.specs.Option.{is_some};
 ghost use Rattle.chess_board.specs.Board.{same_side};
 ghost use Rattle.game_record.specs.Game.{current_position};
 ghost use Rattle.game_record.specs.Ending.{has_legal, ended_of};
-ghost use Rattle.option_map.specs.Shown.{check_named};
+ghost use Rattle.option_map.specs.DeclaredOptions.Shown.{check_named};
 ghost use Rattle.uci_lines.specs.Orders.{optional_now};
 ghost use Rattle.search_epochs.specs.Tickets.{is_move};
 ghost use Rattle.desk_rules.specs.Desk.{at, table, analyses, plays, is_full, has_ended, is_moveless, on_move, is_gone, is_boot, call_for_hint, call_while_waiting, call_in, call_of_desk, owes_move};

@@ -9,7 +9,7 @@ use game_record::Game;
 use line_io::NoMemory;
 use option_map::{FeatureNegotiation, Options};
 use std::alloc::Global;
-use think_text::SearchInfo;
+use think_text::{LastThinking, SearchInfo};
 
 /// The commands of the interface and the answers of the engine.
 #[derive(Drop)]
@@ -33,6 +33,8 @@ pub struct Desk {
     pub early: Early,
     /// The reports of the open search.
     pub search_info: SearchInfo,
+    /// The last thinking line that was written of it.
+    pub last_thinking: LastThinking,
 }
 
 impl Desk {
@@ -42,6 +44,7 @@ impl Desk {
     {
         let pings = Pings::make(alloc)?;
         let early = Early::make(alloc)?;
+        let last_thinking = LastThinking::make(alloc)?;
         let options = Options::make(alloc)?;
         let game = Game::make(alloc)?;
         Ok(Desk {
@@ -58,6 +61,7 @@ impl Desk {
             due: FeatureNegotiation::new(),
             early,
             search_info: SearchInfo::new(),
+            last_thinking,
         })
     }
 }

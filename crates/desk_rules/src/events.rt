@@ -8,7 +8,7 @@ ghost use Rattle.protocol_tokens.specs.Quit.{is_quit};
 ghost use Rattle.cecp_lines.specs.Quit.{is_quit_message};
 ghost use Rattle.uci_lines.specs.Engine.{engine_message};
 ghost use Rattle.uci_lines.specs.Orders.{Order};
-ghost use Rattle.option_map.specs.Data.{setup_seen};
+ghost use Rattle.option_map.specs.DeclaredOptions.Data.{setup_seen};
 ghost use Rattle.desk_rules.specs.declared.effect.Refusal.TheVariants as refusals;
 ghost use Rattle.desk_rules.specs.declared.effect.Context.{Context as AnyContext};
 ghost use Rattle.desk_rules.specs.Desk.{at, is_getting, current, owes_move};

@@ -26,4 +26,4 @@ pub use mode::Mode;
 pub use name::EngineName;
 pub use orders::{put_chosen, put_order};
 pub use pings::{MOST_PINGS, Pings};
-pub use sizes::{SHORT_REPLY, STEP_ORDERS, STEP_REPLIES};
+pub use sizes::{SHORT_REPLY, STEP_ORDERS, STEP_REPLIES, THINKING_LINE};

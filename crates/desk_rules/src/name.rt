@@ -1,7 +1,7 @@
 // The name that the engine is shown by.
 ghost use Rattle.std.specs.Prelude.{◌≡◌, ◌≤◌, length};
-ghost use Rattle.option_map.specs.Features.{shown_name};
-ghost use Rattle.option_map.specs.declared.feature_list.TheConstants.{MOST_NAME};
+ghost use Rattle.option_map.specs.FeatureLists.Features.{shown_name};
+ghost use Rattle.option_map.specs.declared.feature_lists.list.TheConstants.{MOST_NAME};
 
 use arrayvec::ArrayVec;
 use option_map::shown_name;

@@ -2,8 +2,8 @@
 ghost use Rattle.std.specs.Prelude.{◌≡◌};
 ghost use Rattle.std.specs.Option.{option_map};
 ghost use Rattle.cecp_lines.specs.Messages.{message_of};
-ghost use Rattle.option_map.specs.Asked.{asked};
-ghost use Rattle.option_map.specs.Data.{setup_seen, answer_seen};
+ghost use Rattle.option_map.specs.WaitingOrders.Asked.{asked};
+ghost use Rattle.option_map.specs.DeclaredOptions.Data.{setup_seen, answer_seen};
 ghost use Rattle.desk_rules.specs.Desk.{at, table, is_gone};
 ghost use Rattle.desk_rules.specs.Lines.{because, needs_engine, needs_analysis, lacks_moves, illegal_move, move_too_many, position_set_up, illegal_position, refused_option, does_not_fit, asks as asks_for, pings_too_often, refusal};
 

@@ -4,6 +4,7 @@ use crate::early::{EARLY_BYTES, MOST_EARLY};
 use game_record::POSITION_TEXT;
 use line_io::PEER_LINE;
 use option_map::FEATURE_BYTES;
+use think_text::LAST_LINE;
 
 /// A reply that repeats no text.
 pub const SHORT_REPLY: usize = 129;
@@ -11,8 +12,8 @@ pub const SHORT_REPLY: usize = 129;
 /// An error with the line that it is about.
 pub(crate) const ERROR_REPLY: usize = PEER_LINE + 64;
 
-/// A thinking line with moves in standard algebraic notation may be longer than the engine's line that it tells.
-pub(crate) const THINKING_LINE: usize = PEER_LINE * 8 / 5 + 164;
+/// A thinking line.
+pub const THINKING_LINE: usize = LAST_LINE + 1;
 
 pub(crate) const FEATURE_LIST: usize = FEATURE_BYTES + 1_464;
 

@@ -16,11 +16,11 @@ use Rattle.driver_runner.specs.Recorded.{DriverRecorded, DriverRunIsWhole}
 pub record DriverRunIs (before after : Outside) (failures : Failures) : Type 0 where
   pub driving : Driving
   pub mediated : Mediated driving_meaning driving [] before after failures
-  -- what the ledger says of the events that the driver took
+  -- the ledger's record of the events that the driver took
   pub recorded : DriverRecorded (events_of_turns mediated.ran.looped.turns) mediated.ran.looped.did.states
       (sent_by peers.Engine mediated.ran.later) before.ledger after.ledger failures
 
--- what a run leaves, whether an engine was started or not
+-- the result of a run, whether an engine was started or not
 pub record DriverLeaves (before after : Outside) (failures : Failures) : Type 0 where
   pub reported : AreReported before after failures
   pub closed : HostIsClosed after.ledger failures

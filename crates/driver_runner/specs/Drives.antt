@@ -16,7 +16,7 @@ use Rattle.driver_runner.specs.declared.driving.Driving.{Driving}
 pub record Drove (d0 : Driving) (turns : List Turn) (d : Driving) : Type 0 where
   pub states : List DriverParts
   pub goes : DriverTakesAll opening_driver (events_of_turns turns) states
-  -- what every run of a driver gives: legal moves, one `bestmove` for a `go`,
+  -- the promises of every run of a driver: legal moves, one `bestmove` for a `go`,
   -- searches of the ordered games
   pub sound : IsSoundDrive (events_of_turns turns) states
   pub now : d.driver ≡ last_of opening_driver states

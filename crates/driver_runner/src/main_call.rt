@@ -7,7 +7,7 @@ ghost use Rattle.program_lifecycle.specs.Endings.{program_status, program_diagno
 ghost use Rattle.program_lifecycle.specs.Outside.{outside_of};
 ghost use Rattle.program_lifecycle.specs.Program.{ProgramEnds, IsReportedTo};
 ghost use Rattle.program_lifecycle.specs.declared.ending.ProgramEnding.TheVariants as endings;
-ghost use Rattle.program_command_line.specs.Arguments.{EngineArgumentsAreTaken, argument_bytes_of};
+ghost use Rattle.program_command_line.specs.Arguments.Request.{EngineArgumentsAreTaken, argument_bytes_of};
 ghost use Rattle.driver_runner.specs.Driven.{DriverLeaves};
 ghost use Rattle.driver_runner.specs.Recorded.{DriverRunIsWhole};
 ghost use Rattle.driver_runner.specs.Program.{program};

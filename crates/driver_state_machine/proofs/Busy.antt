@@ -32,11 +32,11 @@ use Rattle.driver_state_machine.proofs.Pings.{awaited_is_unanswered}
 abbrev pub search_of : GoKind → GoClocks → Option Move → Phase → OpenSearch
 search_of kind clocks best phase = record { kind = kind; clocks = clocks; kept = best; phase = phase }
 
--- whether a search of each kind goes on by itself
+-- true if a search of each kind goes on by itself
 abbrev on_by : Bool → Bool → GoKind → Bool
 on_by st ht kind = search_goes_on kind st ht
 
--- what holds in a phase
+-- the facts of a phase
 abbrev Fits : Bool → (GoKind → Bool) → Option ℕ → GoKind → Phase → Type 0
 Fits th on awaited kind (Thinks at_once) = th ≡ true
 Fits th on awaited kind Analyses = on kind ≡ true
@@ -50,7 +50,7 @@ abbrev FitsIn : Bool → (GoKind → Bool) → Option ℕ → Option OpenSearch 
 FitsIn th on awaited None = Unit {0}
 FitsIn th on awaited (Some s) = Fits th on awaited s.kind s.phase
 
--- whether the engine was ordered to think, after this
+-- true if the engine was ordered to think, after this
 abbrev later : Bool → DriverAction → Bool
 later th d = cond (is_bestmove d.up) false (orders_thinking d.down || th)
 
@@ -263,7 +263,7 @@ call_keeps th st ht t (calls.Pong n) h = pong_keeps th (on_by st ht) t.stage t.g
 call_keeps th st ht t (calls.Thought thought) h = thought_keeps th (on_by st ht) t.stage t.gone t.awaited t.pings t.search thought h
 call_keeps th st ht t calls.Ended h = ended_keeps th (on_by st ht) t.stage t.gone t.awaited t.pings t.search h
 
--- what goes on after these calls
+-- the search that goes on after these calls
 abbrev on_after : List DriverCall → GoKind → Bool
 on_after cs = on_by (laws.got_stop cs) (laws.got_ponderhit cs)
 

@@ -10,14 +10,14 @@ use Rattle.protocol_tokens.proofs.Lengths.{trim_left_length}
 drop_short : (n : ℕ) (xs : List ℕ) → length (drop n xs) ≤ length xs
 drop_short n xs = omega (arith, length-drop n xs)
 
--- what stands before and after a place
+-- the bytes before and after a place
 halves : (n : ℕ) (xs : List ℕ) → length (take n xs) + length (drop n xs) ≤ length xs
 halves n xs = omega (arith, length-drop n xs, length-take n xs)
 
 halves_more : (n : ℕ) (xs : List ℕ) → length (take n xs) + length (drop (n + 1) xs) ≤ length xs
 halves_more n xs = omega (arith, length-drop (n + 1) xs, length-take n xs)
 
--- what a cut leaves
+-- the rest that a cut leaves
 
 quoted_rest : (q : Bool) (name : List ℕ) (b : ℕ) (bs : List ℕ) → length (cond q (cut_with_feature name (before_first is_quote bs) (after_first is_quote bs)) (cut_with_feature name (before_first is_white (b ∷ bs)) (drop (token_end (b ∷ bs)) (b ∷ bs)))).rest ≤ length (b ∷ bs)
 quoted_rest true name b bs = omega (arith, drop_short (position_or_len is_quote bs + 1) bs)

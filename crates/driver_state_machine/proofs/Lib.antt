@@ -8,3 +8,4 @@ mod First
 mod Puts
 pub mod FeatureText
 pub mod Prompts
+pub mod PromptCauses

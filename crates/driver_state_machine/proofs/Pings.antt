@@ -30,7 +30,7 @@ use Rattle.driver_state_machine.specs.Laws.{state_after_calls, written_ping, las
 
 -- THE PING THAT IS AWAITED
 
--- what is awaited after a turn, if this is left of what was awaited before
+-- the pongs that are awaited after a turn, if this is left of those that were awaited before
 abbrev Awaits : Option ℕ → DriverTurn → Type 0
 Awaits left r = r.talk.awaited ≡ option_or (written_ping r.action.down) left
 

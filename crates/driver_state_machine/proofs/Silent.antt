@@ -31,7 +31,7 @@ pub moves_are_ignored : MovesAreIgnored
 unfolding driver_turn_of
 moves_are_ignored t shown e = rw e (refl, refl)
 
--- what gives no `bestmove 0000`
+-- a turn that gives no `bestmove 0000`
 abbrev Speaks : DriverTurn → Type 0
 Speaks r = r.action.up ≡ ups.Best None → ⊥
 

@@ -35,7 +35,7 @@ use Rattle.driver_state_machine.specs.declared.driver_state.TheConstants.{LAST_P
 abbrev pub first_talk : DriverState
 first_talk = record { stage = stages.Fresh; gone = false; awaited = None; pings = 0; search = None }
 
--- what is known of the engine's game stays, except what is set up
+-- the knowledge of the engine's game stays, except for a position that is set up
 abbrev pub give : DriverState → ToIface → ToEngine → DriverTurn
 give t up down = record { talk = t; action = record { up = up; down = down; board = boards.Same } }
 
@@ -234,7 +234,7 @@ abbrev pub board_of : Option Move → BoardChange
 board_of None = boards.Lost
 board_of (Some m) = boards.Moved m
 
--- whether the engine thinks on its move
+-- true if the engine thinks on its move
 abbrev pub engine_thinks : Phase → Bool
 engine_thinks (Thinks at_once) = true
 engine_thinks phase = false
@@ -310,7 +310,7 @@ after_pong t n =
 abbrev pub better : OpenSearch → Move → OpenSearch
 better s m = record { kind = s.kind; clocks = s.clocks; kept = Some m; phase = s.phase }
 
--- whether a thinking line has the depth that a `go` asks for, or more
+-- true if a thinking line has the depth that a `go` asks for, or more
 abbrev pub reaches_depth : GoClocks → Thought → Bool
 reaches_depth clocks thought = not (clocks.depth == 0) && nat_le clocks.depth thought.depth
 
@@ -353,7 +353,7 @@ ended_in (Some s) t = give (closed t) (ups.Best None) downs.Nothing
 abbrev pub after_ended : DriverState → DriverTurn
 after_ended t = ended_in (open_search t) (without_engine t)
 
--- what comes of a call
+-- the outcome of a call
 unfoldable pub driver_turn_of : DriverState → DriverCall → DriverTurn
 driver_turn_of t calls.Other = quiet t
 driver_turn_of t calls.Quit = driver_after_quit t

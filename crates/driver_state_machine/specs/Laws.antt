@@ -28,7 +28,7 @@ abbrev pub state_after_calls : List DriverCall → DriverState
 state_after_calls [] = first_talk
 state_after_calls (c ∷ cs) = (driver_turn_of (state_after_calls cs) c).talk
 
--- what comes of a call after these
+-- the outcome of a call after these
 abbrev pub action_after : List DriverCall → DriverCall → DriverAction
 action_after cs c = (driver_turn_of (state_after_calls cs) c).action
 

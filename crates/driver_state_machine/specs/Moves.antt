@@ -36,7 +36,7 @@ Names p text m = (coordinates p text ≡ Some m) ⊎ ((coordinates p text ≡ No
 abbrev pub NamesNone : Position → List ℕ → Type 0
 NamesNone p text = (coordinates p text ≡ None) × WritesNone p text
 
--- what a token of the engine is read as: the legal move that it names, or none if it names none
+-- the reading of a token of the engine: the legal move that it names, or none if it names none
 abbrev pub EngineMoveIs : Position → List ℕ → Option Move → Type 0
 EngineMoveIs p text shown = MatchOption shown (NamesNone p text) (Names p text)
 

@@ -83,7 +83,7 @@ feature_parts text = parts_within (length text) text
 abbrev pub IsNamed : CutFeature → Type 0
 IsNamed c = IfSome c.part (λ f. 0 < length f.name)
 
--- what a feature and the rest leave of a text
+-- the parts of a text: a feature and the rest
 abbrev pub FitsIn : List ℕ → CutFeature → Type 0
 FitsIn text c =
     IfSome c.part (λ f. length f.name + length f.value + length c.rest + 1 ≤ length text)

@@ -82,6 +82,6 @@ says_by words.Pong line = pong_by (pong_number_in (tokens (rest_after_token line
 says_by words.Feature line = Feature (rest_after_token line)
 says_by words.Other line = or_other (report_in (tokens line))
 
--- what a line says, by its first token; a thinking line, by its first four
+-- the meaning of a line, by its first token; of a thinking line, by its first four
 unfoldable pub says_in : List ℕ → EngineMessageSeen
 says_in line = says_by (word_named (first_token line)) line

@@ -1,4 +1,4 @@
-// A writer that is closed when it is told so, and one that is closed behind `quit`.
+// A writer that is closed when it is asked to be, and one that is closed behind `quit`.
 ghost use Rattle.std.specs.Prelude.{◌<◌, length};
 
 use crate::expected::expect;

@@ -34,7 +34,7 @@ impl Env for Called {
 /// The arguments that a program is called with, the room for them, and whether they fit into it.
 type Row = (&'static [&'static [u8]], usize, bool);
 
-// Two words of together 5 bytes take the room of two words, and 5 bytes.
+// Two arguments of together 5 bytes take the room of two arguments, and 5 bytes.
 const ROOM: usize = ARGUMENT_ROOM + ARGUMENT_ROOM + 5;
 
 const ROWS: [Row; 4] = [
@@ -48,7 +48,7 @@ const ROWS: [Row; 4] = [
     (&[b"program", b"abc", b"de"], 0, false),
 ];
 
-// True if the words are those after the program's name.
+// True if the arguments are those after the program's name.
 fn are_rest(found: &[Vec<u8>], arguments: &[&[u8]]) -> bool {
     for (word, wanted) in found.iter().zip(arguments.iter().skip(1)) {
         if word.as_slice() != *wanted {

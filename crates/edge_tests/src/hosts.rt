@@ -5,15 +5,18 @@ ghost use Rattle.child_engine.specs.Memory.{memory_ledger};
 
 use crate::expected::{expect, expect_bytes};
 use child_engine::{
-    ClosableSink, Closing, EngineInput, Fails, Host, HostFault, MemHost, RealHost, SteadyHost,
+    AskedLog, ClosableSink, Closing, EngineInput, Fails, Host, HostFault, LogPlace, MemHost,
+    NewLog, RealHost, SteadyHost,
 };
 use line_io::{Sink, Source, write_all};
 use program_lifecycle::{Opened, close_log, is_open_failure, is_open_memory, open_log};
 use std::alloc::Global;
+use std::fs::{File, Files};
+use std::io::Read;
 use std::process::{Abort, ChildStdin};
 use std::{fs, process};
 
-/// These words, as a host gets them.
+/// These arguments, as a host gets them.
 fn arguments_of(rt: &impl Abort, alloc: Global, texts: &[&str]) -> Vec<String>
     ensures { 0 < length result.items }
 {
@@ -96,14 +99,14 @@ where
 fn log_once<H: Host>(
     host: &mut H,
     alloc: Global,
-    name: &str,
+    place: &LogPlace,
     piece: &[u8],
 ) -> Result<bool, Option<HostFault>>
     requires logs { (H.ledger host.old).logs ≡ [] }
     requires logs_out { (H.ledger host.old).logs_out ≡ 0 }
     ensures { IfOk result (λ _. length (H.ledger host.new).logs ≡ 1) }
 {
-    let Opened { log, fault } = open_log(host, alloc, name);
+    let Opened { log, fault } = open_log(host, alloc, place);
     match log {
         Some(mut log) => {
             let is_written = write_all(&mut log, piece).is_ok();
@@ -126,10 +129,11 @@ fn was_asked_once(host: &MemHost) -> bool {
             return false;
         }
     }
-    host.engines().len() == 1 && are_texts(host.log_names(), &["a.log"])
+    let is_asked = matches!(host.log_places(), [AskedLog::File(name)] if name.as_str() == "a.log");
+    host.engines().len() == 1 && is_asked
 }
 
-// True if an engine's start was refused, or it went as told.
+// True if an engine's start was refused, or it went as reported.
 fn has_started(host: &MemHost, ran: Result<bool, HostFault>, refuses: bool) -> bool
     requires { IfOk ran (λ _. length (memory_ledger host.now).runs ≡ 1) }
 {
@@ -159,7 +163,7 @@ fn expect_kept(rt: &impl Abort, alloc: Global, refuses: bool) {
     let arguments = arguments_of(rt, alloc, &WORDS);
     let ran = run_engine(&mut host, alloc, arguments.as_slice(), &TURNS);
     expect(rt, has_started(&host, ran, refuses), "start", 0);
-    let written = log_once(&mut host, alloc, "a.log", b"U uci\n");
+    let written = log_once(&mut host, alloc, &LogPlace::File("a.log"), b"U uci\n");
     expect(rt, has_logged(&host, written, refuses), "log", 0);
     expect(rt, was_asked_once(&host), "asked", 0);
 }
@@ -176,7 +180,7 @@ fn a_steady_host_says_the_same_bytes(rt: HostRuntime) {
     let arguments = arguments_of(&rt, rt.alloc(), &["cat"]);
     let ran = run_engine(&mut host, rt.alloc(), arguments.as_slice(), &TURNS);
     expect(&rt, ran == Ok(true), "start", 0);
-    let written = log_once(&mut host, rt.alloc(), "a.log", b"U uci\n");
+    let written = log_once(&mut host, rt.alloc(), &LogPlace::File("a.log"), b"U uci\n");
     expect(&rt, written == Ok(true), "log", 0);
 }
 
@@ -220,10 +224,50 @@ fn a_log_is_made_anew(rt: HostRuntime) {
     let name = format!(in rt.alloc(); "/tmp/log-of-edge_tests-{number}").expect(&rt, "a name");
     for line in [b"x a first log\n".as_slice(), b"u one\n"] {
         let mut host = RealHost::<_, Closing<ChildStdin>>::new(&rt, true);
-        let written = log_once(&mut host, rt.alloc(), name.as_str(), line);
+        let written = log_once(&mut host, rt.alloc(), &LogPlace::File(name.as_str()), line);
         expect(&rt, written == Ok(true), "log", line.len());
     }
     let bytes = fs::read(&rt, name.as_str()).ok();
     expect(&rt, fs::remove_file(&rt, name.as_str()).is_ok(), "log", 0);
     expect_bytes(&rt, bytes.expect(&rt, "the log").as_slice(), b"u one\n");
+}
+
+// The file of this name, which is removed.
+fn taken_file<R: Files + Abort>(rt: &R, alloc: Global, folder: &str, name: &str) -> Vec<u8> {
+    let path = format!(in alloc; "{folder}/{name}").expect(rt, "a name");
+    let mut bytes = Vec::new(alloc);
+    let mut file = File::open(rt, path.as_str()).expect(rt, "the log");
+    file.read_to_end(&mut bytes).expect(rt, "the log's bytes");
+    fs::remove_file(rt, path.as_str()).expect(rt, "the log, to be removed");
+    bytes
+}
+
+// The folder is made, and no log overwrites another.
+#[test]
+fn a_new_log_has_the_first_name_that_no_file_has(rt: HostRuntime) {
+    let number = process::id(rt.process());
+    let folder = format!(in rt.alloc(); "/tmp/logs-of-edge_tests-{number}").expect(&rt, "a name");
+    let log = NewLog {
+        folder: folder.as_str(),
+        name: "toy-7",
+    };
+    for line in [b"x one\n".as_slice(), b"x two\n", b"x three\n"] {
+        let mut host = RealHost::<_, Closing<ChildStdin>>::new(&rt, true);
+        let written = log_once(&mut host, rt.alloc(), &LogPlace::New(log), line);
+        expect(&rt, written == Ok(true), "log", line.len());
+    }
+    for (name, line) in [
+        ("toy-7.log", b"x one\n".as_slice()),
+        ("toy-7-2.log", b"x two\n"),
+        ("toy-7-3.log", b"x three\n"),
+    ] {
+        let bytes = taken_file(&rt, rt.alloc(), folder.as_str(), name);
+        expect_bytes(&rt, bytes.as_slice(), line);
+    }
+    expect(
+        &rt,
+        fs::remove_dir(&rt, folder.as_str()).is_ok(),
+        "folder",
+        0,
+    );
 }

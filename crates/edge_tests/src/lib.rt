@@ -1,4 +1,4 @@
-//! Sources, sinks, the channel, words, hosts and the scripted engine, over bytes in memory; and hosts
+//! Sources, sinks, the channel, arguments, hosts and the scripted engine, over bytes in memory; and hosts
 //! over real programs.
 #![tactic(auto)]
 

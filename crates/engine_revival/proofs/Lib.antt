@@ -5,6 +5,7 @@ pub mod Lines
 pub mod Rooms
 pub mod Marks
 pub mod Wires
+pub mod Standing
 pub mod Agrees
 pub mod Sent
 pub mod Ready

@@ -173,7 +173,7 @@ answer_short answers.UciOk held = omega (arith, readyoks_length held, length-app
 answer_short answers.ReadyOk held = omega (arith, readyoks_length held)
 answer_short answers.NoMove held = omega (arith, readyoks_length held, length-append (readyoks held) (codes "bestmove 0000" ++ 10 ∷ []))
 
--- what stands in for the engine has its room
+-- the answers that stand in for the engine have their room
 pub answers_short : (s : RevivalState) → IsRoomy s → length (settled_answers s) ≤ 16 + READY_BYTES
 answers_short s r = omega (arith, answer_short (answer_of s) s.held_ready, r.ready)
 

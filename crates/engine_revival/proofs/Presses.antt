@@ -47,7 +47,7 @@ none_behind c xs ys e = behind c xs ys ∙ ap (λ (o : Option AnyOrder). later_o
 plain : (c : AnyOrder) (xs : List AnyOrder) (d : AnyOrder) → same_order c d ≡ None → last_revival_order_for c (xs ++ d ∷ []) ≡ last_revival_order_for c xs
 plain c xs d e = none_behind c xs (d ∷ []) e
 
--- what is for the same as an order that is not for the same as this one is not either
+-- an order for the same as one that is not for the same as this one is not either
 apart_game : (d o : AnyOrder) → are_for_same orders.NewGame d ≡ false → are_for_same d o ≡ true → are_for_same orders.NewGame o ≡ false
 apart_game orders.NewGame orders.NewGame e h = absurd (true≢false e)
 apart_game d orders.NewGame e h = absurd (true≢false (sym h))

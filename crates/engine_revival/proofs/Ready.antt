@@ -25,7 +25,8 @@ use Rattle.engine_revival.specs.Steps.{revival_with_value, with_button, state_wi
 use Rattle.engine_revival.specs.Calls.{RevivalCall, Order, Heard, Ended, Begin, Over, may_call, revival_after, state_after_call, first_orders}
 use Rattle.engine_revival.specs.Laws.{LifeWire, Open, Gone, CallsMayCome, ReadyIsAnswered, accepted_by, accepted_in, accepted_of, accepted_read, has_booted, one_where, ready_accepted, ready_answered, ready_in_answer, ready_left, ready_orders, ready_owed, ready_passed_up, says_ready, revival_state_of, wire_of}
 use Rattle.engine_revival.proofs.Wires.{AreSetups, is_setup}
-use Rattle.engine_revival.proofs.Agrees.{WireIs, agrees, turned_agrees}
+use Rattle.engine_revival.proofs.Standing.{WireIs}
+use Rattle.engine_revival.proofs.Agrees.{agrees, turned_agrees}
 use Rattle.engine_revival.proofs.Values.{as_it_comes}
 
 -- HOW MANY THERE ARE

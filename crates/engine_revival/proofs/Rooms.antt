@@ -209,7 +209,7 @@ game_step s h = record {
 with_search : (s : RevivalState) (up : DialogueState) (life : LifeState) (search : List RevivalOrder) → IsRoomy s → IsSearchIn up search → IsRoomy (record s { upper = up; life = life; search = search })
 with_search s up life search h k = record { kept = h.kept; settings = h.settings; unsent = h.unsent; search = all_search up search k; stage = k; ready = h.ready }
 
--- what is not refused
+-- an order that is not refused
 pub neither : (a b : Bool) → (a || b) ≡ false → (a ≡ false) × (b ≡ false)
 neither true b e = absurd (cc)
 neither false b e = (refl, e)

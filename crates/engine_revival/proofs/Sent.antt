@@ -9,7 +9,8 @@ use Rattle.engine_revival.specs.declared.words.LifeSaid.TheVariants as said
 use Rattle.engine_revival.specs.Dialogue.{said_in}
 use Rattle.engine_revival.specs.Steps.{is_alive, is_given}
 use Rattle.engine_revival.specs.Laws.{AwaitedIsGiven, LivesAreAsked, Open, Closed, Gone, LifeWire, is_answer_awaited, is_idle_life, is_state_search, revival_state_of, wire_of}
-use Rattle.engine_revival.proofs.Agrees.{Stands, agrees, no_idle}
+use Rattle.engine_revival.proofs.Standing.{Stands}
+use Rattle.engine_revival.proofs.Agrees.{agrees, no_idle}
 
 -- WHAT IT ANSWERS
 

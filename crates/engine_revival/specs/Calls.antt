@@ -30,7 +30,7 @@ may_call s Ended = is_alive s.life
 may_call s Begin = is_ended s.life && may_begin s
 may_call s Over = not (is_life_over s.life)
 
--- what the call changes by itself
+-- the change that the call makes by itself
 abbrev pub state_after_call : RevivalState → RevivalCall → RevivalState
 state_after_call s (Order line) = state_after_line s line
 state_after_call s (Heard line) = state_once_heard s (said_in line)
@@ -38,13 +38,13 @@ state_after_call s Ended = state_once_ended s
 state_after_call s Begin = state_at_new_life s
 state_after_call s Over = state_once_over s
 
--- what it writes to the life by itself
+-- the lines that it writes to the life by itself
 abbrev pub first_orders : RevivalState → RevivalCall → List AnyOrder
 first_orders s (Order line) = at_once s line
 first_orders s Begin = first_order s.upper
 first_orders s call = []
 
--- what it passes up by itself
+-- the lines that it passes up by itself
 abbrev pub first_up : RevivalState → RevivalCall → List ℕ
 first_up s (Heard line) = line_passed_up s line
 first_up s call = []
@@ -65,7 +65,7 @@ up_of s call = first_up s call ++ settled_answers (state_after_call s call)
 abbrev pub child_of : RevivalState → RevivalCall → List ℕ
 child_of s call = revival_batch_text (orders_to_life s call)
 
--- what the call leaves, and the texts that it gave
+-- the state after the call, and the texts that it gave
 pub record LifeCallGives (s : RevivalState) (call : RevivalCall) (last : RevivalState)
     (up child : List ℕ) : Type 0 where
   pub state_is : last ≡ revival_after s call

@@ -68,6 +68,6 @@ said_of (says.Info facts) = said.Report
 said_of (says.Best best hint) = said.Best
 said_of says.Nothing = said.Nothing
 
--- what a line of the engine says
+-- the meaning of a line of the engine
 abbrev pub said_in : List ℕ → LifeSaid
 said_in line = said_of (engine_message line)

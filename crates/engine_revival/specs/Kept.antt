@@ -38,7 +38,7 @@ pub record IsLineIn (texts : List ℕ) (s : LineSpan) : Type 0 where
 abbrev pub SpansAreIn : List ℕ → List LineSpan → Type 0
 SpansAreIn texts lines = AllByRecursion (IsLineIn texts) lines
 
--- what holds of the buffer of lines, the buffer beside it, and where the lines are
+-- the invariant of the buffer of lines, the buffer beside it, and the places of the lines
 pub record LineBufferIsKept (texts beside : Text) (lines : List LineSpan) : Type 0 where
   pub within : SpansAreIn texts.text lines
   pub whole : texts.text ≡ revival_batch_text (orders_at texts.text lines)

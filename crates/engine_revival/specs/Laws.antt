@@ -27,7 +27,7 @@ use Rattle.engine_revival.specs.Calls.{may_call, revival_after, state_after_call
 
 -- CALLS IN A ROW, THE LAST ONE FIRST
 
--- what they leave, if so many lives may be begun
+-- the state that they leave, if so many lives may be begun
 abbrev pub revival_state_of : ℕ → List RevivalCall → RevivalState
 revival_state_of lives [] = opening_revival lives
 revival_state_of lives (call ∷ calls) = revival_after (revival_state_of lives calls) call
@@ -84,7 +84,7 @@ abbrev pub wire_after_heard : LifeSaid → LifeWire → LifeWire
 wire_after_heard word (Open state) = Open (after_said state word)
 wire_after_heard word wire = wire
 
--- what a call is to the wire, before its orders
+-- the effect of a call on the wire, before its orders
 abbrev pub wire_after_call : RevivalCall → LifeWire → LifeWire
 wire_after_call (Order line) wire = wire
 wire_after_call (Heard line) wire = wire_after_heard (said_in line) wire
@@ -135,7 +135,7 @@ GivenFits =
     → gives (revival_state_of lives calls) (said_in line) ≡ true
     → FitsUp (said_in line) (revival_state_of lives calls).upper
 
--- what stands in for the engine says
+-- the answer that stands in for the engine's
 abbrev pub answer_says : StandInAnswer → LifeSaid
 answer_says answers.Nothing = said.Nothing
 answer_says answers.UciOk = said.UciOk
@@ -165,7 +165,7 @@ NoLifeIdles =
 
 -- WHAT A LIFE ANSWERS
 
--- what a life was asked for, by the lines written to it and heard from it: what it says of a search
+-- the search that a life was asked for, by the lines written to it and heard from it: its words on a search
 abbrev pub is_answer_awaited : LifeWire → LifeSaid → Bool
 is_answer_awaited (Open (upper.Search kind stopped)) said.Report = true
 is_answer_awaited (Open (upper.Search kind stopped)) said.Best = true

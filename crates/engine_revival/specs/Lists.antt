@@ -29,7 +29,7 @@ revival_order_line order = revival_order_text order ++ line_feed ∷ []
 abbrev pub revival_batch_text : List RevivalOrder → List ℕ
 revival_batch_text list = flat_map revival_order_line list
 
--- whether an order may join within both limits
+-- true if an order may join within both limits
 abbrev pub revival_order_can_join : List RevivalOrder → RevivalOrder → Bool
 revival_order_can_join list order =
     nat_le (length (revival_list_with list order)) MOST_ORDERS

@@ -21,7 +21,7 @@ IsSearchIn (upper.Search kinds.Ponder false) search = AreWithin search 2 (2 * MO
 IsSearchIn (upper.Search kind false) search = AreWithin search 3 (2 * MOST_LINE + 12)
 IsSearchIn up search = AreWithin search 4 SEARCH_BYTES
 
--- what holds of the lists between two calls
+-- the invariant of the lists between two calls
 pub record IsRoomy (s : RevivalState) : Type 0 where
   pub kept : AreWithin s.kept MOST_ORDERS MOST_BYTES
   pub settings : AreWithin (revival_orders_staying NewGame s.unsent) MOST_ORDERS MOST_BYTES

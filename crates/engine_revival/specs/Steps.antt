@@ -105,7 +105,7 @@ is_alive life.Ended = false
 is_alive life.Over = false
 is_alive state = true
 
--- whether a life has ended, and what follows is not known yet
+-- true if a life has ended, and what follows is not known yet
 abbrev pub is_ended : LifeState → Bool
 is_ended life.Ended = true
 is_ended state = false
@@ -212,7 +212,7 @@ abbrev pub is_ready_order : RevivalOrder → Bool
 is_ready_order orders.IsReady = true
 is_ready_order order = false
 
--- whether one more `isready` may wait for its `readyok`
+-- true if one more `isready` may wait for its `readyok`
 abbrev pub has_ready_room : RevivalState → Bool
 has_ready_room s = nat_lt (s.held_ready + s.asked_ready) MOST_READY
 
@@ -247,7 +247,7 @@ read_at_once s (Some order) = accepted_at_once (upper_if_accepted s order) s.lif
 abbrev pub quit_to : Bool → LifeState → List RevivalOrder
 quit_to quit state = if not quit && is_served state then orders.Quit ∷ [] else []
 
--- what is written to the life as it comes
+-- the orders that are written to the life as they come
 abbrev pub at_once : RevivalState → List ℕ → List RevivalOrder
 at_once s line =
     if is_quit line then quit_to s.quit s.life else read_at_once s (order_of_line line)
@@ -273,7 +273,7 @@ with_all_held s = record s { held_ready = s.held_ready + s.asked_ready; asked_re
 abbrev pub state_once_ended : RevivalState → RevivalState
 state_once_ended s = record (with_all_held s) { life = life.Ended }
 
--- whether another life may begin
+-- true if another life may begin
 abbrev pub may_begin : RevivalState → Bool
 may_begin s = nat_lt s.begun s.lives && not s.quit && not s.full
 

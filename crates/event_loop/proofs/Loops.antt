@@ -149,7 +149,7 @@ filter_swap f g (x ∷ es) =
 no_ends : (role : ℕ) (g : Event → Bool) (es : List Event) → has_last_event (of role es) ≡ false → has_last_event (of role (filter g es)) ≡ false
 no_ends role g es h = ap has_last_event (filter_swap (is_of_role role) g es) ∙ any_filter is_last_event g (of role es) h
 
--- what is received is none of the loop's own
+-- a received event is none of the loop's own
 comes : (x : Event) → role_of_event x ≢ 3 → (is_own_event x ≡ false) × (is_loss peers.Iface x ≡ false) × (is_loss peers.Engine x ≡ false)
 comes Open n = absurd (n refl)
 comes IfaceLost n = absurd (n refl)

@@ -55,7 +55,7 @@ none_is (x ∷ xs) h e = cc
 pub good_first : (rest : List ℕ) → 0 < length rest → (line : List ℕ) → line ≡ before_first is_feed rest → (y : Event) → y ≡ piece_event peers.Iface (piece_of line_limit line) → is_good y ≡ true
 good_first rest some line cut y is = ap is_good is ∙ good_piece line (ap has_feed cut ∙ no_feed rest)
 
--- whether a first line is left
+-- true if a first line is left
 not_zero : (n : ℕ) → (n == 0) ≡ false → 0 < n
 not_zero n h = grind (arith, nat_tests)
 
@@ -133,7 +133,7 @@ module _ {M : Type 0} (means : MediatorMeaning M) (m0 m : M) (first rest : List 
           none = λ n. none;
         }
 
-    -- what was taken from the channel, of which the code holds this
+    -- the events that were taken from the channel, of which the code holds this
     pub took : AreOpening first → rest ≡ [] → (t : Event) → EventMayFollow taken t → (y : Event) → y ≡ t → (taken' : List Event) → taken' ≡ taken ++ t ∷ [] → Allows means m y
         → (m' : M) (a : Sinks) (to : LoopEnd) → Receives means y m m' s a at to → (sides' : Sides) → sides' ≡ sides_ended_by sides y → Opened means m0 m' first rest taken' sides' b a to
     took opening empty t f y is taken' got allows m' a to r sides' e =

@@ -13,7 +13,7 @@ pub record MediatorMeaning (M : Type 0) : Type 1 where
   pub fresh : M → Type 0
   -- from what it was when it was fresh, it did these turns, and is now so
   pub did : M → List Turn → M → Type 0
-  -- what it gave to a peer in its last turn
+  -- the lines that it gave to a peer in its last turn
   pub gave : M → Peer → List ℕ
   -- the event may come now
   pub may : M → Event → Bool
@@ -43,7 +43,7 @@ pub record MediatorSteps {M : Type 0} (means : MediatorMeaning M) (e : Event) (m
 
 -- Whatever turns it did, this is when an event may come.
 pub record Allows {M : Type 0} (means : MediatorMeaning M) (m : M) (e : Event) : Type 0 where
-  -- what a peer sends that has not ended may come if it takes such events at all
+  -- an event of a peer that has not ended may come if it takes such events at all
   pub follows : (m0 : M) (turns : List Turn) → means.did m0 turns m
       → EventMayFollow (events_of_turns turns) e → means.may m e ≡ means.reported e
   -- the loss of a peer may come if something was given to it,

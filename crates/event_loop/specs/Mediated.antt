@@ -12,7 +12,7 @@ use Rattle.event_loop.specs.declared.run.RunEnd.{RunEnd}
 use Rattle.event_loop.specs.Meaning.{MediatorMeaning}
 use Rattle.event_loop.specs.Ran.{MediatorRan}
 
--- what the readers and the loop answered is reported
+-- the answers of the readers and the loop are reported
 pub record MediatorReportsRun (run : RunEnd) (failures : Failures) : Type 0 where
   pub iface_read : failures.iface_read ≡ is_read_fault run.iface
   pub iface_write : failures.iface_write ≡ run.done.output
@@ -45,7 +45,7 @@ pub record Mediated {M : Type 0} (means : MediatorMeaning M) (m0 : M) (first : L
   pub run_reported : after.ledger.runs ≡ shown_run last.source last.into.engine ∷ []
   pub shown_logs : after.ledger.logs ≡ closed_logs after.ledger.logs_out last.into.log
 
--- what a run leaves, whether an engine was started or not
+-- the result of a run, whether an engine was started or not
 pub record MediatorLeaves {M : Type 0} (means : MediatorMeaning M) (m0 : M) (first : List ℕ)
     (before after : Outside) (failures : Failures) : Type 0 where
   pub reported : AreReported before after failures

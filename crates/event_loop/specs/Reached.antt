@@ -16,7 +16,7 @@ use Rattle.event_loop.specs.Meaning.{MediatorMeaning, turn_of_mediator}
 use Rattle.event_loop.specs.First.{first_events}
 use Rattle.event_loop.specs.Looped.{Fails, LostBehind, BeginsWithOpen}
 
--- what the sinks took when a turn's texts were offered to them
+-- the bytes that the sinks took when a turn's texts were offered to them
 pub record AllOffered (to_iface to_engine to_log : List ℕ) (before after : Sinks)
     (from to : LoopEnd) : Type 0 where
   pub output : Offered from.output to.output before.output after.output to_iface

@@ -18,5 +18,5 @@ pub record RecordedAs (put lines : List ℕ) (arrived : List Event) (before afte
   pub prefix : before.sinks_report ≡ true → after.logs_out ≡ 1 → LogHasPrefix put after
   -- the engine took its lines
   pub lines_taken : before.sinks_report ≡ true → failures.engine_write ≡ false → run.taken ≡ Some lines
-  -- what arrived is what the engine gave
+  -- the lines that arrived are those that the engine gave
   pub gave : (bytes : List ℕ) → before.says ≡ Some bytes → EngineGave bytes run arrived failures

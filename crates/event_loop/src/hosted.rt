@@ -1,6 +1,7 @@
 // One run of a mediator over a host.
 ghost use Rattle.std.specs.Prelude.{◌≡◌, ◌<◌, length, map, string_bytes, IfOk, IfErr, OnOk, OnErr};
 ghost use Rattle.child_engine.specs.Asked.{and_engines};
+ghost use Rattle.child_engine.specs.Places.{asked_place};
 ghost use Rattle.child_engine.specs.Hosts.{HostIsUnused, IsStarted, fresh_source, fresh_sink, with_run};
 ghost use Rattle.program_lifecycle.specs.Asked.{AsksFor, OpensLogs, engines_asked_by};
 ghost use Rattle.program_lifecycle.specs.Early.{FailuresAreEarly};
@@ -53,7 +54,7 @@ fn run_started<
         (outside_of I.state O.state H.faults H.ledger interface.old host.old)
         (outside_of I.state O.state H.faults H.ledger interface.new host.new)
         result }
-    ensures asked { OpensLogs request.now.log_name.now (H.asked host.old) (H.asked host.new)
+    ensures asked { OpensLogs (asked_place request.now.log) (H.asked host.old) (H.asked host.new)
         (H.ledger host.old) (H.ledger host.new) result }
 {
     let ReadyMediator { parts, run } = ready;
@@ -62,7 +63,7 @@ fn run_started<
         sink,
         process,
     } = run;
-    let Opened { log, fault } = open_log(host, alloc, request.log_name);
+    let Opened { log, fault } = open_log(host, alloc, &request.log);
     let mut handed = HandedStreams {
         source,
         engine: sink,
@@ -161,7 +162,7 @@ pub fn run_mediator<
         (outside_of I.state O.state H.faults H.ledger interface.old host.old)
         (outside_of I.state O.state H.faults H.ledger interface.new host.new)
         result }
-    ensures asked { AsksFor (map string_bytes request.now.engine.now) request.now.log_name.now
+    ensures asked { AsksFor (map string_bytes request.now.engine.now) (asked_place request.now.log)
         (H.asked host.old) (H.asked host.new) (H.ledger host.new) result }
 {
     match start(rt, alloc, mediator, request.engine, host) {

@@ -132,7 +132,7 @@ module _ {M : Type 0} (means : MessageMeaning M) where
     second = λ z. absurd (n0 z);
   }
 
-  -- what was sent by a role that is not the sender's stays
+  -- the messages of a role that is not the sender's stay
   kept_sent : (sent : ℕ → List M) (x : M) (role : ℕ) → means.role x ≢ role → more sent x role ≡ sent role
   kept_sent sent x role n = ap (λ b. cond b (sent role ++ x ∷ []) (sent role)) (other x role n)
 
@@ -181,7 +181,7 @@ module _ {M : Type 0} (means : MessageMeaning M) where
         refl,
       )
 
-  -- what comes next of a role
+  -- the next message of a role
   next_of : (taken items : List M) (x : M) → messages_of means (means.role x) (taken ++ x ∷ items) ≡ messages_of means (means.role x) taken ++ x ∷ messages_of means (means.role x) items
   next_of taken items x =
       of-append (means.role x) taken (x ∷ items)

@@ -117,7 +117,7 @@ not_over : (b : Bool) (x : ℕ) (xs : List ℕ) → (b ≡ true → x ∷ xs ≡
 not_over true x xs f = let e = f refl in cc
 not_over false x xs f = refl
 
--- what reads something has no whole line
+-- a reader that reads something has no whole line
 waiting : (old : Held) (x : ℕ) (xs : List ℕ) → (IsLineReady old → x ∷ xs ≡ []) → IsWaiting old
 waiting old x xs idle =
     elim (cases_lt (feed_at old.bytes) (length old.bytes)) [

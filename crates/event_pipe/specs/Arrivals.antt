@@ -91,7 +91,7 @@ pub record Arrived (p : Peer) (before after : Supplied) (sent : List Event)
   -- the source's count of faults rose if reading failed, and otherwise is as before
   pub count : CountsFault before.faults after.faults (is_read_fault r)
 
--- what a turn has sent, if the call of the reader of lines answered this
+-- the events that a turn has sent, if the call of the reader of lines answered this
 abbrev pub ReaderTurnSends : Peer → Result Item ReadFault → List Event → List Event → ReaderTurn → Type 0
 ReaderTurnSends p r before now turns.More =
     IsTrue (reading_goes_on r) × (now ≡ before ++ piece_events p (lines_given (outcome r)))
@@ -107,7 +107,7 @@ abbrev pub is_reader_fault : ReaderTurn → Bool
 is_reader_fault turns.Fault = true
 is_reader_fault t = false
 
--- what one turn of a reader did
+-- the work of one turn of a reader
 pub record ReaderTurnDone (p : Peer) (old new : Held) (before after : Supplied) (sent now : List Event)
     (turn : ReaderTurn) : Type 0 where
   pub got : List ℕ

@@ -9,11 +9,11 @@ use Rattle.event_pipe.specs.Ends.{CameFrom}
 abbrev pub is_of_role : ℕ → Event → Bool
 is_of_role role e = has_role event_meaning role e
 
--- what is there of one sender, in order
+-- the messages of one sender, in order
 abbrev pub of : ℕ → List Event → List Event
 of role events = messages_of event_meaning role events
 
--- what is there of one peer, in order
+-- the messages of one peer, in order
 abbrev pub sent_by : Peer → List Event → List Event
 sent_by peer events = messages_by event_meaning peer events
 

@@ -15,11 +15,11 @@ module _ {M : Type 0} (means : MessageMeaning M) where
   abbrev pub has_role : ℕ → M → Bool
   has_role role m = means.role m == role
 
-  -- what is there of one sender, in order
+  -- the messages of one sender, in order
   abbrev pub messages_of : ℕ → List M → List M
   messages_of role messages = filter (has_role role) messages
 
-  -- what is there of one peer, in order
+  -- the messages of one peer, in order
   abbrev pub messages_by : Peer → List M → List M
   messages_by peer messages = messages_of (role_of peer) messages
 
@@ -85,7 +85,7 @@ pub record Delivers {M : Type 0} (means : MessageMeaning M) (items : List M)
   pub seat : ℕ → Option ℕ
   pub sent : ℕ → List M
   pub taken : List M
-  -- what a role has sent is what was taken of it, and then what the channel holds of it
+  -- the messages of a role are those that were taken of it, and then those that the channel holds of it
   pub each : (role : ℕ) → messages_of means role (taken ++ items) ≡ sent role
   -- it never holds more
   pub room : length items ≤ CHANNEL_ROOM
@@ -96,7 +96,7 @@ pub record Delivers {M : Type 0} (means : MessageMeaning M) (items : List M)
   pub fits : (pass : ℕ) (v : KnownOfPass M) → get_elem? views pass ≡ some v
       → PassesFitRoles seat sent taken pass v
 
--- what the receiving end learns when both senders were taken in
+-- the fact that the receiving end learns when both senders were taken in
 pub record Total {M : Type 0} (means : MessageMeaning M) (v : KnownOfPass M)
     (items : List M) : Type 0 where
   pub first : messages_of means 1 (v.taken ++ items) ≡ v.first

@@ -42,7 +42,7 @@ fades p (m ∷ moves) is legal =
     let wear = wears p m.from.index m.to.index m.promotion is m.from.on_board m.to.on_board legal.0 in
     fades_more p (position_after_ply p (ply_of m)) (now_after (position_after_ply p (ply_of m)) (plies_of moves)) (length moves) wear (fades (position_after_ply p (ply_of m)) moves (still_position p m is legal.0) legal.1)
 
--- what is worth less is another position
+-- a position that is worth less is another one
 other_worth : (q p : Position) → total q.pieces < total p.pieces → is_same q p ≡ false
 other_worth q p less = false_from_ne_true (is_same q p) (λ e. let pieces = ap total ((same-law q p).0 e).pieces in absurd (omega arith))
 
@@ -85,7 +85,7 @@ new_behind p moves m q is legal few playable now =
     ∙ take-append-le (length (p ∷ later p (plies_of moves)) - q.half) (p ∷ later p (plies_of moves)) (position_after_ply (now_after p (plies_of moves)) (ply_of m) ∷ []) (omega arith) in
     ap (stood_in q) (sym (ap (λ (n : ℕ). take n (p ∷ later p (plies_of (moves ++ m ∷ [])))) places ∙ part)) ∙ none
 
--- what is neither among the positions that were left nor among the others is nowhere
+-- a position that is neither among those that were left nor among the others is nowhere
 pub stood_nowhere : (p start : Position) (positions : List Position) (oldest : ℕ) → oldest ≡ length positions - p.half → 0 < oldest → stood_in p (left_behind p (start ∷ positions)) ≡ 0 → stood_in p (drop oldest positions) ≡ 0 →
     stood_in p (start ∷ positions) ≡ 0
 stood_nowhere p start positions oldest e some behind none =

@@ -96,7 +96,7 @@ times_none p (m ∷ moves) e =
 test : Pieces → Side → Rights → Option ℕ → Position → Bool
 test pieces side rights passant q = (same_pieces pieces q.pieces && same_side side q.side) && (same_rights rights q.rights && same_square passant q.passant)
 
--- what is the same as one of two same positions is the same as the other
+-- a position that is the same as one of two same positions is the same as the other
 same_test : (p q : Position) → is_same p q ≡ true → (xs : List Position) → stood_in p xs ≡ stood_in q xs
 unfolding is_same test
 same_test p q e xs =

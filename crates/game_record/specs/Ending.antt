@@ -53,7 +53,7 @@ same_square None (Some b) = false
 same_square (Some a) None = false
 same_square (Some a) (Some b) = a == b
 
--- whether two positions are the same for repetition: pieces, side on move, rights and en passant square
+-- true if two positions are the same for repetition: pieces, side on move, rights and en passant square
 unfoldable pub is_same : Position → Position → Bool
 is_same p q =
     (same_pieces p.pieces q.pieces && same_side p.side q.side)
@@ -71,7 +71,7 @@ stood_in p positions = count_by (is_same p) positions
 abbrev pub repeats_of : Game → ℕ
 repeats_of g = stood_in (current_position g) (positions_of g)
 
--- whether the side on move has a legal move
+-- true if the side on move has a legal move
 unfoldable pub has_legal : Position → Bool
 has_legal p = has_any_way p
 

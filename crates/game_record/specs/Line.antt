@@ -29,7 +29,7 @@ plies_and_hint moves hint = moves ++ option_to_list hint
 abbrev pub game_moves_text : List Ply → List ℕ
 game_moves_text moves = if nat_lt 0 (length moves) then codes " moves" ++ spaced_plies moves else []
 
--- whether it is the standard start, with its counts 0 and 1
+-- true if it is the standard start, with its counts 0 and 1
 unfoldable pub is_standard : Position → Bool
 is_standard p = is_same p start_position && ((p.half == 0) && (p.full == 1))
 

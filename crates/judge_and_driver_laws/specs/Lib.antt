@@ -1,5 +1,2 @@
-pub mod Logs
-pub mod Tapped
-pub mod Scripts
-pub mod Wire
-pub mod Runs
+pub mod Judge
+pub mod Driver

@@ -27,7 +27,7 @@ due_prefix : (e : Option Ending) (c : ReportCourse) → IsPrefix c.text (due_by 
 due_prefix (Some fault) c = all_prefix c.text
 due_prefix None c = record { more = last_lines c.talk endings.Done; whole_is = refl }
 
--- what was reported of the first lines is a prefix of what is due for all
+-- the report of the first lines is a prefix of the one that is due for all
 pub report_prefix : (listener : Listener) (lines later : List Piece) → IsPrefix (report listener lines).text (due_report listener (lines ++ later))
 report_prefix listener lines later =
     let all = report listener (lines ++ later) in

@@ -58,7 +58,7 @@ over_last c n (q ∷ qs) p =
     let i : over d (n + 1) (qs ++ p ∷ []) ≡ read_on (over d (n + 1) qs).ending (over d (n + 1) qs) ((n + 1) + length qs) p = over_last d (n + 1) qs p in
     i ∙ read_more (over d (n + 1) qs) ((n + 1) + length qs) (n + suc (length qs)) p (omega arith)
 
--- what comes of a line after these
+-- the outcome of a line after these
 abbrev grown : JudgedTalk → List ℕ → ℕ → Piece → ReportCourse
 grown t text n p = record { talk = (of_kind t n (kind_of_log_line n p)).talk; text = text ++ (of_kind t n (kind_of_log_line n p)).more; ending = (of_kind t n (kind_of_log_line n p)).ending }
 

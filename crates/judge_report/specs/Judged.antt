@@ -88,7 +88,7 @@ CompletesJudgement listener before after code =
 pub record Judged (listener : Listener) (Untouched : Type 0) (before after : FilterStreams)
     (code : ℕ) : Type 0 where
   pub ended : FilterRan (λ e. FilterEndsBy judges (opening_judgement listener) Untouched e before after) before after code
-  -- what each status says
+  -- the meaning of each status
   pub lawful : code ≡ 0 → AllJudged listener before after × AreSame before after
   pub unlawful : code ≡ 1 → FaultFound listener before after 1
   pub no_mark : code ≡ 2 → FaultFound listener before after 2

@@ -13,7 +13,7 @@ abbrev pub Reported : Listener → List Piece → Ending → List ℕ → Type 0
 Reported listener lines ending text =
     ReportStops listener lines ending text ⊎ ((IsOfLine ending → ⊥) × ReportCloses listener lines ending text)
 
--- what a judge who has heard nothing reports
+-- the report of a judge who has heard nothing
 abbrev pub judges : Putting JudgedTalk
 judges = record {
   put =

@@ -19,7 +19,7 @@ use Rattle.session_judge.specs.Rules.{broken}
 use Rattle.session_judge.specs.Talks.{judgement_after, opening_judgement}
 use Rattle.judge_report.specs.Texts.{search_report, crossings_line, lawful_line, unlawful_line}
 
--- what a line of a log is: a mark, a line that is ignored, or neither
+-- the kind of a line of a log: a mark, a line that is ignored, or neither
 pub data LogLineKind : Type 0 where
   Marks : (mark : Mark) → LogLineKind
   Passes : LogLineKind
@@ -37,7 +37,7 @@ abbrev pub kind_of_log_line : ℕ → Piece → LogLineKind
 kind_of_log_line number (Whole line) = log_line_kind_by (mark_spelled line) (is_passed number line)
 kind_of_log_line number TooLong = HasNone
 
--- what comes of a line: the talk then, what is written for it, and whether it is the last
+-- the outcome of a line: the talk then, the text that is written for it, and whether it is the last
 pub record LineOutcome : Type 0 where
   pub talk : JudgedTalk
   pub more : List ℕ
@@ -48,7 +48,7 @@ abbrev pub brought_out : Option Search → DialogueEvent → List ℕ
 brought_out search (dialogue_events.Writes (orders.Go kind)) = search_report search
 brought_out search dialogue_event = []
 
--- what comes before the last line: the line of the last search, and how many orders crossed
+-- the text before the last line: the line of the last search, and how many orders crossed
 abbrev pub report_before_end : JudgedTalk → List ℕ
 report_before_end t = search_report t.search ++ crossings_line t.crossings
 
@@ -92,7 +92,7 @@ over c number (piece ∷ pieces) = over (read_on c.ending c number piece) (numbe
 abbrev pub report : Listener → List Piece → ReportCourse
 report listener lines = over (record { talk = opening_judgement listener; text = []; ending = None }) 1 lines
 
--- what is written at the end of the input; nothing is written if it was not read to its end
+-- the text at the end of the input; nothing is written if it was not read to its end
 abbrev pub last_lines : JudgedTalk → Ending → List ℕ
 last_lines t endings.Done = report_before_end t ++ lawful_line
 last_lines t ending = []

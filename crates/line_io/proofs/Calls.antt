@@ -16,7 +16,7 @@ use Rattle.line_io.specs.declared.lines.Item.TheVariants as answers
 use Rattle.line_io.specs.declared.faults.ReadFault.{ReadFault}
 use Rattle.line_io.specs.declared.consumer.LinesEnd.TheVariants as ends
 
--- what a call of `next` says
+-- the meaning of a call of `next`
 abbrev pub Next : Held → Held → Supplied → Supplied → Result Item ReadFault → Type 0
 Next old new input input' r = (got : List ℕ) × SourceGave input input' got × ReaderAdvances old new got (outcome r) × NothingIsLeftAtEnd old new input'.left × AnswersWhen old new got r
 

@@ -58,7 +58,7 @@ pub record TakesMany {S O X : Type 0} (means : ConsumerMeaning S O X) (limit : �
   pub many : 2 ^ 32 ≤ length given
   pub no_fault : new.input.faults ≡ old.input.faults
 
--- what each ending says
+-- the meaning of each ending
 abbrev pub TakingEndsBy : {S O X : Type 0} → ConsumerMeaning S O X → ℕ → LinesEnd X → List ℕ → List Piece
     → Place S O → Place S O → Type 0
 TakingEndsBy means limit (ends.Stopped stop) given pieces old new =

@@ -31,7 +31,7 @@ After means limit None first now held calls number =
     ConsumerReached means limit first now held (suc calls) number
 After means limit (Some ending) first now held calls number = Taken means limit ending first now
 
--- what the calls to come have to take away, if nothing more is read
+-- the bytes that the calls to come have to take away, if nothing more is read
 abbrev pub work : Held → ℕ
 work held = reading_weight held + flag (not held.ended)
 

@@ -1,13 +1,3 @@
-pub mod Pieces
-pub mod Kept
-pub mod Measured
-pub mod Rooms
-pub mod Orders
-pub mod Values
-pub mod ValueTokens
-pub mod HeardOptions
-pub mod Usable
-pub mod Asking
-pub mod Short
-pub mod KeptOrders
-pub mod Lists
+pub mod DeclaredOptions
+pub mod WaitingOrders
+pub mod FeatureLists

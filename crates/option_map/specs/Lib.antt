@@ -1,12 +1,3 @@
-pub mod Names
-pub mod Choices
-pub mod Settings
-pub mod Shown
-pub mod Stored
-pub mod Asked
-pub mod Spelled
-pub mod Held
-pub mod Data
-pub mod KeptOrders
-pub mod Features
-pub mod Due
+pub mod DeclaredOptions
+pub mod WaitingOrders
+pub mod FeatureLists

@@ -2,32 +2,16 @@
 //! features that the interface is offered, and when (Chess Engine Communication Protocol, version 2, `feature`).
 #![tactic(auto)]
 
-mod choices;
-mod declared;
-mod declaring;
-mod fault;
-mod feature_laws;
-mod feature_list;
-mod features;
-mod held;
-mod keeping;
-mod laws;
-mod measure;
-mod names;
-mod negotiation;
-mod options;
-mod order;
-mod setting;
-mod stored;
-mod storing;
-mod translate;
+mod declared_options;
+mod feature_lists;
+mod waiting_orders;
 
-pub use declared::Declared;
-pub use fault::OptionFault;
-pub use feature_laws::feature_lists_are_short;
-pub use feature_list::{MOST_NAME, shown_name, write_bare_list, write_list};
-pub use held::{HeldOrders, MOST_BYTES, MOST_ORDERS};
-pub use laws::{asked_orders_are_spelled, last_orders_are_held};
-pub use negotiation::{FeatureNegotiation, ProtoverAnswer};
-pub use options::{FEATURE_BYTES, MOST_OPTIONS, Options};
-pub use order::{AskedOption, ORDER_BYTES, OptionValue, SetupOrder};
+pub use declared_options::{Declared, FEATURE_BYTES, MOST_OPTIONS, OptionFault, Options};
+pub use feature_lists::{
+    FeatureNegotiation, MOST_NAME, ProtoverAnswer, feature_lists_are_short, shown_name,
+    write_bare_list, write_list,
+};
+pub use waiting_orders::{
+    AskedOption, HeldOrders, MOST_BYTES, MOST_ORDERS, ORDER_BYTES, OptionValue, SetupOrder,
+    asked_orders_are_spelled, last_orders_are_held,
+};

@@ -3,7 +3,7 @@ ghost use Rattle.std.specs.Prelude.{◌≡◌};
 
 use crate::missed::write_missed;
 use crate::{PacedLog, PacedSource};
-use child_engine::{Host, HostFault, MemHost, Started};
+use child_engine::{AskedLog, Host, HostFault, LogPlace, MemHost, Started};
 use line_io::{Failed, MemSink};
 use std::alloc::Global;
 use std::sync::atomic::AtomicU64;
@@ -19,6 +19,17 @@ fn are_texts(arguments: &[String], texts: &[&str]) -> bool {
         }
     }
     true
+}
+
+// True if this is the place.
+fn is_place(asked: &AskedLog, place: &LogPlace) -> bool {
+    match (asked, place) {
+        (AskedLog::File(asked), LogPlace::File(name)) => asked.as_str() == *name,
+        (AskedLog::New { folder, name }, LogPlace::New(log)) => {
+            folder.as_str() == log.folder && name.as_str() == log.name
+        }
+        _ => false,
+    }
 }
 
 // Adds the line that says which count of lines the log never took.
@@ -69,14 +80,15 @@ impl<'a> PacedHost<'a> {
         self.logged.as_slice()
     }
 
-    /// True if it was asked for so many engines, each with these arguments, and for one log of this name.
-    pub fn was_asked_for(&self, engines: usize, arguments: &[&str], log_name: &str) -> bool {
+    /// True if it was asked for so many engines, each with these arguments, and for one log at this place.
+    pub fn was_asked_for(&self, engines: usize, arguments: &[&str], place: &LogPlace) -> bool {
         for asked in self.host.engines() {
             if !are_texts(asked.as_slice(), arguments) {
                 return false;
             }
         }
-        self.host.engines().len() == engines && are_texts(self.host.log_names(), &[log_name])
+        let places = self.host.log_places();
+        self.host.engines().len() == engines && places.len() == 1 && is_place(&places[0], place)
     }
 }
 
@@ -117,8 +129,8 @@ impl<'a> Host for PacedHost<'a> {
         })
     }
 
-    fn open_log(&mut self, alloc: Global, name: &str) -> Result<PacedLog<'a>, HostFault> {
-        let sink = self.host.open_log(alloc, name)?;
+    fn open_log(&mut self, alloc: Global, place: &LogPlace) -> Result<PacedLog<'a>, HostFault> {
+        let sink = self.host.open_log(alloc, place)?;
         Ok(PacedLog::new(sink, self.lines))
     }
 

@@ -1,4 +1,2 @@
-pub mod Policy
-pub mod Scores
-pub mod Table
-pub mod Words
+pub mod SettingRules
+pub mod ScoreRules

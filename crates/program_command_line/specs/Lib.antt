@@ -1,4 +1,2 @@
 pub mod Arguments
-pub mod About
-pub mod Room
 pub mod Streams

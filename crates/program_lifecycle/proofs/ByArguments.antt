@@ -1,7 +1,7 @@
 -- The behaviour of a program by its arguments, from how it ended.
 use Rattle.std.proofs.Common.{◌≡◌, ◌∙◌, ℕ, List, IfSome, true, sym}
 use Rattle.line_io.specs.Source.{Received}
-use Rattle.program_command_line.specs.Arguments.{EngineArgumentsAreTaken}
+use Rattle.program_command_line.specs.Arguments.Request.{EngineArgumentsAreTaken}
 use Rattle.child_engine.specs.Asked.{Asked}
 use Rattle.program_lifecycle.specs.declared.failures.Failures.{Failures}
 use Rattle.program_lifecycle.specs.declared.ending.ProgramEnding.{ProgramEnding}

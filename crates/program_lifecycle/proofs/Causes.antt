@@ -8,8 +8,8 @@ use Rattle.program_lifecycle.specs.Endings.{first_failure, ending_for, program_s
 use Rattle.program_lifecycle.specs.Outside.{Outside, AreReported, HaveNotRisen, AreAsBefore}
 use Rattle.line_io.specs.Source.{Received}
 use Rattle.program_lifecycle.specs.Program.{DoesNothing, RunEnds, ProgramEnds, IsReportedTo, StatusIsReported, StatusSays}
-use Rattle.program_command_line.specs.declared.refusal.ArgumentsRefusal.{ArgumentsRefusal}
-use Rattle.program_command_line.specs.declared.refusal.ArgumentsRefusal.TheVariants as refusals
+use Rattle.program_command_line.specs.declared.arguments.refusal.ArgumentsRefusal.{ArgumentsRefusal}
+use Rattle.program_command_line.specs.declared.arguments.refusal.ArgumentsRefusal.TheVariants as refusals
 
 abbrev failures : Bool → Bool → Bool → Bool → Bool → Bool → Bool → Bool → Failures
 failures a b c d e f g h =
@@ -44,7 +44,7 @@ with_code endings.EngineWaitFailed = refl
 coded : (e : ProgramEnding) (n : ℕ) → program_status e ≡ n → e ≡ ending_with n
 coded e n z = sym (with_code e) ∙ ap ending_with z
 
--- whether the failure that an ending names is there
+-- true if the failure that an ending names is there
 abbrev is_there : ProgramEnding → Failures → Bool
 is_there endings.Done f = true
 is_there endings.Usage f = false
@@ -147,7 +147,7 @@ module _ (Taken : Type 0) (Left : Failures → Type 0) (before after : Outside) 
         did = inr run;
       }
 
-  -- what holds of a run, and of both ways to do nothing
+  -- the facts of a run, and of both ways to do nothing
   nothing_as : {P : Type 0} → ((ending ≡ endings.Usage) ⊎ (ending ≡ endings.NoMemory)) → (ending ≡ endings.Usage → P) → (ending ≡ endings.NoMemory → P) → P
   nothing_as (inl z) u m = u z
   nothing_as (inr z) u m = m z

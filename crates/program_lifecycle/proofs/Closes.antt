@@ -15,7 +15,7 @@ use Rattle.program_lifecycle.specs.declared.failures.Failures.{Failures}
 abbrev pub ledger : Ledger → ℕ → ℕ → List ShownRun → List (Option (List ℕ)) → Ledger
 ledger of a b rs ls = record of { runs_out = a; logs_out = b; runs = rs; logs = ls }
 
--- whether there is a log
+-- true if there is a log
 pub same_count : {L : Type 0} (l l' : Option L) → is_some l' ≡ is_some l → log_count l' ≡ log_count l
 same_count None None e = refl
 same_count None (Some x) e = cc
@@ -30,7 +30,7 @@ pub few_logs : {L : Type 0} (l : Option L) → log_count l ≤ 1
 few_logs None = omega arith
 few_logs (Some x) = omega arith
 
--- what the host reports of a log, by whether there is one
+-- the host's report of a log, by whether there is one
 pub reported_as : {L : Type 0} (f : L → Received) (l : Option L) → shown_logs f l ≡ closed_logs (log_count l) (log_state f l)
 reported_as f None = refl
 reported_as f (Some x) = refl

@@ -17,7 +17,7 @@ use Rattle.program_lifecycle.specs.Logs.{fresh_log, closed_logs}
 use Rattle.program_lifecycle.specs.Readers.{lacked_memory}
 use Rattle.program_lifecycle.specs.Reporting.{EngineGave}
 
--- what was taken of nothing
+-- the part that was taken of nothing
 pub taken_is : (o : Option (List ℕ)) (bs : List ℕ) → Appends (Some []) o bs → o ≡ Some bs
 taken_is None bs a = absurd a
 taken_is (Some xs) bs a = ap (λ (ys : List ℕ). Some ys) a
@@ -92,7 +92,7 @@ reported_is run given left taken e f h =
     ∙ ap (λ (x : Option (List ℕ)). record { given = given; left = x; taken = run.taken }) f
     ∙ ap (λ (x : Option (List ℕ)). record { given = given; left = left; taken = x }) h
 
--- what arrived of the interface, whose reader came to its end
+-- the arrivals of the interface, whose reader came to its end
 pub arrived_is : (i j i' : Supplied) (es fs : List Event) (r : ReadEnd) → fs ≡ es → j ≡ i' → r ≡ read_ends.Done → Arrived peers.Iface i j (sent_by peers.Iface es) r
     → Arrived peers.Iface i i' (sent_by peers.Iface fs) read_ends.Done
 arrived_is i j i' es fs r e f h a =

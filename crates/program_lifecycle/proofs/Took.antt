@@ -23,7 +23,7 @@ took_then text more true o0 o o' a b =
       count = count_then text true o0 o o' a b.count;
     }
 
--- what was offered was taken, or a prefix of it
+-- the offered bytes were taken, or a prefix of them
 pub took_offered : (piece : List ℕ) (failed : Bool) (o o' : Received) → Offered false failed o o' piece → LogTook piece failed o o'
 took_offered piece failed o o' y = record { whole = y.whole; prefix = λ e. (y.prefix refl e).1; count = y.count refl }
 

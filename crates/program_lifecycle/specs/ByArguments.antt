@@ -1,7 +1,7 @@
 -- The behaviour of a program whose arguments name a log and an engine.
 use Rattle.std.specs.Prelude.{◌≡◌, ℕ, true, List, IfSome}
 use Rattle.line_io.specs.Source.{Received}
-use Rattle.program_command_line.specs.Arguments.{EngineArgumentsAreTaken}
+use Rattle.program_command_line.specs.Arguments.Request.{EngineArgumentsAreTaken}
 use Rattle.child_engine.specs.Asked.{Asked}
 use Rattle.program_lifecycle.specs.declared.failures.Failures.{Failures}
 use Rattle.program_lifecycle.specs.Asked.{AsksByArguments}

@@ -4,8 +4,8 @@ use Rattle.program_lifecycle.specs.declared.failures.Failures.{Failures}
 use Rattle.program_lifecycle.specs.declared.ending.ProgramEnding.{ProgramEnding}
 use Rattle.program_lifecycle.specs.declared.ending.ProgramEnding.TheVariants as endings
 use Rattle.line_io.specs.Lines.{line_feed}
-use Rattle.program_command_line.specs.declared.refusal.ArgumentsRefusal.{ArgumentsRefusal}
-use Rattle.program_command_line.specs.declared.refusal.ArgumentsRefusal.TheVariants as refusals
+use Rattle.program_command_line.specs.declared.arguments.refusal.ArgumentsRefusal.{ArgumentsRefusal}
+use Rattle.program_command_line.specs.declared.arguments.refusal.ArgumentsRefusal.TheVariants as refusals
 
 -- the first of the failures
 abbrev pub first_failure : Failures → ProgramEnding

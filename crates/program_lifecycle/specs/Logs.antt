@@ -9,17 +9,17 @@ abbrev pub log_count : {L : Type 0} → Option L → ℕ
 log_count None = 0
 log_count (Some log) = 1
 
--- what so many logs show that were handed out: one that is missing shows nothing
+-- the reports of so many logs that were handed out: one that is missing shows nothing
 abbrev pub fresh_log : Bool → ℕ → Received
 fresh_log sinks_report zero = fresh_sink false
 fresh_log sinks_report (suc n) = fresh_sink sinks_report
 
--- what the host reports of so many logs that it took back
+-- the host's report of so many logs that it took back
 abbrev pub closed_logs : ℕ → Received → List (Option (List ℕ))
 closed_logs zero log = []
 closed_logs (suc n) log = log.taken ∷ []
 
--- what the host reports of a log that it took back
+-- the host's report of a log that it took back
 abbrev pub shown_logs : {L : Type 0} → (L → Received) → Option L → List (Option (List ℕ))
 shown_logs state None = []
 shown_logs state (Some log) = (state log).taken ∷ []

@@ -45,7 +45,7 @@ pub record StatusIsReported (program : List ℕ) (Taken : Type 0) (Left : Failur
   pub code_is : code ≡ program_status ending
   pub diagnosed : IsReportedTo diag diag' (program_diagnostic program ending)
 
--- what each status says
+-- the meaning of each status
 pub record StatusSays (Taken : Type 0) (before after : Outside) (code : ℕ) : Type 0 where
   pub done : code ≡ 0 → AreAsBefore before after
   pub usage : code ≡ 2 → Taken → ⊥

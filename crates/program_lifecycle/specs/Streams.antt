@@ -6,7 +6,7 @@ use Rattle.event_pipe.specs.Counts.{CountsFault}
 use Rattle.program_lifecycle.specs.declared.streams.Interface.{Interface}
 use Rattle.program_lifecycle.specs.declared.streams.HandedStreams.{HandedStreams}
 
--- what the sinks of a loop show: `output` goes to the interface
+-- the reports of the sinks of a loop: `output` goes to the interface
 pub record Sinks : Type 0 where
   pub output : Received
   pub engine : Received
@@ -15,7 +15,7 @@ pub record Sinks : Type 0 where
 abbrev pub sinks : Received → Received → Received → Sinks
 sinks output engine log = record { output = output; engine = engine; log = log }
 
--- what all streams of a run show: `input` comes from the interface, `source` from the engine
+-- the reports of all streams of a run: `input` comes from the interface, `source` from the engine
 pub record RunStreams : Type 0 where
   pub input : Supplied
   pub source : Supplied

@@ -3,11 +3,12 @@ ghost use Rattle.std.specs.Prelude.{◌≡◌, ◌+◌, ◌++◌, length, true, 
 ghost use Rattle.event_pipe.specs.Counts.{CountsFault};
 ghost use Rattle.child_engine.specs.Asked.{and_logs};
 ghost use Rattle.child_engine.specs.Hosts.{RisesBy};
+ghost use Rattle.child_engine.specs.Places.{asked_place};
 ghost use Rattle.program_lifecycle.specs.Streams.{log_state};
 ghost use Rattle.program_lifecycle.specs.Asked.{logs_asked_by};
 ghost use Rattle.program_lifecycle.specs.Logs.{log_count, fresh_log, shown_logs, is_failed, is_no_memory};
 
-use child_engine::{Host, HostFault};
+use child_engine::{Host, HostFault, LogPlace};
 use std::alloc::Global;
 
 /// A log, or why there is none.
@@ -16,13 +17,13 @@ pub struct Opened<L> {
     pub fault: Option<HostFault>,
 }
 
-/// Opens the log of this name. A log that cannot be opened is left out.
-pub fn open_log<H: Host>(host: &mut H, alloc: Global, name: &str) -> Opened<H::Log>
+/// Opens the log at this place. A log that cannot be opened is left out.
+pub fn open_log<H: Host>(host: &mut H, alloc: Global, place: &LogPlace) -> Opened<H::Log>
     requires { (H.ledger host.old).logs_out ≡ 0 }
     ensures ledger { H.ledger host.new
         ≡ record (H.ledger host.old) { logs_out = log_count result.log } }
     ensures asked { H.asked host.new
-        ≡ and_logs (logs_asked_by result.fault) name.now (H.asked host.old) }
+        ≡ and_logs (logs_asked_by result.fault) (asked_place place.now) (H.asked host.old) }
     ensures fresh { log_state H.Log.state result.log
         ≡ fresh_log (H.ledger host.old).sinks_report (log_count result.log) }
     ensures cause { CountsFault (H.faults host.old).logs (H.faults host.new).logs
@@ -32,7 +33,7 @@ pub fn open_log<H: Host>(host: &mut H, alloc: Global, name: &str) -> Opened<H::L
     ensures some { result.fault ≡ None → log_count result.log ≡ 1 }
     ensures none { is_no_memory result.fault ≡ true → log_count result.log ≡ 0 }
 {
-    match host.open_log(alloc, name) {
+    match host.open_log(alloc, place) {
         Ok(log) => Opened {
             log: Some(log),
             fault: None,

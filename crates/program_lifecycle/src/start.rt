@@ -2,7 +2,7 @@
 ghost use Rattle.std.specs.Prelude.{◌≡◌, None, false, IfSome};
 ghost use Rattle.child_engine.specs.Hosts.{unused_ledger};
 ghost use Rattle.child_engine.specs.Real.{real_ledger};
-ghost use Rattle.program_command_line.specs.Streams.{refusals};
+ghost use Rattle.program_command_line.specs.Streams.Closed.{refusals};
 
 use crate::Interface;
 use child_engine::{EngineInput, RealHost};

@@ -33,7 +33,7 @@ token_end bs = position_or_len is_white bs
 abbrev pub first_token : List ℕ → List ℕ
 first_token line = before_first is_white (trim_left line)
 
--- what follows the first token, trimmed
+-- the text behind the first token, trimmed
 abbrev pub rest_after_token : List ℕ → List ℕ
 rest_after_token line = trimmed (drop (token_end (trim_left line)) (trim_left line))
 

@@ -10,7 +10,7 @@ use Rattle.chess_board.specs.Play.{HasLegal}
 use Rattle.chess_board.specs.Text.{text_of_move, ComesBefore}
 use Rattle.fen_text.specs.Written.{position_fen}
 use Rattle.game_record.specs.Game.{current_position}
-use Rattle.policy_rules.specs.Policy.{usual}
+use Rattle.policy_rules.specs.SettingRules.Policy.{usual}
 use Rattle.desk_rules.specs.Desk.{has_ended}
 use Rattle.adapter_core.specs.Trace.{Step}
 use Rattle.adapter_core.proofs.Unique.{unique}

@@ -1,7 +1,7 @@
 -- Events that were sent, one after the other.
 use Rattle.std.proofs.Common.{◌≡◌, List, [], ◌∷◌, ◌++◌, refl, ap, sym, subst, ◌∙◌, append_assoc, append-nil}
 use Rattle.line_io.specs.Event.{Event}
-use Rattle.policy_rules.specs.Policy.{usual}
+use Rattle.policy_rules.specs.SettingRules.Policy.{usual}
 use Rattle.adapter_core.specs.Trace.{Step, LawfulTrace}
 use Rattle.adapter_core.specs.Represents.{Represents}
 use Rattle.trace_scripts.specs.Script.{events}

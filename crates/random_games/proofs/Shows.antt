@@ -7,14 +7,14 @@ use Rattle.cecp_lines.specs.declared.reply.UserError.TheVariants as user_errors
 use Rattle.cecp_lines.specs.declared.reply.Outcome.TheVariants as outcomes
 use Rattle.cecp_lines.specs.Replies.{Reply}
 use Rattle.cecp_lines.specs.Replies as cecp
-use Rattle.option_map.specs.Features.{reply_lines}
-use Rattle.policy_rules.specs.declared.settings.Settings.{Settings}
+use Rattle.option_map.specs.FeatureLists.Features.{reply_lines}
+use Rattle.policy_rules.specs.declared.setting_rules.settings.Settings.{Settings}
 use Rattle.search_epochs.specs.Tickets.{is_move}
 use Rattle.desk_rules.specs.Desk.{Situation}
 use Rattle.desk_rules.specs.Steps.{Effect, Shows}
 use Rattle.desk_rules.specs.Replies.{replies_of, reply_row}
 use Rattle.adapter_core.specs.Shown.{moves_shown}
-use Rattle.adapter_core.specs.Trace.{Step, LawfulTrace, iface_text, engine_text, state, situation_of_state, effect, owed_after, closed_after}
+use Rattle.adapter_core.specs.Trace.{Step, LawfulTrace, iface_text, engine_text, state, situation_of_state, effect, owed_after, closed_after, step_hits}
 use Rattle.adapter_core.proofs.Shown.{open_shows, shown_by}
 use Rattle.line_io.specs.Lines.{parts_by_feed}
 use Rattle.random_games.specs.declared.tally.Tally.{Tally}
@@ -71,17 +71,17 @@ shown_next n rs ms e z = ap (λ (b : Bool). cond b (n + 1) n) (none_first rs (e 
 one_next : (n : ℕ) (m : AnyMove) (rs : List Reply) → moves_shown rs ≡ m ∷ [] → shows_move (reply_lines rs) ≡ true → cond (shows_move (reply_lines rs)) (n + 1) n ≡ n + length (moves_shown rs)
 one_next n m rs e z = ap (λ (b : Bool). cond b (n + 1) n) z ∙ (let q : n + 1 ≡ n + length (moves_shown rs) = omega (arith, ap length e) in q)
 
-by_effect : (n : ℕ) (closed owes : Bool) (h : Situation) (d : Effect) → cond (shows_move (reply_lines (replies_of closed owes h d))) (n + 1) n ≡ n + length (moves_shown (replies_of closed owes h d))
+by_effect : (n : ℕ) (closed owes hits : Bool) (h : Situation) (d : Effect) → cond (shows_move (reply_lines (replies_of closed owes hits h d))) (n + 1) n ≡ n + length (moves_shown (replies_of closed owes hits h d))
 unfolding reply_row
-by_effect n true owes h d = omega arith
-by_effect n false owes h (Shows best hint) = one_next n best (replies_of false owes h (Shows best hint)) (open_shows owes h (Shows best hint)) refl
-by_effect n false owes h d = shown_next n (replies_of false owes h d) (shown_by d) (open_shows owes h d) refl
+by_effect n true owes hits h d = omega arith
+by_effect n false owes hits h (Shows best hint) = one_next n best (replies_of false owes hits h (Shows best hint)) (open_shows owes hits h (Shows best hint)) refl
+by_effect n false owes hits h d = shown_next n (replies_of false owes hits h d) (shown_by d) (open_shows owes hits h d) refl
 
 -- a lawful step shows a move exactly where what it wrote begins with one
 pub is_shown : (o : Settings) (step : Step) (t : List Step) (n : ℕ) → LawfulTrace o (step ∷ t) → cond (shows_move (reply_lines step.replies)) (n + 1) n ≡ n + length (moves_shown step.replies)
 is_shown o step t n l =
     let s = state o t in
-    subst (λ (rs : List Reply). cond (shows_move (reply_lines rs)) (n + 1) n ≡ n + length (moves_shown rs)) (sym l.1.replies) (by_effect n (closed_after s step.event) (is_move (owed_after s step.event)) (situation_of_state s) (effect s step.event))
+    subst (λ (rs : List Reply). cond (shows_move (reply_lines rs)) (n + 1) n ≡ n + length (moves_shown rs)) (sym l.1.replies) (by_effect n (closed_after s step.event) (is_move (owed_after s step.event)) (step_hits s step.event) (situation_of_state s) (effect s step.event))
 
 -- so what it wrote counts it
 pub counts_step : (o : Settings) (step : Step) (t : List Step) (tally : Tally) → LawfulTrace o (step ∷ t) → counted_texts tally (iface_text step) (engine_text step) ≡ tally_after tally step

@@ -1,7 +1,7 @@
 -- A step of a session, whose core stands for a lawful trace.
 use Rattle.std.proofs.Common.{◌≡◌, ◌∷◌, ap, sym, ◌∙◌}
 use Rattle.line_io.specs.Event.{Event}
-use Rattle.policy_rules.specs.Policy.{usual}
+use Rattle.policy_rules.specs.SettingRules.Policy.{usual}
 use Rattle.adapter_core.specs.Ends.{ends_after}
 use Rattle.adapter_core.specs.Trace.{state}
 use Rattle.adapter_core.specs.Parts.{CoreParts}

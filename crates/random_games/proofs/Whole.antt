@@ -3,7 +3,7 @@ use Rattle.std.proofs.Common.{◌≡◌, ℕ, List, [], ◌∷◌, ◌++◌, ref
 use Rattle.line_io.specs.Event.{Open}
 use Rattle.fen_text.specs.Written.{position_fen}
 use Rattle.game_record.specs.Game.{current_position}
-use Rattle.policy_rules.specs.Policy.{usual}
+use Rattle.policy_rules.specs.SettingRules.Policy.{usual}
 use Rattle.adapter_core.specs.Represents.{Represents}
 use Rattle.random_games.specs.declared.round.Drill.{Drill}
 use Rattle.random_games.specs.declared.tally.Tally.{Tally}

@@ -3,7 +3,7 @@ use Rattle.std.specs.Prelude.{◌≡◌, ℕ, List, ◌∷◌, ◌++◌}
 use Rattle.line_io.specs.Event.{Event, Open}
 use Rattle.fen_text.specs.Written.{position_fen}
 use Rattle.game_record.specs.Game.{current_position}
-use Rattle.policy_rules.specs.Policy.{usual}
+use Rattle.policy_rules.specs.SettingRules.Policy.{usual}
 use Rattle.adapter_core.specs.Trace.{Step, LawfulTrace}
 use Rattle.trace_scripts.specs.Script.{events}
 use Rattle.random_games.specs.Rounds.{Drill, Rounds, first_drill, greeting_events}

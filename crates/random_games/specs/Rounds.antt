@@ -107,7 +107,7 @@ drill_with_hint s hint = record {
   hint = (if ponders s.game hint then Some hint else None);
 }
 
--- what the engine answers, if the game has not ended: with a hint, if the side then
+-- the answer of the engine, if the game has not ended: with a hint, if the side then
 -- on move has a legal move
 pub data DrillAnswers (s : Drill) (es : List Event) (s' : Drill) : Type 0 where
   Nothing : has_ended s.game ≡ true → es ≡ [] → s' ≡ s → DrillAnswers s es s'

@@ -4,8 +4,8 @@ use Rattle.std.specs.Prelude.{true, false, if◌then◌else◌, codes, length, e
 use Rattle.std.specs.List.{starts_with}
 use Rattle.line_io.specs.Event.{Event, is_line}
 use Rattle.line_io.specs.Lines.{parts_by_feed}
-use Rattle.policy_rules.specs.declared.settings.Settings.{Settings}
-use Rattle.policy_rules.specs.Policy.{usual}
+use Rattle.policy_rules.specs.declared.setting_rules.settings.Settings.{Settings}
+use Rattle.policy_rules.specs.SettingRules.Policy.{usual}
 use Rattle.adapter_core.specs.declared.ends.Ends.{Ends}
 use Rattle.protocol_tokens.specs.Quit.{is_quit}
 use Rattle.adapter_core.specs.Trace.{Step, LawfulTrace}

@@ -4,7 +4,7 @@ ghost use Rattle.chess_board.specs.Laws.{IsLegal};
 ghost use Rattle.chess_board.specs.Play.{HasLegal};
 ghost use Rattle.chess_board.specs.Text.{IsOfficer};
 ghost use Rattle.game_record.specs.Game.{current_position, ply_of, with_ply};
-ghost use Rattle.policy_rules.specs.Policy.{usual};
+ghost use Rattle.policy_rules.specs.SettingRules.Policy.{usual};
 ghost use Rattle.adapter_core.specs.Ends.{at_start};
 ghost use Rattle.adapter_core.specs.Represents.{Represents};
 ghost use Rattle.desk_rules.specs.Desk.{has_ended};

@@ -1,7 +1,7 @@
 // The session that a drill holds with the core.
 ghost use Rattle.std.specs.Prelude.{◌≡◌, ◌≤◌, ◌+◌, [], IfOk, true};
 ghost use Rattle.line_io.specs.Event.{event_of, is_line, Iface as FromIface, Engine as FromEngine};
-ghost use Rattle.policy_rules.specs.Policy.{usual};
+ghost use Rattle.policy_rules.specs.SettingRules.Policy.{usual};
 ghost use Rattle.adapter_core.specs.Ends.{at_start, ends_after, may};
 ghost use Rattle.adapter_core.specs.Represents.{Represents};
 ghost use Rattle.random_games.specs.Sent.{CountsAreFew, DrillHasRoom, IsSpeech, DrillSends, DrillSteps, both_sides_open};

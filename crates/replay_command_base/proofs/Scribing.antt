@@ -121,7 +121,7 @@ module _ {S : Type 0} (means : Putting S) where
         no_failure = m.no_failure ∙ t.no_failure;
       }
 
-  -- what is put last
+  -- the text that is put last
   pub said_closed : (s0 : S) (lines : List Piece) (ending : Ending) (s : S) (held held' : Text) (before after : Received) → FilterTook means s0 lines s held before after → FilterCloses means ending s held held'
       → Said means s0 lines ending held'.text before after
   said_closed s0 lines ending s held held' before after t c = record {
@@ -133,7 +133,7 @@ module _ {S : Type 0} (means : Putting S) where
     no_failure = t.no_failure;
   }
 
-  -- what is put for a line
+  -- the text that is put for a line
   pub line_put : (s0 : S) (lines : List Piece) (piece : Piece) (number : ℕ) (result : Option Ending) (s s' : S) (held held' : Text) (before after : Received) → FilterTook means s0 lines s held before after
       → number ≡ length lines + 1 → (result ≡ None → means.may s') → IfSome result (λ ending. IsOfLine ending) → Puts means number piece result s held s' held'
       → FilterAfterLine means s0 (lines ++ piece ∷ []) result s' held' before after

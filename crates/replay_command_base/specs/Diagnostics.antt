@@ -33,7 +33,7 @@ position_fault fens.Half = one_line (codes "replay: position: half")
 position_fault fens.Full = one_line (codes "replay: position: full")
 position_fault fens.Kings = one_line (codes "replay: position: kings")
 
--- what stands in a diagnostic after the number of a line, or all of it
+-- the text of a diagnostic after the number of a line, or all of it
 abbrev pub tail_of : Ending → List ℕ
 tail_of endings.Done = []
 tail_of (endings.Differs n) = []

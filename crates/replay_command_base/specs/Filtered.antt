@@ -71,7 +71,7 @@ pub record WrotePrefix {S : Type 0} (means : Putting S) (s0 : S) (start now : Fi
   pub prefix : ℕ
   pub written : Appends start.output.taken now.output.taken (take prefix text)
 
--- what each ending says
+-- the meaning of each ending
 abbrev pub Filtered : {S : Type 0} → Putting S → S → Ending → FilterStreams → FilterStreams → Type 0
 Filtered means s0 endings.Done start now = WroteAll means s0 start now
 Filtered means s0 (endings.Differs n) start now = WroteTo means s0 (endings.Differs n) start now

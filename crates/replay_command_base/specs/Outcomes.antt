@@ -32,7 +32,7 @@ pub record WroteLast {S : Type 0} (means : Putting S) (s0 : S)
   pub says : means.says s0 lines ending text
   pub written : Appends before.output.taken after.output.taken text
 
--- what each status says of the run of a line filter
+-- the meaning of each status of the run of a line filter
 pub record Outcome {S : Type 0} (means : Putting S) (s0 : S) (Untouched : Type 0)
     (before after : FilterStreams) (code : ℕ) : Type 0 where
   pub done : code ≡ 0 → WroteAll means s0 before after × AreSame before after

@@ -26,7 +26,7 @@ abbrev pub WritingBroke : FilterStreams → FilterStreams → Type 0
 WritingBroke before after =
     Rose before.output.faults after.output.faults ⊎ Rose before.diag.faults after.diag.faults
 
--- The words fit no command: that was reported, and nothing else happened. `Unread` and `Kept` say
+-- The arguments fit no command: that was reported, and nothing else happened. `Unread` and `Kept` say
 -- that the input and the output are just as they were.
 pub record Refused (Unread Kept : Type 0) (before after : FilterStreams) (code : ℕ) : Type 0 where
   pub unread : Unread

@@ -3,7 +3,7 @@ use Rattle.std.specs.Prelude.{◌≡◌}
 use Rattle.line_io.specs.Causes.{Rose}
 use Rattle.line_io.specs.Source.{Supplied, Received}
 
--- what is known at one moment of the input, of the output and of the diagnostic
+-- the state at one moment of the input, of the output and of the diagnostic
 pub record FilterStreams : Type 0 where
   pub input : Supplied
   pub output : Received

@@ -100,7 +100,7 @@ abbrev pub did_write_fail : Ending → Bool
 did_write_fail endings.WritingFailed = true
 did_write_fail ending = false
 
--- what a line filter and its text mean, in a consumer of lines that has both
+-- the meaning of a line filter and its text, in a consumer of lines that has both
 abbrev pub filter_meaning : {W S O : Type 0} → (W → S) → (W → Text) → Putting S → (O → Received)
     → ConsumerMeaning W O Ending
 filter_meaning line_filter text means see = record {

@@ -11,13 +11,13 @@ use line_io::{Out, Sink, write_all};
 /// The end of a command.
 #[derive(Clone, Copy, Debug, PartialEq, Eq)]
 pub enum Ending {
-    /// It did all that its words ask for.
+    /// It did all that its arguments ask for.
     Done,
     /// The line with this number, counted from 1, differs from the lawful script.
     Differs(u64),
     /// The mark in the line with this number, counted from 1, is unlawful.
     Unlawful(u64),
-    /// The words fit no command.
+    /// The arguments fit no command.
     Usage,
     /// The line with this number, counted from 1, is no mark.
     NoMark(u64),
@@ -25,7 +25,7 @@ pub enum Ending {
     OutOfStep(u64),
     /// The event in the line with this number may not come.
     MayNotCome(u64),
-    /// The words after `moves` spell no position.
+    /// The arguments after `moves` spell no position.
     NoPosition(FenFault),
     NoMemory,
     ReadingFailed,

@@ -8,7 +8,7 @@ use Rattle.replay_command_base.specs.declared.ending.Ending.{Ending}
 use Rattle.replay_command_base.specs.declared.ending.Ending.TheVariants as endings
 use Rattle.replay_command_base.specs.Diagnostics.{command_status, command_diagnostic}
 use Rattle.std.proofs.KnownBytes.{Appends-nil, Appends-trans}
-use Rattle.policy_rules.specs.declared.settings.Settings.{Settings}
+use Rattle.policy_rules.specs.declared.setting_rules.settings.Settings.{Settings}
 use Rattle.script_replay.specs.Versions.{Version, script_beginning, behind_header, events_by, replayed_events, fault_by, script_by, script_events, script_fault, settings_by, version_in}
 use Rattle.line_io.specs.Event.{Event, Open}
 use Rattle.adapter_core.specs.Trace.{Step, LawfulTrace, state}

@@ -8,7 +8,7 @@ use Rattle.script_lines.specs.Header.{header_of, header_text}
 use Rattle.script_lines.specs.StepLine.{step_number_line}
 use Rattle.script_lines.proofs.KindLemmas.{step_fed}
 use Rattle.script_lines.proofs.Scripts.{parts_line}
-use Rattle.policy_rules.specs.declared.settings.Settings.{Settings}
+use Rattle.policy_rules.specs.declared.setting_rules.settings.Settings.{Settings}
 use Rattle.adapter_core.specs.Trace.{iface_text, engine_text}
 use Rattle.adapter_core.specs.Parts.{CoreParts as AnyParts}
 use Rattle.adapter_core.specs.Represents.{Represents}
@@ -127,7 +127,7 @@ begin_of : (o : Settings) (core : AnyParts) (stage : ScriptStage) (due : List �
 begin_of o core stage due [] p = record { trace = []; lawful = tt; later = []; goes_on = refl }
 begin_of o core stage due (l ∷ ls) p = standing_begins o (version_in (l ∷ ls)) core stage due (l ∷ ls) p (some_lines (version_in (l ∷ ls)) l ls)
 
--- what was made of lines, where the check is now so
+-- the result for lines, if the check is now so
 abbrev pub Examined : Settings → List Piece → Option Ending → Checker → Type 0
 Examined o lines None checker = Walked o checker lines
 Examined o lines (Some ending) checker = LinesShow o ending lines
@@ -163,7 +163,7 @@ module _ (o : Settings) (checker : Checker) (before : List Piece) (w : Walked o 
     place_more [] core stage due st = st
     place_more (l ∷ ls) core stage due st = st
 
-    -- what the line came to, where it does not tell another version
+    -- the outcome of the line, if it does not name another version
     on_taken : version_in more ≡ version_in before → (answer : Option Ending) (core : AnyParts) (stage : ScriptStage) (due : List ℕ) → CheckMayTake core stage → Taken o (version_in before) before p number answer core stage due
         → Examined o more answer (checker_with core stage due)
     on_taken v answer core stage due may (Goes e st) =

@@ -7,7 +7,7 @@ use Rattle.script_lines.specs.Header.{header_text}
 use Rattle.script_lines.specs.Marks.{Mark, Happens, mark_spelled, event_mark_text}
 use Rattle.script_lines.specs.StepLine.{step_number_line, step_number, step_of}
 use Rattle.script_lines.proofs.Numerals.{step_again, number_below}
-use Rattle.policy_rules.specs.declared.settings.Settings.{Settings}
+use Rattle.policy_rules.specs.declared.setting_rules.settings.Settings.{Settings}
 use Rattle.adapter_core.specs.Ends.{may, are_both_ended}
 use Rattle.adapter_core.specs.Trace.{Step, LawfulTrace, state}
 use Rattle.adapter_core.specs.Parts.{CoreParts}
@@ -82,7 +82,7 @@ module _ (o : Settings) (v : Version) (proper : IsProperIn v) where
   pub same_by : (t t' : List Step) → LawfulTrace q t → LawfulTrace q t' → (state q t).ends.opened ≡ true → (state q t').ends.opened ≡ true → later_events t ≡ later_events t' → t ≡ t'
   same_by t t' l l' op op' e = same_trace q (unique q) t t' l l' (events_later q t l op ∙ ap (λ (es : List Event). Open ∷ es) e ∙ sym (events_later q t' l' op'))
 
-  -- what a longer trace adds
+  -- the lines that a longer trace adds
   pub longer_lines : (newer t : List Step) → LawfulTrace q (newer ++ t) → LawfulTrace q t → lines_by v (newer ++ t) ≡ lines_by v t ++ map Whole (more_in v newer t)
   longer_lines newer t law l =
       lines_are (newer ++ t) law ∙ ap (map Whole) (both_in v newer t) ∙ map-append Whole (lines_in v t) (more_in v newer t)
@@ -131,7 +131,7 @@ module _ (o : Settings) (v : Version) (proper : IsProperIn v) where
         none (Second s) p i h = let n : 1 ≡ length before + suc (length later) = ap length h ∙ length-append before (x ∷ later) in omega (arith, i)
       some_trace (s ∷ t') l' x later e = some_opened q s t' l'
 
-      -- what follows in a script that begins with these lines and more
+      -- the rest of a script that begins with these lines and more
       pub one_more : (x : Piece) (more : List Piece) (t' : List Step) → LawfulTrace q t' → lines_by v t' ≡ before ++ x ∷ more → (newer : List Step) × (LawfulTrace q (newer ++ t)) × (x ∷ more ≡ due ++ map Whole (more_in v newer t))
       one_more x more t' l' same' = follows t' l' (some_trace t' l' x more same') (x ∷ more) same'
 

@@ -2,10 +2,10 @@
 use Rattle.std.proofs.Common.{◌≡◌, ℕ, ◌≤◌, ◌-◌, List, [], ◌∷◌, length, get_or, take, drop, Bool, true, false, not, ◌&&◌, if◌then◌else◌, Option, Some, None, refl, sym, ap, ◌∙◌, arith}
 use Rattle.std.specs.Prelude.{Vec, vec_items}
 use Rattle.std.specs.Option.{option_map}
-use Rattle.policy_rules.specs.declared.settings.Settings.{Settings}
-use Rattle.policy_rules.specs.declared.table.Choice.{Choice}
-use Rattle.policy_rules.specs.Table.{with_choice}
-use Rattle.policy_rules.specs.Words.{choice_of, choices_of, name_in, with_choices, with_first}
+use Rattle.policy_rules.specs.declared.setting_rules.settings.Settings.{Settings}
+use Rattle.policy_rules.specs.declared.setting_rules.table.Choice.{Choice}
+use Rattle.policy_rules.specs.SettingRules.Table.{with_choice}
+use Rattle.policy_rules.specs.SettingRules.Words.{choice_of, choices_of, name_in, with_choices, with_first}
 use Rattle.replay_commands_on_core.specs.Commands.{argument_bytes}
 use Rattle.replay_commands_on_core.specs.Words.{are_different, has_name, settings_after}
 use Rattle.replay_commands_on_core.proofs.Words.{all_rest}

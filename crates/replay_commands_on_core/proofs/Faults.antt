@@ -5,7 +5,7 @@ use Rattle.line_io.specs.Lines.{Piece, Whole, TooLong}
 use Rattle.script_lines.specs.Header.{header_of, header_text}
 use Rattle.script_lines.specs.Marks.{Mark, Happens, mark_spelled}
 use Rattle.script_lines.specs.StepLine.{step_number_line, step_number, step_of}
-use Rattle.policy_rules.specs.declared.settings.Settings.{Settings}
+use Rattle.policy_rules.specs.declared.setting_rules.settings.Settings.{Settings}
 use Rattle.adapter_core.specs.declared.ends.Ends.{Ends}
 use Rattle.adapter_core.specs.Ends.{are_both_ended, may, ends_after, at_start}
 use Rattle.adapter_core.specs.Trace.{Step, state}
@@ -57,7 +57,7 @@ prefix_free n place (l ∷ ls) ms e =
     let q = prefix_free (n + 1) (place_said place (line_says place l)) ls ms p.1 in
     (ap (λ a. or_later a (first_fault (n + 1) (place_said place (line_says place l)) ls)) p.0 ∙ q.0, q.1)
 
--- what the line says is no fault
+-- the outcome of the line is no fault
 module _ (o : Settings) (before : List Piece) (line : Piece) (later : List Piece) (never : BeginScript o (before ++ line ∷ []) → ⊥) (free : script_fault (before ++ line ∷ later) ≡ None) where
   abbrev v : Version
   v = version_in before

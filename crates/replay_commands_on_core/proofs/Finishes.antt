@@ -6,7 +6,7 @@ use Rattle.line_io.specs.Runs.{whole}
 use Rattle.line_io.specs.Source.{Received, Supplied}
 use Rattle.line_io.specs.Taken.{Place, Taken}
 use Rattle.line_io.specs.declared.consumer.LinesEnd.TheVariants as ends
-use Rattle.policy_rules.specs.declared.settings.Settings.{Settings}
+use Rattle.policy_rules.specs.declared.setting_rules.settings.Settings.{Settings}
 use Rattle.adapter_core.specs.Parts.{CoreParts}
 use Rattle.replay_command_base.specs.declared.ending.Ending.{Ending}
 use Rattle.replay_command_base.specs.declared.ending.Ending.TheVariants as endings

@@ -3,8 +3,8 @@ use Rattle.std.proofs.Common.{◌≡◌, ℕ, ◌≤◌, List, [], ◌∷◌, �
 use Rattle.line_io.specs.Event.{Event}
 use Rattle.line_io.specs.Event as events
 use Rattle.line_io.specs.Lines.{Piece, Whole, TooLong, items, parts_by_feed, piece_of}
-use Rattle.policy_rules.specs.declared.settings.Settings.{Settings}
-use Rattle.policy_rules.specs.Policy.{IsProper}
+use Rattle.policy_rules.specs.declared.setting_rules.settings.Settings.{Settings}
+use Rattle.policy_rules.specs.SettingRules.Policy.{IsProper}
 use Rattle.script_lines.specs.Header.{header_text}
 use Rattle.script_lines.proofs.Headers.{header_again, header_length}
 use Rattle.adapter_core.specs.Trace.{Step, iface_text, engine_text}

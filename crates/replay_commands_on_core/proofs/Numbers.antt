@@ -9,7 +9,7 @@ use Rattle.line_io.specs.Lines.{Piece, Whole, is_feed, parts_by_feed}
 use Rattle.script_lines.specs.Marks.{event_mark_text}
 use Rattle.script_lines.specs.StepLine.{step_number_line, step_number}
 use Rattle.script_lines.proofs.Numerals.{number_next}
-use Rattle.policy_rules.specs.declared.settings.Settings.{Settings}
+use Rattle.policy_rules.specs.declared.setting_rules.settings.Settings.{Settings}
 use Rattle.adapter_core.specs.declared.ends.Ends.{Ends}
 use Rattle.adapter_core.specs.Ends.{may, are_both_ended}
 use Rattle.adapter_core.specs.Trace.{state, iface_text, engine_text}

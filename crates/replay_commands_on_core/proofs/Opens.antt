@@ -1,6 +1,6 @@
 -- A core before its first step.
 use Rattle.std.proofs.Common.{◌≡◌, [], ap}
-use Rattle.policy_rules.specs.declared.settings.Settings.{Settings}
+use Rattle.policy_rules.specs.declared.setting_rules.settings.Settings.{Settings}
 use Rattle.adapter_core.specs.Ends.{at_start}
 use Rattle.adapter_core.specs.Parts.{CoreParts}
 use Rattle.adapter_core.specs.Represents.{Represents}

@@ -7,7 +7,7 @@ use Rattle.line_io.specs.Lines.{parts_by_feed}
 use Rattle.script_lines.specs.Marks.{Happens, ToIface, ToEngine, IsMarkSpelled}
 use Rattle.cecp_lines.specs.Replies.{Reply, reply_text}
 use Rattle.uci_lines.specs.Orders.{Order, uci_order_text}
-use Rattle.policy_rules.specs.declared.settings.Settings.{Settings}
+use Rattle.policy_rules.specs.declared.setting_rules.settings.Settings.{Settings}
 use Rattle.adapter_core.specs.declared.ends.Ends.{Ends}
 use Rattle.adapter_core.specs.Ends.{may}
 use Rattle.adapter_core.specs.Trace.{Step, LawfulTrace, state, iface_text, engine_text}
@@ -17,7 +17,7 @@ use Rattle.trace_scripts.proofs.Scripts.{some_opened, only_open}
 use Rattle.replay_command_base.specs.Streams.{FilterStreams}
 use Rattle.trace_laws.specs.OneLine.{IsOneLogLine, WritesLines}
 use Rattle.trace_laws.proofs.OneLine.{write_lines}
-use Rattle.judge_and_driver_laws.proofs.Marked.{can_be_marked, reply_parts, order_parts}
+use Rattle.judge_and_driver_laws.proofs.Judge.Marked.{can_be_marked, reply_parts, order_parts}
 use Rattle.replay_commands_without_core.specs.Migrated.{MigratesScripts}
 use Rattle.replay_commands_without_core.specs.Traces.{AreEventsMarked, IsMarked, IsWrittenMarked}
 use Rattle.replay_commands_on_core.specs.OwnScripts.{MigratesOwnScripts}

@@ -6,8 +6,8 @@ use Rattle.std.specs.Option.{option_to_list}
 use Rattle.std.specs.Io.KnownBytes.{Appends}
 use Rattle.std.proofs.lemmas.Bool.{or_left, or_right}
 use Rattle.line_io.specs.Lines.{Piece, Whole, items, piece_of}
-use Rattle.policy_rules.specs.declared.settings.Settings.{Settings}
-use Rattle.policy_rules.specs.Policy.{IsProper}
+use Rattle.policy_rules.specs.declared.setting_rules.settings.Settings.{Settings}
+use Rattle.policy_rules.specs.SettingRules.Policy.{IsProper}
 use Rattle.script_lines.specs.Header.{header_text, header_of}
 use Rattle.script_lines.specs.Marks.{Mark, mark_spelled}
 use Rattle.script_lines.specs.StepLine.{step_of}
@@ -30,10 +30,10 @@ use Rattle.judge_report.specs.Texts.{search_report, crossings_line, lawful_line}
 use Rattle.judge_report.specs.Reports.{LogLineKind, Passes, HasNone, ReportCourse, log_line_kind_by, is_passed, of_dialogue_event, of_kind, with_outcome, read_on, over, report}
 use Rattle.replay_command_base.specs.declared.ending.Ending.TheVariants as endings
 use Rattle.judge_report.specs.Judged.{AllJudged, FaultFound, Judged, whole_report}
-use Rattle.judge_and_driver_laws.specs.Scripts.{marks_in_text}
-use Rattle.judge_and_driver_laws.proofs.Runs.{Runs}
-use Rattle.judge_and_driver_laws.proofs.Marked.{IsLogLine, script1_log, script2_log}
-use Rattle.judge_and_driver_laws.proofs.Scripts.{trace_runs}
+use Rattle.judge_and_driver_laws.specs.Judge.Scripts.{marks_in_text}
+use Rattle.judge_and_driver_laws.proofs.Judge.Runs.{Runs}
+use Rattle.judge_and_driver_laws.proofs.Judge.Marked.{IsLogLine, script1_log, script2_log}
+use Rattle.judge_and_driver_laws.proofs.Judge.Scripts.{trace_runs}
 use Rattle.replay_commands_on_core.specs.OwnScripts.{OwnScriptFoundLawful, NoFaultFound, JudgesOwnTalk, searches}
 use Rattle.replay_commands_on_core.specs.Replayed.{IsProperIn}
 use Rattle.replay_commands_on_core.proofs.Replayed.{short_whole, marked_piece}

@@ -11,7 +11,7 @@ use Rattle.script_lines.specs.Marks.{Mark, Happens, mark_spelled, event_mark_tex
 use Rattle.script_lines.specs.StepLine.{step_number_line, step_of}
 use Rattle.script_lines.proofs.Numerals.{step_spelled}
 use Rattle.script_lines.proofs.Spelled.{read_spelled}
-use Rattle.policy_rules.specs.declared.settings.Settings.{Settings}
+use Rattle.policy_rules.specs.declared.setting_rules.settings.Settings.{Settings}
 use Rattle.adapter_core.specs.declared.ends.Ends.{Ends}
 use Rattle.adapter_core.specs.Ends.{may}
 use Rattle.adapter_core.specs.Trace.{Step, state, iface_text, engine_text}
@@ -44,7 +44,7 @@ tail_quiet : (xs ys : List Event) → xs ++ ys ≡ [] → ys ≡ []
 tail_quiet [] ys h = h
 tail_quiet (x ∷ xs) ys h = cc
 
--- what a line comes to
+-- the outcome of a line
 pub data Taken (o : Settings) (v : Version) (before : List Piece) (p : Piece) (number : ℕ) (answer : Option Ending) (core : CoreParts) (stage : ScriptStage) (due : List ℕ) : Type 0 where
   Goes : answer ≡ None → Standing o v core stage due (before ++ p ∷ []) → Taken o v before p number answer core stage due
   Unmarked : answer ≡ Some (endings.NoMark number) → (BeginBy o v (before ++ p ∷ []) → ⊥) → line_kind_in v p ≡ HasNone → Taken o v before p number answer core stage due

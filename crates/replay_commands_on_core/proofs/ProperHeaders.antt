@@ -5,17 +5,17 @@ use Rattle.std.proofs.lemmas.Bool.{leb-true}
 use Rattle.std.specs.Str.{bytes_eq}
 use Rattle.protocol_tokens.specs.Numbers.{digits}
 use Rattle.protocol_tokens.specs.Tokens.{rest_after_token, tokens}
-use Rattle.policy_rules.specs.declared.settings.Settings.{Settings}
-use Rattle.policy_rules.specs.declared.table.Setting.{Setting}
-use Rattle.policy_rules.specs.declared.table.Setting.TheVariants as names
-use Rattle.policy_rules.specs.declared.table.Range.{Range}
-use Rattle.policy_rules.specs.declared.table.Range.TheVariants as ranges
-use Rattle.policy_rules.specs.declared.table.Value.{Value}
-use Rattle.policy_rules.specs.declared.table.Value.TheVariants.{Truth, Number}
-use Rattle.policy_rules.specs.declared.table.Choice.{Choice}
-use Rattle.policy_rules.specs.Policy.{IsProper, usual}
-use Rattle.policy_rules.specs.Table.{IsWithinRange, has_usual_rest, range_of_setting, with_choice, settings_with_value}
-use Rattle.policy_rules.specs.Words.{choice_at, choice_for, choice_of, choices_of, is_equals, setting_named, truth_in, range_value, with_choices, with_first, within}
+use Rattle.policy_rules.specs.declared.setting_rules.settings.Settings.{Settings}
+use Rattle.policy_rules.specs.declared.setting_rules.table.Setting.{Setting}
+use Rattle.policy_rules.specs.declared.setting_rules.table.Setting.TheVariants as names
+use Rattle.policy_rules.specs.declared.setting_rules.table.Range.{Range}
+use Rattle.policy_rules.specs.declared.setting_rules.table.Range.TheVariants as ranges
+use Rattle.policy_rules.specs.declared.setting_rules.table.Value.{Value}
+use Rattle.policy_rules.specs.declared.setting_rules.table.Value.TheVariants.{Truth, Number}
+use Rattle.policy_rules.specs.declared.setting_rules.table.Choice.{Choice}
+use Rattle.policy_rules.specs.SettingRules.Policy.{IsProper, usual}
+use Rattle.policy_rules.specs.SettingRules.Table.{IsWithinRange, has_usual_rest, range_of_setting, with_choice, settings_with_value}
+use Rattle.policy_rules.specs.SettingRules.Words.{choice_at, choice_for, choice_of, choices_of, is_equals, setting_named, truth_in, range_value, with_choices, with_first, within}
 use Rattle.script_lines.specs.Header.{SpellsHeader, header_of, header_text, if_written, header_settings_in}
 use Rattle.script_lines.proofs.Headers.{header_by, header_spelled, header_words}
 
@@ -72,17 +72,19 @@ choices_keep (word ∷ arguments) = both (choice_of word) (choice_keeps word) (c
 
 value_proper : (s : Settings) (r : Setting) (v : Value) → IsProper s → IsWithinRange (range_of_setting r) v → IsProper (settings_with_value s r v)
 value_proper s names.ResignMoves (Truth b) p w = absurd w
-value_proper s names.ResignMoves (Number n) p w = record { some_moves = w.0; few_moves = w.1; low_score = p.low_score }
+value_proper s names.ResignMoves (Number n) p w = record { some_moves = w.0; few_moves = w.1; low_score = p.low_score; short_margin = p.short_margin }
 value_proper s names.ResignScore (Truth b) p w = absurd w
-value_proper s names.ResignScore (Number n) p w = record { some_moves = p.some_moves; few_moves = p.few_moves; low_score = w.1 }
-value_proper s r v p w = record { some_moves = p.some_moves; few_moves = p.few_moves; low_score = p.low_score }
+value_proper s names.ResignScore (Number n) p w = record { some_moves = p.some_moves; few_moves = p.few_moves; low_score = w.1; short_margin = p.short_margin }
+value_proper s names.TimeMargin (Truth b) p w = absurd w
+value_proper s names.TimeMargin (Number n) p w = record { some_moves = p.some_moves; few_moves = p.few_moves; low_score = p.low_score; short_margin = w.1 }
+value_proper s r v p w = record { some_moves = p.some_moves; few_moves = p.few_moves; low_score = p.low_score; short_margin = p.short_margin }
 
 choices_proper : (s : Settings) (choices : List Choice) → IsProper s → AllByRecursion Keeps choices → IsProper (with_choices s choices)
 choices_proper s [] p a = p
 choices_proper s (c ∷ cs) p a = choices_proper (with_choice s c) cs (value_proper s c.setting c.value p a.0) a.1
 
 usual_proper : IsProper usual
-usual_proper = record { some_moves = omega arith; few_moves = omega arith; low_score = omega arith }
+usual_proper = record { some_moves = omega arith; few_moves = omega arith; low_score = omega arith; short_margin = omega arith }
 
 words_proper : (arguments : List (List ℕ)) → IfSome (header_settings_in arguments) (λ s. IsProper s)
 words_proper arguments = by (choices_of arguments) (choices_keep arguments) where

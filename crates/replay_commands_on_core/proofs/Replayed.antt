@@ -10,7 +10,7 @@ use Rattle.script_lines.specs.StepLine.{step_number, step_of}
 use Rattle.script_lines.proofs.Numerals.{number_below, number_next, step_length}
 use Rattle.script_lines.proofs.Scripts.{has_lines, has_short_lines}
 use Rattle.script_lines.proofs.Spelled.{read_spelled}
-use Rattle.policy_rules.specs.declared.settings.Settings.{Settings}
+use Rattle.policy_rules.specs.declared.setting_rules.settings.Settings.{Settings}
 use Rattle.adapter_core.specs.declared.ends.Ends.{Ends}
 use Rattle.adapter_core.specs.Ends.{may, ends_after, at_start}
 use Rattle.adapter_core.specs.Trace.{Step, LawfulTrace, state, iface_text, engine_text}

@@ -5,7 +5,7 @@ use Rattle.std.proofs.lemmas.List.{take_all}
 use Rattle.line_io.specs.Causes.{Rose}
 use Rattle.line_io.specs.Lines.{Piece, items}
 use Rattle.line_io.specs.Source.{TakesPrefix}
-use Rattle.policy_rules.specs.declared.settings.Settings.{Settings}
+use Rattle.policy_rules.specs.declared.setting_rules.settings.Settings.{Settings}
 use Rattle.replay_command_base.specs.declared.ending.Ending.{Ending}
 use Rattle.replay_command_base.specs.declared.ending.Ending.TheVariants as endings
 use Rattle.replay_command_base.specs.Diagnostics.{command_status, command_diagnostic}
@@ -26,7 +26,7 @@ module _ (o : Settings) (unread kept : Type 0) (start now : FilterStreams) where
   abbrev Ends : Ending → Type 0
   Ends e = ChecksAs o unread kept e start now
 
-  -- what was found was written
+  -- the finding was written
   pub wrote : (found answer : Ending) → Finds o found start now → answer ≡ found → Appends start.output.taken now.output.taken (check_verdict found) → (check_verdict found ≡ [] → kept) → Ends answer
   wrote found answer f e a k = subst Ends (sym e) (as_found found f a k) where
     as_found : (x : Ending) → Finds o x start now → Appends start.output.taken now.output.taken (check_verdict x) → (check_verdict x ≡ [] → kept) → Ends x
@@ -53,7 +53,7 @@ module _ (o : Settings) (unread kept : Type 0) (start now : FilterStreams) where
     unreported = inl (some, rose);
   })
 
-  -- what is due was written, and its diagnostic could not be
+  -- the text that is due was written, and its diagnostic could not be
   all_part : (x : Ending) → Finds o x start now → Appends start.output.taken now.output.taken (check_verdict x) → (x ≡ endings.ReadingFailed → Rose start.input.faults now.input.faults) → (x ≢ endings.ReadingFailed → now.input.faults ≡ start.input.faults)
       → Rose start.diag.faults now.diag.faults → WritesPart o start now
   all_part x f a read same rose = record {

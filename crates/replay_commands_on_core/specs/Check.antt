@@ -9,7 +9,7 @@ use Rattle.script_lines.specs.Marks.{Mark, mark_spelled}
 use Rattle.script_lines.specs.StepLine.{step_number_line, step_number}
 use Rattle.line_io.specs.Runs.{SourceCalls, whole}
 use Rattle.line_io.specs.Source.{TakesPrefix}
-use Rattle.policy_rules.specs.declared.settings.Settings.{Settings}
+use Rattle.policy_rules.specs.declared.setting_rules.settings.Settings.{Settings}
 use Rattle.adapter_core.specs.Ends.{are_both_ended, may}
 use Rattle.adapter_core.specs.Trace.{Step, LawfulTrace, state}
 use Rattle.replay_command_base.specs.declared.ending.Ending.{Ending}
@@ -143,7 +143,7 @@ pub record BeginsMuch (o : Settings) (start now : FilterStreams) : Type 0 where
   pub begins : BeginsWhole o start now
   pub least : 2 ^ 32 ≤ length begins.got
 
--- what was found in the input
+-- the finding in the input
 abbrev pub Finds : Settings → Ending → FilterStreams → FilterStreams → Type 0
 Finds o endings.Done start now = IsLawfulScript o start now
 Finds o (endings.Differs n) start now = Differs o n start now
@@ -153,13 +153,13 @@ Finds o endings.ReadingFailed start now = BeginsWhole o start now
 Finds o endings.TooLong start now = BeginsMuch o start now
 Finds o ending start now = ⊥
 
--- what is to be written of this could not be written, or its diagnostic could not
+-- the text of this could not be written, or its diagnostic could not
 abbrev pub IsUnreported : Ending → FilterStreams → FilterStreams → Type 0
 IsUnreported found start now =
     ((check_verdict found ≢ []) × Rose start.output.faults now.output.faults)
     ⊎ Rose start.diag.faults now.diag.faults
 
--- what was found could not be written, or not be reported
+-- the finding could not be written, or not be reported
 pub record WritesPart (o : Settings) (start now : FilterStreams) : Type 0 where
   pub found : Ending
   pub finds : Finds o found start now

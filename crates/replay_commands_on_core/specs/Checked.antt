@@ -3,7 +3,7 @@ use Rattle.std.specs.Prelude.{◌≡◌, ◌≢◌, ◌⊎◌, ◌↔◌, ℕ, �
 use Rattle.std.specs.Io.KnownBytes.{Appends}
 use Rattle.line_io.specs.Causes.{Rose}
 use Rattle.line_io.specs.Lines.{items}
-use Rattle.policy_rules.specs.declared.settings.Settings.{Settings}
+use Rattle.policy_rules.specs.declared.setting_rules.settings.Settings.{Settings}
 use Rattle.replay_command_base.specs.declared.ending.Ending.{Ending}
 use Rattle.replay_command_base.specs.declared.ending.Ending.TheVariants as endings
 use Rattle.replay_commands_on_core.specs.Check.{AreScript, BeginsWhole, BeginsMuch, ChecksAs}
@@ -63,7 +63,7 @@ CompletesMarked before after code =
 pub record Checked (o : Settings) (Unread Kept : Type 0) (before after : FilterStreams)
     (code : ℕ) : Type 0 where
   pub ended : FilterRan (λ ending. ChecksAs o Unread Kept ending before after) before after code
-  -- what each status says
+  -- the meaning of each status
   pub lawful : code ≡ 0 → InputFoundLawful o before after
   pub differs : code ≡ 1 → FoundDifference o before after
   pub bad_line : code ≡ 2 → FoundBadLine o Kept before after

@@ -9,15 +9,15 @@ use Rattle.replay_commands_on_core.specs.declared.command.CommandName.{CommandNa
 use Rattle.replay_commands_on_core.specs.declared.command.CommandName.TheVariants as names
 use Rattle.session_judge.specs.declared.listener.Listener.{Listener}
 use Rattle.session_judge.specs.declared.listener.Listener.TheVariants as listeners
-use Rattle.policy_rules.specs.declared.settings.Settings.{Settings}
-use Rattle.policy_rules.specs.Policy.{IsProper}
+use Rattle.policy_rules.specs.declared.setting_rules.settings.Settings.{Settings}
+use Rattle.policy_rules.specs.SettingRules.Policy.{IsProper}
 use Rattle.replay_commands_on_core.specs.Moves.{fen_argument}
-use Rattle.policy_rules.specs.Words.{number_in_range}
+use Rattle.policy_rules.specs.SettingRules.Words.{number_in_range}
 use Rattle.replay_commands_on_core.specs.Words.{settings_of}
 use Rattle.random_games.specs.declared.generator.TheConstants.{MODULUS}
 use Rattle.random_games.specs.declared.run.TheConstants.{MOST_ROUNDS}
 
--- what is asked for: a replay, a check, a migration, the games or the positions with settings, a
+-- the request: a replay, a check, a migration, the games or the positions with settings, a
 -- judgement of the log that this one wrote, a script played to an engine of so many lives or to a
 -- driver, a drill, or the moves of what a text spells
 pub data ReplayRequest : Type 0 where
@@ -103,7 +103,7 @@ abbrev pub replay_command_of : List (List ℕ) → Option ReplayRequest
 replay_command_of [] = None
 replay_command_of (name ∷ arguments) = command_named name arguments
 
--- what a command asks for
+-- the request of a command
 abbrev pub request_by_command : ReplayCommand → ReplayRequest
 request_by_command (commands.Replay s) = Replay s
 request_by_command (commands.Check s) = Check s

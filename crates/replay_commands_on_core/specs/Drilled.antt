@@ -44,7 +44,7 @@ pub record Drilled (number count : ℕ) (Unread Kept Silent : Type 0) (before af
   pub unread : Unread
   pub ended : PlaysDrill number count Kept Silent code before.output after.output before.diag
       after.diag
-  -- what each status says
+  -- the meaning of each status
   pub all_played : code ≡ 0 → DrillWritten number count Silent before after
   pub no_memory : code ≡ 3 → Kept
   pub writing_failed : code ≡ 5

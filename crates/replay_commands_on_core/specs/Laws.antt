@@ -1,5 +1,5 @@
 -- The laws of every session.
-use Rattle.policy_rules.specs.declared.settings.Settings.{Settings}
+use Rattle.policy_rules.specs.declared.setting_rules.settings.Settings.{Settings}
 use Rattle.trace_laws.specs.Laws.{HasLaws}
 use Rattle.script_replay.specs.Versions.{Version, settings_by}
 

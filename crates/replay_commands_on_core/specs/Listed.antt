@@ -35,7 +35,7 @@ pub record Listed (text : List ℕ) (Unread Kept Silent : Type 0) (before after 
   pub unread : Unread
   pub ended : Lists (position_of text) Kept Silent code before.output after.output before.diag
       after.diag
-  -- what each status says
+  -- the meaning of each status
   pub all_listed : code ≡ 0 → MovesWritten (position_of text) Silent before after
   pub no_position : code ≡ 2 → Kept × FindsNoPosition (position_of text) before.diag after.diag
   pub no_memory : code ≡ 3 → Kept

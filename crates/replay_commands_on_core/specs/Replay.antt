@@ -3,7 +3,7 @@ use Rattle.std.specs.Prelude.{◌≡◌, ℕ, ◌^◌, ◌≤◌, List, [], leng
 use Rattle.std.specs.Io.KnownBytes.{Appends}
 use Rattle.line_io.specs.Lines.{Piece, items}
 use Rattle.line_io.specs.Runs.{whole}
-use Rattle.policy_rules.specs.declared.settings.Settings.{Settings}
+use Rattle.policy_rules.specs.declared.setting_rules.settings.Settings.{Settings}
 use Rattle.adapter_core.specs.Trace.{Step, LawfulTrace}
 use Rattle.trace_scripts.specs.Script.{events}
 use Rattle.replay_command_base.specs.Reads.{Got, IsAll, AreFirst, AreRead}

@@ -6,8 +6,8 @@ use Rattle.line_io.specs.Causes.{Rose}
 use Rattle.line_io.specs.Event.{Event}
 use Rattle.line_io.specs.Lines.{Piece, items}
 use Rattle.line_io.specs.Runs.{whole}
-use Rattle.policy_rules.specs.Policy.{IsProper}
-use Rattle.policy_rules.specs.declared.settings.Settings.{Settings}
+use Rattle.policy_rules.specs.SettingRules.Policy.{IsProper}
+use Rattle.policy_rules.specs.declared.setting_rules.settings.Settings.{Settings}
 use Rattle.adapter_core.specs.Trace.{Step, LawfulTrace, state}
 use Rattle.trace_scripts.specs.Script.{events, StepLinesAreShort}
 use Rattle.replay_command_base.specs.declared.ending.Ending.{Ending}
@@ -115,7 +115,7 @@ WritesItAgain o before after code =
 pub record Replayed (o : Settings) (Unread Kept : Type 0) (before after : FilterStreams)
     (code : ℕ) : Type 0 where
   pub ended : FilterRan (λ ending. EndsAs o (Unread × Kept) ending before after) before after code
-  -- what each status says
+  -- the meaning of each status
   pub all_replayed : code ≡ 0 → AllReplayed o before after
   pub fault_reported : code ≡ 2 → ReplayFaultReported o before after
   pub reading_failed : code ≡ 4 → Rose before.input.faults after.input.faults

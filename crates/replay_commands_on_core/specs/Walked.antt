@@ -8,7 +8,7 @@ use Rattle.line_io.specs.Lines.{Piece, Whole, is_feed, parts_by_feed, line_feed}
 use Rattle.line_io.specs.LineConsumers.{ConsumerMeaning}
 use Rattle.script_lines.specs.Header.{header_of}
 use Rattle.script_lines.specs.StepLine.{step_number_line, step_number}
-use Rattle.policy_rules.specs.declared.settings.Settings.{Settings}
+use Rattle.policy_rules.specs.declared.setting_rules.settings.Settings.{Settings}
 use Rattle.adapter_core.specs.declared.ends.Ends.{Ends}
 use Rattle.adapter_core.specs.Ends.{are_both_ended}
 use Rattle.adapter_core.specs.Trace.{Step, LawfulTrace, state}
@@ -30,7 +30,7 @@ use Rattle.script_replay.specs.Versions.{Starts, HasNoMark, IsOutOfStep, Cannot,
 use Rattle.script_replay.specs.Versions.{First, Second, kind_of_script_line, kind_says, settings_by}
 use Rattle.script_replay.specs.Versions.{stage_started, stage_after_event, version_in}
 
--- what a line is: the event that may come if nothing is due, the number of the next step, the
+-- the kind of a line: the event that may come if nothing is due, the number of the next step, the
 -- line that is due, or another
 pub data CheckedLineIs : Type 0 where
   TakesEvent : (event : Event) → CheckedLineIs
@@ -92,7 +92,7 @@ pub record FillsDueLines (old new : CoreParts) (e : Event) (due : List ℕ) : Ty
   pub adds : StepExtends old new e step
   pub due_is : due ≡ written_text step
 
--- what was done with a line
+-- the work on a line
 abbrev pub Followed : CoreParts → ScriptStage → List ℕ → CheckedLineIs → CoreParts → ScriptStage → List ℕ
     → Type 0
 Followed old stage due (TakesEvent e) new stage' due' =
@@ -122,7 +122,7 @@ pub record OpensWith (old : CoreParts) (number : ℕ) (line : List ℕ) (answer 
   pub follows :
       Followed core stages.Plain lines (fit stages.Plain core.ends lines number line) new stage due
 
--- what was done with the first line, which is this header or none
+-- the work on the first line, which is this header or none
 abbrev pub TakesFirst : Option Settings → CoreParts → ℕ → List ℕ → Option Ending → CoreParts
     → ScriptStage → List ℕ → Type 0
 TakesFirst (Some settings) old number line answer new stage due =
@@ -137,7 +137,7 @@ pub record TakesLater (old : CoreParts) (stage : ScriptStage) (due : List ℕ) (
   pub ending : answer ≡ fault_in (fit stage old.ends due number line)
   pub follows : Followed old stage due (fit stage old.ends due number line) new stage' due'
 
--- what was done with a line
+-- the work on a line
 abbrev pub TakesAny : CoreParts → ScriptStage → List ℕ → ℕ → List ℕ → Option Ending → CoreParts
     → ScriptStage → List ℕ → Type 0
 TakesAny old stages.Start due number line answer new stage' due' =
@@ -145,7 +145,7 @@ TakesAny old stages.Start due number line answer new stage' due' =
 TakesAny old stage due number line answer new stage' due' =
     TakesLater old stage due number line answer new stage' due'
 
--- what the end of the input shows if these lines are due
+-- the finding at the end of the input if these lines are due
 abbrev pub at_end : List ℕ → ℕ → Ending
 at_end due n = if length due == 0 then endings.Done else endings.Differs (n + 1)
 
@@ -156,7 +156,7 @@ pub record OpensAtEnd (old : CoreParts) (number : ℕ) (answer : Ending) : Type 
   pub opens : FillsDueLines old core Open lines
   pub ending : answer ≡ at_end lines number
 
--- what the end of the input shows
+-- the finding at the end of the input
 abbrev pub CheckEndsAt : CoreParts → ScriptStage → List ℕ → ℕ → Ending → Type 0
 CheckEndsAt core stages.Start due n answer = OpensAtEnd core n answer
 CheckEndsAt core stages.Plain due n answer = answer ≡ at_end due n
@@ -243,7 +243,7 @@ pub record LinesShow (o : Settings) (ending : Ending) (lines : List Piece) : Typ
   pub finds : (start now : FilterStreams) → AreRead start now lines → Finds o ending start now
   pub of_line : ending ≢ endings.ReadingFailed
 
--- what a check of lines means
+-- the meaning of a check of lines
 abbrev pub checks : {O : Type 0} → ConsumerMeaning Checker O Ending
 checks {O} = record {
   took =

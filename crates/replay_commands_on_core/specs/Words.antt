@@ -3,9 +3,9 @@ use Rattle.std.specs.Prelude.{ℕ, List, [], ◌∷◌, Bool, true, not, ◌&&�
 use Rattle.std.specs.List.{list_any}
 use Rattle.std.specs.Option.{option_map}
 use Rattle.std.specs.Str.{bytes_eq}
-use Rattle.policy_rules.specs.declared.settings.Settings.{Settings}
-use Rattle.policy_rules.specs.Policy.{usual}
-use Rattle.policy_rules.specs.Words.{choices_of, name_in, with_choices}
+use Rattle.policy_rules.specs.declared.setting_rules.settings.Settings.{Settings}
+use Rattle.policy_rules.specs.SettingRules.Policy.{usual}
+use Rattle.policy_rules.specs.SettingRules.Words.{choices_of, name_in, with_choices}
 
 -- one of the words has this name
 abbrev pub has_name : List ℕ → List (List ℕ) → Bool

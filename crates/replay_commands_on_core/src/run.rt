@@ -2,8 +2,8 @@
 ghost use Rattle.std.specs.Prelude.{◌≡◌, IfOk};
 ghost use Rattle.line_io.specs.Lines.{empty_reader};
 ghost use Rattle.line_io.specs.Source.{Received};
-ghost use Rattle.policy_rules.specs.Policy.{IsProper};
-ghost use Rattle.policy_rules.specs.declared.settings.Settings.{Settings as AnySettings};
+ghost use Rattle.policy_rules.specs.SettingRules.Policy.{IsProper};
+ghost use Rattle.policy_rules.specs.declared.setting_rules.settings.Settings.{Settings as AnySettings};
 ghost use Rattle.replay_command_base.specs.Diagnostics.{command_status, command_diagnostic};
 ghost use Rattle.replay_command_base.specs.Ran.{Causes, FilterRan};
 ghost use Rattle.replay_commands_on_core.specs.Replay.{EndsAs, Stopped};

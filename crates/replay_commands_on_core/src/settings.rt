@@ -1,6 +1,6 @@
 // The arguments of settings.
 ghost use Rattle.std.specs.Prelude.{◌≡◌, IfSome};
-ghost use Rattle.policy_rules.specs.Policy.{IsProper};
+ghost use Rattle.policy_rules.specs.SettingRules.Policy.{IsProper};
 ghost use Rattle.replay_commands_on_core.specs.Commands.{argument_bytes};
 ghost use Rattle.replay_commands_on_core.specs.Words.{has_name, settings_of};
 

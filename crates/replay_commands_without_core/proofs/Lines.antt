@@ -3,8 +3,8 @@ use Rattle.std.proofs.Common.{◌≡◌, ℕ, suc, ◌+◌, ◌<◌, ◌^◌, Li
 use Rattle.line_io.specs.Event.{Event, event_of}
 use Rattle.line_io.specs.Lines.{Piece, Whole}
 use Rattle.line_io.specs.Out.{Text}
-use Rattle.policy_rules.specs.Policy.{IsProper}
-use Rattle.policy_rules.specs.declared.settings.Settings.{Settings}
+use Rattle.policy_rules.specs.SettingRules.Policy.{IsProper}
+use Rattle.policy_rules.specs.declared.setting_rules.settings.Settings.{Settings}
 use Rattle.script_lines.specs.Marks.{Mark, Happens, mark_spelled}
 use Rattle.script_lines.specs.StepLine.{step_number_line, step_number}
 use Rattle.replay_command_base.specs.declared.ending.Ending.{Ending}

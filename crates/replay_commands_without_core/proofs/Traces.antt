@@ -6,7 +6,7 @@ use Rattle.std.proofs.lemmas.List.{map-append}
 use Rattle.line_io.specs.Event.{Event, Open}
 use Rattle.line_io.specs.Event as events
 use Rattle.line_io.specs.Lines.{Piece, Whole, items, parts_by_feed}
-use Rattle.policy_rules.specs.declared.settings.Settings.{Settings}
+use Rattle.policy_rules.specs.declared.setting_rules.settings.Settings.{Settings}
 use Rattle.script_lines.specs.Header.{header_text}
 use Rattle.script_lines.specs.Marks.{Mark, Happens, ToIface, ToEngine, IsMarkSpelled, mark_spelled, mark_text, mark_line, event_marked, event_mark_text, line_marked}
 use Rattle.script_lines.specs.Scripts.{MarksAreSpelled, script_of}

@@ -2,8 +2,8 @@
 use Rattle.std.specs.Prelude.{◌≡◌, ⊤, ℕ, ◌<◌, ◌^◌, suc, List, [], ◌∷◌, ◌++◌, Option, Some, None}
 use Rattle.line_io.specs.Lines.{Piece}
 use Rattle.line_io.specs.Out.{Text, with}
-use Rattle.policy_rules.specs.Policy.{IsProper}
-use Rattle.policy_rules.specs.declared.settings.Settings.{Settings}
+use Rattle.policy_rules.specs.SettingRules.Policy.{IsProper}
+use Rattle.policy_rules.specs.declared.setting_rules.settings.Settings.{Settings}
 use Rattle.script_lines.specs.StepLine.{step_number}
 use Rattle.replay_command_base.specs.declared.ending.Ending.{Ending}
 use Rattle.replay_command_base.specs.declared.ending.Ending.TheVariants as endings
@@ -12,7 +12,7 @@ use Rattle.replay_commands_without_core.specs.declared.migration.Migration.{Migr
 use Rattle.replay_commands_without_core.specs.Migration.{AreMarked, IsUnmarked, migrated_beginning}
 use Rattle.replay_commands_without_core.specs.Migration.{script_with_header, steps_over}
 
--- what stands before the first mark, if it was not put
+-- the text before the first mark, if it was not put
 abbrev pub unput_beginning : Option ℕ → Settings → List ℕ
 unput_beginning None settings = migrated_beginning settings
 unput_beginning (Some number) settings = []

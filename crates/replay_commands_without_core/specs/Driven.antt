@@ -82,7 +82,7 @@ DrivesAgain before after code =
 pub record DriveCommandIs (Untouched : Type 0) (before after : FilterStreams) (code : ℕ) : Type 0 where
   -- The status, the diagnostic and the counts are those of one ending.
   pub ended : FilterRan (λ ending. FilterEndsBy drive_filter_meaning opening_driver Untouched ending before after) before after code
-  -- what each status says
+  -- the meaning of each status
   pub all_driven : code ≡ 0 → AllDriven before after × AreSame before after
   pub no_other : code ≡ 1 → ⊥
   pub fault_reported : code ≡ 2 → DriveFaultReported before after

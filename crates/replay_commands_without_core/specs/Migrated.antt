@@ -4,7 +4,7 @@ use Rattle.std.specs.Io.KnownBytes.{Appends}
 use Rattle.line_io.specs.Causes.{Rose}
 use Rattle.line_io.specs.Lines.{Piece, items}
 use Rattle.line_io.specs.Runs.{whole}
-use Rattle.policy_rules.specs.declared.settings.Settings.{Settings}
+use Rattle.policy_rules.specs.declared.setting_rules.settings.Settings.{Settings}
 use Rattle.adapter_core.specs.Trace.{Step}
 use Rattle.trace_scripts.specs.Script.{script1, script2}
 use Rattle.replay_command_base.specs.declared.ending.Ending.TheVariants as endings
@@ -89,7 +89,7 @@ pub record Migrated (settings : Settings) (Unread Kept : Type 0) (before after :
   -- The status, the diagnostic and the counts are those of one ending.
   pub ended : FilterRan (λ ending. FilterEndsBy migration_meaning (unbegun_script settings) (Unread × Kept) ending before after)
       before after code
-  -- what each status says
+  -- the meaning of each status
   pub all_migrated : code ≡ 0 → AllMigrated settings before after
   pub no_other : code ≡ 1 → ⊥
   pub unmarked : code ≡ 2 → UnmarkedReported settings before after

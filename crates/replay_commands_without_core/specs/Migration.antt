@@ -3,7 +3,7 @@ use Rattle.std.specs.Prelude.{◌≡◌, ℕ, suc, ◌+◌, List, [], ◌∷◌,
 use Rattle.std.specs.Prelude.{length, true, Option, Some, None, is_some}
 use Rattle.std.specs.List.{AllByRecursion}
 use Rattle.line_io.specs.Lines.{Piece, Whole, TooLong, line_feed}
-use Rattle.policy_rules.specs.declared.settings.Settings.{Settings}
+use Rattle.policy_rules.specs.declared.setting_rules.settings.Settings.{Settings}
 use Rattle.script_lines.specs.Header.{header_text}
 use Rattle.script_lines.specs.Marks.{Mark, Happens, mark_spelled}
 use Rattle.script_lines.specs.StepLine.{step_number_line, step_number}

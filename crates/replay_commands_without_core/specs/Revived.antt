@@ -99,7 +99,7 @@ pub record ReviveCommandIs (lives : ℕ) (Untouched : Type 0) (before after : Fi
     (code : ℕ) : Type 0 where
   pub ended : FilterRan (λ ending. FilterEndsBy revives (opening_revival lives) Untouched ending before after)
       before after code
-  -- what each status says
+  -- the meaning of each status
   pub all_revived : code ≡ 0 → AllRevived lives before after
   pub no_other : code ≡ 1 → ⊥
   pub fault_reported : code ≡ 2 → ReviveFaultReported lives before after

@@ -48,7 +48,7 @@ HasNoMark number None s held s' held' = ⊥
 HasNoMark number (Some ending) s held s' held' =
     MarkIsRefused (endings.NoMark number) ending s held s' held'
 
--- what was done for a line with this mark
+-- the work on a line with this mark
 abbrev pub MarkIsPlayed : ℕ → Option Mark → Option Ending → RevivalState → Text → RevivalState → Text
     → Type 0
 MarkIsPlayed number (Some (Happens event)) result s held s' held' =
@@ -84,7 +84,7 @@ ReviveEndsWith lives lines endings.ReadingFailed text = ReviveCloses lives lines
 ReviveEndsWith lives lines endings.TooLong text = ReviveCloses lives lines text
 ReviveEndsWith lives lines ending text = ⊥
 
--- what a reviver puts that has played nothing, whatever number of lives may be begun
+-- the text of a reviver that has played nothing, whatever number of lives may be begun
 abbrev pub revives : Putting RevivalState
 revives = record {
   put = λ s0 lines s text. (lives : ℕ) → s0 ≡ opening_revival lives → HasPlayed lives lines s text;

@@ -77,7 +77,7 @@ DriveEndsWith lines (endings.Differs n) text = ⊥
 DriveEndsWith lines (endings.Unlawful n) text = ⊥
 DriveEndsWith lines ending text = IsDriven lines text
 
--- what a driver that was made puts for the lines of a script
+-- the text of a driver that was made, for the lines of a script
 abbrev pub drive_filter_meaning : Putting DriverParts
 drive_filter_meaning = record {
   put = λ v0 lines v text. v0 ≡ opening_driver → DriverAfterLines lines v text;

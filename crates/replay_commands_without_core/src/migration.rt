@@ -1,7 +1,7 @@
 // The lines of a script of version 1, with the numbers of its steps.
 ghost use Rattle.std.specs.Prelude.{◌≡◌, ◌+◌, ◌<◌, ◌≤◌, ◌^◌, ◌∷◌, ◌++◌, [], length};
 ghost use Rattle.line_io.specs.Out.{with};
-ghost use Rattle.policy_rules.specs.Policy.{IsProper};
+ghost use Rattle.policy_rules.specs.SettingRules.Policy.{IsProper};
 ghost use Rattle.script_lines.specs.declared.header.TheConstants.{HEADER_ROOM};
 ghost use Rattle.replay_commands_without_core.specs.Begun.{ScriptIsBegun, unbegun_script};
 

@@ -1,7 +1,7 @@
 -- The result of each command.
 use Rattle.std.proofs.Common.{◌≡◌, ℕ, List, Option, Some, None, sym, subst}
 use Rattle.session_judge.specs.declared.listener.Listener.{Listener}
-use Rattle.policy_rules.specs.declared.settings.Settings.{Settings}
+use Rattle.policy_rules.specs.declared.setting_rules.settings.Settings.{Settings}
 use Rattle.replay_commands_on_core.specs.Checked.{Checked}
 use Rattle.replay_commands_on_core.specs.Commands.{ReplayRequest}
 use Rattle.replay_commands_on_core.specs.Commands as asked
@@ -18,7 +18,7 @@ use Rattle.replay_commands_without_core.specs.Migrated.{Migrated}
 use Rattle.replay_commands_without_core.specs.Revived.{ReviveCommandIs}
 use Rattle.replay_commands_without_core.specs.Driven.{DriveCommandIs}
 use Rattle.replay_commands_without_core.specs.Scripts.{driven_events}
-use Rattle.judge_and_driver_laws.specs.Runs.{HearsTheOrdered}
+use Rattle.judge_and_driver_laws.specs.Driver.Runs.{HearsTheOrdered}
 use Rattle.line_io.specs.Lines.{items}
 use Rattle.line_io.specs.declared.limits.TheConstants.{SCRIPT_LINE}
 use Rattle.session_export.specs.GamesWritten.{GamesWritten}

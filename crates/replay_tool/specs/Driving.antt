@@ -4,13 +4,13 @@ use Rattle.std.specs.Io.KnownBytes.{Appends}
 use Rattle.line_io.specs.Event.{Event}
 use Rattle.line_io.specs.Lines.{items}
 use Rattle.line_io.specs.declared.limits.TheConstants.{SCRIPT_LINE}
-use Rattle.policy_rules.specs.declared.settings.Settings.{Settings}
+use Rattle.policy_rules.specs.declared.setting_rules.settings.Settings.{Settings}
 use Rattle.adapter_core.specs.Alone.{commanded_alone}
 use Rattle.cecp_driver.specs.Driver.{opening_driver}
 use Rattle.replay_command_base.specs.Reads.{Got, IsAll}
 use Rattle.replay_command_base.specs.Streams.{FilterStreams}
 use Rattle.replay_commands_without_core.specs.Scripts.{IsDriven, driven_events}
-use Rattle.judge_and_driver_laws.specs.Runs.{AllHeard}
+use Rattle.judge_and_driver_laws.specs.Driver.Runs.{AllHeard}
 
 -- All of the input was read and the script of a driver that takes its events was written. A bridge
 -- that took these events before, and then takes the lines that the driver writes to its engine as

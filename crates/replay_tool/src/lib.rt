@@ -1,4 +1,4 @@
-//! The program `replay` as a function of its words and its streams: it replays, checks, migrates and judges recorded
+//! The program `replay` as a function of its arguments and its streams: it replays, checks, migrates and judges recorded
 //! sessions, writes their games, plays them to a revived engine and to a driver, lists legal moves, and plays drills.
 #![tactic(auto)]
 

@@ -1,6 +1,6 @@
 // The program.
 ghost use Rattle.std.specs.Prelude.{◌≡◌, ℕ, List, Some, None};
-ghost use Rattle.policy_rules.specs.declared.settings.Settings.{Settings as AnySettings};
+ghost use Rattle.policy_rules.specs.declared.setting_rules.settings.Settings.{Settings as AnySettings};
 ghost use Rattle.session_judge.specs.declared.listener.Listener.{Listener as AnyListener};
 ghost use Rattle.replay_commands_on_core.specs.Checked.{Checked};
 ghost use Rattle.replay_commands_on_core.specs.Commands as asked;
@@ -15,7 +15,7 @@ ghost use Rattle.replay_commands_on_core.specs.Laws.{HaveLaws};
 ghost use Rattle.replay_command_base.specs.Ran.{Refused};
 ghost use Rattle.replay_commands_on_core.specs.Replayed.{Replayed};
 ghost use Rattle.replay_command_base.specs.Streams.{filter_streams};
-ghost use Rattle.judge_and_driver_laws.specs.Tapped.{AllTapsAreClean};
+ghost use Rattle.judge_and_driver_laws.specs.Judge.Tapped.{AllTapsAreClean};
 ghost use Rattle.judge_report.specs.Judged.{Judged};
 ghost use Rattle.replay_commands_without_core.specs.Migrated.{Migrated};
 ghost use Rattle.replay_commands_without_core.specs.Revived.{ReviveCommandIs};
@@ -81,39 +81,39 @@ fn run_arguments<I: Source, O: Sink, D: Sink>(
     }
 }
 
-/// Runs the program `replay` on its words, which do not include its name.
+/// Runs the program `replay` on its arguments, which do not include its name.
 ///
-/// The word `replay` reads a script from the input, ignores its header, its step lines and the
+/// The argument `replay` reads a script from the input, ignores its header, its step lines and the
 /// lines that were written, and writes the script of the session in the same version, with the
-/// settings of the header, or of the words NAME=VALUE after it if there is no header.
+/// settings of the header, or of the arguments NAME=VALUE after it if there is no header.
 ///
-/// The word `check`, with the same words after it, reads a log of any version and writes
+/// The argument `check`, with the same arguments after it, reads a log of any version and writes
 /// `lawful` if its lines are the script of a lawful session, else the first line that differs, with
 /// status 1.
 ///
-/// The word `migrate`, with the same words after it, reads a script of version 1 and writes it as
-/// one with a header of the settings of the words. No core runs: the script need not be lawful.
+/// The argument `migrate`, with the same arguments after it, reads a script of version 1 and writes it as
+/// one with a header of the settings of the arguments. No core runs: the script need not be lawful.
 ///
-/// The word `games`, with the same words after it, reads a script as `replay` does and writes the
+/// The argument `games`, with the same arguments after it, reads a script as `replay` does and writes the
 /// games of the session, one a line, each when the interface begins another or the session ends: its
 /// movetext (PGN standard, section 8.2), and before it the `FEN` tag, if it has another beginning.
 ///
-/// The word `positions`, with the same words after it, reads a script as `replay` does and writes
+/// The argument `positions`, with the same arguments after it, reads a script as `replay` does and writes
 /// the standard start after the number 0, and each position that an event leaves and that has
 /// another text than the one before, after the number of the event's line in the input.
 ///
-/// The word `revive` with one digit from 1 to 9 reads a script of version 1 and plays it to an
+/// The argument `revive` with one digit from 1 to 9 reads a script of version 1 and plays it to an
 /// engine of which so many lives may be begun; the word `drive` plays it to a driver between a UCI
 /// interface and a CECP engine. Both write the marks of its events and of the lines that come of
 /// them.
 ///
-/// The word `judge` reads the log of any bridge and writes the report of the judge, with status 1 if
+/// The argument `judge` reads the log of any bridge and writes the report of the judge, with status 1 if
 /// a mark breaks a rule. With the word `tap` after it the log is that of a tap between the bridge and
 /// its engine, in which an order may cross a line of the engine.
 ///
-/// The word `moves` joins the words after it by blanks, as the text of a position (PGN standard,
+/// The argument `moves` joins the arguments after it by blanks, as the text of a position (PGN standard,
 /// section 16.1), and writes its legal moves, one a line, in the byte order of their texts; it reads
-/// no input. The word `drill` with a number below 2^31 and a count up to 100,000 plays that many
+/// no input. The argument `drill` with a number below 2^31 and a count up to 100,000 plays that many
 /// rounds of drawn moves in one session and writes a line with what it counted; it reads no input
 /// either.
 ///
@@ -206,7 +206,7 @@ pub fn replay_main<I: Source, O: Sink, D: Sink>(
     }
 }
 
-/// Reports that there was no memory for the words.
+/// Reports that there was no memory for the arguments.
 pub fn refuse_for_memory<D: Sink>(diag: &mut D) -> Status
     ensures { DiagnosticWritten result.code 3 (tail_of endings.NoMemory) (D.state diag.old)
         (D.state diag.new) }

@@ -94,7 +94,7 @@ offered_both false false true a b c p q x y =
 pub offered_as : (f g : Bool) (a b : Received) (p q : List ℕ) → q ≡ p → Offered f g a b p → Offered f g a b q
 offered_as f g a b p q e x = subst (λ (l : List ℕ). Offered f g a b l) (sym e) x
 
--- what a sink that had not failed took of all
+-- the part of all that a sink took that had not failed
 pub took : (f : Bool) (a b : Received) (p : List ℕ) → Offered false f a b p → LogTook p f a b
 took f a b p x = record { whole = λ h. x.whole h; prefix = λ h. (x.prefix refl h).1; count = x.count refl }
 

@@ -17,7 +17,7 @@ closed_count b b' source sink x xs ys e h c =
     let more : length xs ≡ length ys + 1 = ap (λ (l : List _). length l) h ∙ omega arith in
     omega (arith, runs, out, more, c)
 
--- what the host is told of the next one
+-- the host's answer for the next one
 pub closed_reported : {S K : Type 0} (source : S → Supplied) (sink : K → Received) (b b' : Ledger) (xs ys : List (LifeRun S K)) (x : LifeRun S K)
     → b' ≡ with_closed_run b (source x.source) (sink x.sink) → xs ≡ x ∷ ys → b'.runs ++ shown_runs source sink ys ≡ b.runs ++ shown_runs source sink xs
 closed_reported source sink b b' xs ys x e h =

@@ -64,7 +64,7 @@ alive_unended life.Search h = refl
 alive_unended life.Ended h = cc
 alive_unended life.Over h = refl
 
--- what is heard may come while a life goes on
+-- an event that is heard may come while a life goes on
 pub may_hear : (s : RevivalState) (e : Event) → is_alive s.life ≡ true → is_heard e ≡ true → may_happen s e ≡ true
 may_hear s (Iface line) a h = ap not (alive_unended s.life a)
 may_hear s IfaceEnd a h = ap not (alive_unended s.life a)

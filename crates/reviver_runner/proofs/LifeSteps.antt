@@ -72,7 +72,7 @@ ends_append [] fs = omega arith
 ends_append (EngineLong ∷ es) fs = let more = ends_append es fs in omega (arith, more)
 ends_append (x ∷ es) fs = ends_append es fs
 
--- what is written to the present life
+-- the text to the present life
 more_text : (ended : List (List ℕ)) (a b c d : List ℕ) → d ≡ b ++ c → ◌≡◌ {A = ToLives} (record { ended = ended; present = (a ++ b) ++ c }) (record { ended = ended; present = a ++ d })
 more_text ended a b c d h = ap (λ (l : List ℕ). record { ended = ended; present = l }) (append_assoc a b c ∙ ap (λ (l : List ℕ). a ++ l) (sym h))
 

@@ -185,7 +185,7 @@ pub lives_as : {S K : Type 0} (source : S → Supplied) (sink : K → Received) 
     → b ≡ record b0 { runs_out = n } → LivesOn source sink b.says b.sinks_report a c sent sent' runs runs' tally tally' run next → LivesOn source sink b0.says b0.sinks_report a c sent sent' runs runs' tally tally' run next
 lives_as source sink b0 b a c sent sent' runs runs' tally tally' run next n e x = subst (λ (y : Ledger). LivesOn source sink y.says y.sinks_report a c sent sent' runs runs' tally tally' run next) e x
 
--- what one turn of the loop leaves, after what stood before it
+-- the state after one turn of the loop, from the one before it
 module _ {S K : Type 0} (source : S → Supplied) (sink : K → Received) (arguments words' : List (List ℕ)) (h h1 h2 : HostShown) (a b c : LoopState) (sent sent' : List Event) (runs runs' : List (LifeRun S K)) (tally tally' : LivesTally)
     (run : LifeRun S K) (next : NextLife S K) (d d' : ℕ)
     (same : words' ≡ arguments) (was : HostGoes arguments h h1 d) (going : LivesGoOn source sink h.ledger.says h.ledger.sinks_report a b sent runs tally run) (goes : LifeGoesOn b.state d) (lives : b.state.lives ≡ a.state.lives) (len : d ≡ length runs) (len' : d' ≡ length runs')
@@ -194,7 +194,7 @@ module _ {S K : Type 0} (source : S → Supplied) (sink : K → Received) (argum
   more : d' ≡ d + 1
   more = let long = ap (λ (l : List (LifeRun S K)). length l) turn.runs_are ∙ length-append runs (turn.last ∷ []) in omega (arith, len, len', long)
 
-  -- what the lives are waited for by: one more, or none
+  -- the processes by which the lives are waited for: one more, or none
   pub turn_process : (begun : LifeRun S K) → next ≡ nexts.Life begun → (k k' : ℕ) → k ≡ d + 1 → k' ≡ k + lives_in next → k' ≡ d' + 1
   turn_process begun e k k' one more_now = let all = more in let next_one = ap lives_in e in omega (arith, one, more_now, all, next_one)
 

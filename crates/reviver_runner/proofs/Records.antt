@@ -63,7 +63,7 @@ all_gave says sinks_report bytes (l ∷ lives) e a f m =
     let some = or_parts (lacked_memory l.end) (list_any (λ (x : Life). lacked_memory x.end) lives) m in
     (gave_whole bytes l (subst (λ (x : Option (List ℕ)). LinesOf (fresh_source x) l.read l.lines l.end) e a.0.lines) (is_done l.end fine.0 some.0), all_gave says sinks_report bytes lives e a.1 fine.1 some.1)
 
--- what the host is shown of lives that gave all, and took their texts
+-- the runs, as the host is shown them, of lives that gave all, and took their texts
 runs_are : (bytes : List ℕ) (lives : List Life) → AllByRecursion (GaveAll bytes) lives → map (λ (run : ShownRun). run.taken) (shown_runs_of_lives lives) ≡ map (λ (l : Life). Some l.text) lives
     → shown_runs_of_lives lives ≡ map (gave_all bytes) (map (λ (l : Life). l.text) lives)
 runs_are bytes [] a t = refl

@@ -1,7 +1,7 @@
 -- The request that the reviver's arguments make.
 use Rattle.std.specs.Prelude.{◌≡◌, ℕ, ◌+◌, Bool, true, false, ◌&&◌, nat_le}
 use Rattle.std.specs.Prelude.{drop, string_bytes, List, [], ◌∷◌, map}
-use Rattle.program_command_line.specs.Arguments as engine_command
+use Rattle.program_command_line.specs.Arguments.Request as engine_command
 use Rattle.reviver_runner.specs.declared.arguments.ReviverRequest.{ReviverRequest}
 
 -- a number of one digit, as a word

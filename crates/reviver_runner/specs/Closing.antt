@@ -15,7 +15,7 @@ abbrev pub run_sink_faults : {S K : Type 0} → (K → Received) → List (LifeR
 run_sink_faults sink [] = 0
 run_sink_faults sink (run ∷ runs) = (sink run.sink).faults + run_sink_faults sink runs
 
--- what the host is shown of the runs
+-- the runs as the host is shown them
 abbrev pub shown_runs : {S K : Type 0} → (S → Supplied) → (K → Received) → List (LifeRun S K)
     → List ShownRun
 shown_runs source sink runs = map (λ run. shown_run (source run.source) (sink run.sink)) runs

@@ -44,7 +44,7 @@ pub record IsBegun (says : Option (List ℕ)) (sinks_report : Bool) (source : Su
   pub unread : source ≡ fresh_source says
   pub offered : Offered false failed (fresh_sink sinks_report) sink text
 
--- whether reading or writing failed in a life that has ended is what the runs' counts say
+-- true if reading or writing failed in a life that has ended is what the runs' counts say
 pub record AreTallied {S K : Type 0} (source : S → Supplied) (sink : K → Received)
     (runs : List (LifeRun S K)) (tally : LivesTally) : Type 0 where
   pub reads : CountsFault 0 (run_source_faults source runs) tally.engine_read
@@ -75,7 +75,7 @@ AreLives says sinks_report lives = AllByRecursion (IsLife says sinks_report) liv
 abbrev pub life_events : List Life → List Event
 life_events lives = flat_map (λ l. l.lines ++ life_end ∷ []) lives
 
--- what the host is shown of them
+-- the lives as the host is shown them
 abbrev pub shown_runs_of_lives : List Life → List ShownRun
 shown_runs_of_lives lives = map (λ l. shown_run l.read l.written) lives
 
@@ -195,7 +195,7 @@ pub record LivesOn {S K : Type 0} (source : S → Supplied) (sink : K → Receiv
     (says : Option (List ℕ)) (sinks_report : Bool) (before after : LoopState) (sent sent' : List Event)
     (runs runs' : List (LifeRun S K)) (tally tally' : LivesTally) (run : LifeRun S K)
     (next : NextLife S K) : Type 0 where
-  -- what the revival heard of it
+  -- the events of it that the revival heard
   pub events : List Event
   pub unended : has_close events ≡ false
   pub played : PlayedUp before after (events ++ life_end_mark next ∷ [])
@@ -226,7 +226,7 @@ abbrev pub Continues : {S K : Type 0} → RevivalState → ℕ → NextLife S K 
 Continues s ended (nexts.Life run) = LifeGoesOn s ended
 Continues s ended next = (s.begun ≡ ended) × (s.life ≡ life.Over)
 
--- what a host shows
+-- the reports of a host
 pub record HostShown : Type 0 where
   pub ledger : Ledger
   pub counts : Faults

@@ -104,7 +104,7 @@ pub record RanAll {S K : Type 0} (source : S → Supplied) (sink : K → Receive
   pub lives : RanLives source sink arguments host host' before last sent ended tally refused
   pub drained : InterfaceDrained last after
 
--- what the readers and the writes to each life came to is reported
+-- the outcome of the readers and of the writes to each life is reported
 pub record ReviverReportsRun (upper : ReadEnd) (lives : List Life) (failures : Failures) : Type 0 where
   pub iface_read : failures.iface_read ≡ is_read_fault upper
   pub engine_read : failures.engine_read ≡ list_any (λ l. is_read_fault l.end) lives
@@ -133,7 +133,7 @@ pub record RevivalHeard (lives : ℕ) (input input' : Supplied) (upper : ReadEnd
   pub did_arrive : Arrived peers.Iface input input' arrived upper
   pub orders : sent_by peers.Iface events ≡ reported_of arrived
   pub marks : map as_long (sent_by peers.Engine events) ≡ life_events runs
-  -- what is written to each life, and after the last one nothing is
+  -- the text to each life, and after the last one nothing is written
   pub texts : to_lives to_none (opening_revival lives) events
       ≡ record { ended = map (λ l. l.text) runs; present = [] }
   pub begun : (state_behind (opening_revival lives) events).begun ≡ length runs
@@ -184,7 +184,7 @@ pub record ReviverRunIs (lives : ℕ) (before after : Outside) (failures : Failu
   -- so is each run
   pub runs_reported : after.ledger.runs ≡ shown_runs_of_lives runs
   pub runs_out : after.ledger.runs_out ≡ length runs
-  -- what the ledger says of these lives and events
+  -- the ledger's record of these lives and events
   pub recorded : ReviverRecorded lives runs events before.ledger after.ledger failures
 
 -- The result of a run, whether an engine was started or not: each count of faults rose if its failure

@@ -60,7 +60,7 @@ pub record ReadLife (before after : Supplied) (sent now : List Event) (r : ReadE
   pub sent_is : now ≡ sent ++ (lines ++ life_end ∷ [])
   pub read : LinesOf before after lines r
 
--- what a turn has sent, if the call of the reader of lines answered this
+-- the events that a turn has sent, if the call of the reader of lines answered this
 abbrev pub ReadingTurnSends : Result Item ReadFault → List Event → List Event → ReadingTurn → Type 0
 ReadingTurnSends r before now turns.More =
     IsTrue (reading_goes_on r) × (now ≡ before ++ line_events (lines_given (outcome r)))
@@ -73,7 +73,7 @@ abbrev pub is_reading_fault : ReadingTurn → Bool
 is_reading_fault turns.Fault = true
 is_reading_fault t = false
 
--- what one turn of the reader did
+-- the work of one turn of the reader
 pub record ReadingTurnDone (old new : Held) (before after : Supplied) (sent now : List Event)
     (turn : ReadingTurn) : Type 0 where
   pub got : List ℕ

@@ -20,7 +20,7 @@ use Rattle.reviver_runner.specs.Played.{revival_lines_up, as_long, reported_of, 
 use Rattle.reviver_runner.specs.Reading.{line_events}
 use Rattle.reviver_runner.specs.Lives.{Life, to_none, to_lives}
 
--- what a life showed at its end that gave all of these bytes, and took this text
+-- the report at its end of a life that gave all of these bytes, and took this text
 abbrev pub gave_all : List ℕ → List ℕ → ShownRun
 gave_all bytes text = record { given = Some bytes; left = Some []; taken = Some text }
 
@@ -73,7 +73,7 @@ pub record ReviverRunIsWhole (number : ℕ) (bytes : List ℕ) (before after : O
   pub arrived : List Event
   pub iface : Arrived peers.Iface before.input after.input arrived read_ends.Done
   pub orders : sent_by peers.Iface events ≡ reported_of arrived
-  -- what is written to each life; and each life gave all that an engine says, and took that
+  -- the text to each life; and each life gave all that an engine says, and took that
   pub texts : List (List ℕ)
   -- as many lives were run as these events begin: one at least, and so many at most
   pub begun : (state_behind (opening_revival number) events).begun ≡ length texts

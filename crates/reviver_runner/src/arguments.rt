@@ -1,7 +1,7 @@
 // The request that the arguments make.
 ghost use Rattle.std.specs.Prelude.{◌≡◌, ◌<◌, ◌≤◌, length, Err, None, IfOk, OnOk, IfSome, true, false};
-ghost use Rattle.program_command_line.specs.Arguments.{argument_bytes_of};
-ghost use Rattle.program_command_line.specs.declared.refusal.ArgumentsRefusal.TheVariants as refusals;
+ghost use Rattle.program_command_line.specs.Arguments.Request.{argument_bytes_of};
+ghost use Rattle.program_command_line.specs.declared.arguments.refusal.ArgumentsRefusal.TheVariants as refusals;
 ghost use Rattle.reviver_runner.specs.Arguments.{digit_of, is_digit, ReviverArgumentsAreTaken, ReviverRequestIs};
 
 use program_command_line::{ArgumentsRefusal, EngineRequest};

@@ -6,7 +6,7 @@ ghost use Rattle.program_lifecycle.specs.Asked.{AsksByArguments};
 ghost use Rattle.program_lifecycle.specs.Outside.{outside_of};
 ghost use Rattle.program_lifecycle.specs.Program.{StatusIsReported, ProgramEnds, IsReportedTo, StatusSays};
 ghost use Rattle.program_lifecycle.specs.declared.ending.ProgramEnding.TheVariants as endings;
-ghost use Rattle.program_command_line.specs.Arguments.{argument_bytes_of};
+ghost use Rattle.program_command_line.specs.Arguments.Request.{argument_bytes_of};
 ghost use Rattle.reviver_runner.specs.Program.{program, LeavesFor, ReviverRunsWhole};
 ghost use Rattle.reviver_runner.specs.Arguments.{ReviverArgumentsAreTaken};
 

@@ -2,6 +2,7 @@
 ghost use Rattle.std.specs.Prelude.{◌≡◌, ◌≤◌, ◌<◌, length, map, string_bytes, true};
 ghost use Rattle.std.specs.VecDeque.{deque_len, deque_capacity};
 ghost use Rattle.child_engine.specs.Hosts.{HostIsUnused, IsStarted};
+ghost use Rattle.child_engine.specs.Places.{log_file};
 ghost use Rattle.program_lifecycle.specs.Asked.{AsksFor, AsksMore};
 ghost use Rattle.program_lifecycle.specs.Outside.{outside_of};
 ghost use Rattle.reviver_runner.specs.Parts.{IsMade};
@@ -10,7 +11,7 @@ ghost use Rattle.reviver_runner.specs.Ran.{MayRun, ReviverLeaves};
 use crate::closing::close_everything;
 use crate::outcome::{LivesOutcome, run_opened};
 use crate::starting::{ReadyLives, start};
-use child_engine::{ClosableSink, Host};
+use child_engine::{ClosableSink, Host, LogPlace};
 use line_io::{Sink, Source};
 use program_command_line::EngineRequest;
 use program_lifecycle::{
@@ -45,10 +46,11 @@ where
         (outside_of I.state O.state H.faults H.ledger interface.old host.old)
         (outside_of I.state O.state H.faults H.ledger interface.new host.new)
         result }
-    ensures asked { AsksMore (map string_bytes ready.runs.arguments.items) log_name.now
+    ensures asked { AsksMore (map string_bytes ready.runs.arguments.items)
+        (log_file log_name.now)
         (H.asked host.old) (H.asked host.new) (H.ledger host.old) (H.ledger host.new) result }
 {
-    let Opened { log, fault } = open_log(host, alloc, log_name);
+    let Opened { log, fault } = open_log(host, alloc, &LogPlace::File(log_name));
     let LivesOutcome {
         end,
         ended,
@@ -96,7 +98,8 @@ where
         (outside_of I.state O.state H.faults H.ledger interface.old host.old)
         (outside_of I.state O.state H.faults H.ledger interface.new host.new)
         result }
-    ensures asked { AsksFor (map string_bytes request.engine.items) (string_bytes request.log_name)
+    ensures asked { AsksFor (map string_bytes request.engine.items)
+        (log_file (string_bytes request.log_name))
         (H.asked host.old) (H.asked host.new) (H.ledger host.new) result }
 {
     let EngineRequest { log_name, engine } = request;

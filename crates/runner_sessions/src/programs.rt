@@ -43,7 +43,7 @@ where
     status.code
 }
 
-/// Runs a program on the words between commas, and gives its status.
+/// Runs a program on the arguments between commas, and gives its status.
 pub fn run_program<
     I: Source + Send,
     O: ClosableSink + Send,

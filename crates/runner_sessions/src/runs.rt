@@ -6,7 +6,7 @@ use crate::expected::{expect_bytes, expect_true};
 use crate::programs::{Program, run_program};
 use crate::rows::{cut, three_of};
 use crate::streams::sink;
-use child_engine::{Fails, MemHost};
+use child_engine::{Fails, LogPlace, MemHost};
 use paced_host::{DueText, PacedHost, PacedTexts};
 use program_lifecycle::Interface;
 use std::alloc::Global;
@@ -67,7 +67,7 @@ fn expect_status(rt: &impl Abort, row: &str, found: u8, field: &str) {
     expect_true(rt, row, found == wanted);
 }
 
-/// A row: its whole text, the words between commas, the call that fails, the status, the output and
+/// A row: its whole text, the arguments between commas, the call that fails, the status, the output and
 /// the diagnostic.
 #[derive(Clone, Copy)]
 struct RunRow<'a> {
@@ -174,7 +174,7 @@ pub fn expect_runs<R: Threads + Wait + Sync + Abort>(
 // Expects that a host has this log alone, and was asked for so many engines of one argument.
 fn expect_kept(rt: &impl Abort, row: &str, host: &PacedHost, log: &WholeLog) {
     expect_bytes(rt, row, host.logged(), log.text);
-    let was_asked = host.was_asked_for(log.engines, &["engine", "-x y"], log.name);
+    let was_asked = host.was_asked_for(log.engines, &["engine", "-x y"], &LogPlace::File(log.name));
     expect_true(rt, row, was_asked);
 }
 

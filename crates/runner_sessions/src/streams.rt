@@ -1,4 +1,4 @@
-// Sources and sinks in memory, and words.
+// Sources and sinks in memory, and arguments.
 ghost use Rattle.std.specs.Prelude.{◌<◌};
 
 use line_io::{MemSink, MemSource};
@@ -31,7 +31,7 @@ pub fn letters_before(rt: &impl Abort, alloc: Global, letters: usize, bytes: &[u
     line
 }
 
-/// The words between commas; of no text, no word. `\xff` stands for the byte, which is no text.
+/// The arguments between commas; of no text, no argument. `\xff` stands for the byte, which is no text.
 pub fn words_of(rt: &impl Abort, alloc: Global, text: &str) -> Vec<Vec<u8>> {
     let mut arguments: Vec<Vec<u8>> = Vec::new(alloc);
     if text.is_empty() {

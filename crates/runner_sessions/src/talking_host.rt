@@ -4,7 +4,7 @@ ghost use Rattle.child_engine.specs.Hosts.{unused_ledger};
 ghost use Rattle.runner_sessions.specs.Talking.{ledger_with};
 
 use crate::paced_sink::PacedSink;
-use child_engine::{Faults, Host, HostFault, Started};
+use child_engine::{Faults, Host, HostFault, LogPlace, Started};
 use line_io::Failed;
 use paced_host::{DueText, PacedTexts};
 use std::alloc::Global;
@@ -91,7 +91,7 @@ impl<'a> Host for TalkingHost<'a> {
         })
     }
 
-    fn open_log(&mut self, alloc: Global, _name: &str) -> Result<PacedSink<'a>, HostFault> {
+    fn open_log(&mut self, alloc: Global, _place: &LogPlace) -> Result<PacedSink<'a>, HostFault> {
         self.logs_out += 1;
         Ok(PacedSink::ready(alloc, self.written, self.mark))
     }

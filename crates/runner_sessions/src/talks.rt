@@ -17,7 +17,7 @@ use std::sync::Wait;
 use std::sync::atomic::AtomicU64;
 use std::thread::Threads;
 
-/// The words between commas; what the interface says, and the engine in each life; then the status,
+/// The arguments between commas; what the interface says, and the engine in each life; then the status,
 /// the diagnostic and the log. Each text comes once so many pieces were written: all those to both
 /// peers, and those of the log that end with the mark.
 #[derive(Clone, Copy)]

@@ -87,7 +87,7 @@ goes_pawn p from to promotion h e = subst (λ (k : Kind). MayGo p k from to) e h
 piece_pawn : (p : Position) (from to : ℕ) (promotion : Option Kind) (h : IsLegal p from to promotion) → h.piece ≡ Pawn → piece_at p.pieces from ≡ Some (p.side, Pawn)
 piece_pawn p from to promotion h e = h.occupant ∙ ap (λ k. Some (p.side, k)) e
 
--- whether a pawn leaves its file
+-- true if a pawn leaves its file
 takes_by : (empty leaves : Bool) → (not empty || (true && not leaves)) ≡ false → (empty ≡ true) × (leaves ≡ true)
 takes_by true true e = (refl, refl)
 takes_by true false e = cc

@@ -27,7 +27,7 @@ contains_at p y ys x (suc k) l g e ih =
     let below = ih x (k, omega arith, g) e in
     elim (p y) as (λ v. Contains (cond v (y ∷ filter p ys) (filter p ys)) x) [ true ↦ (suc below.0, omega (arith, below.1), below.2) | false ↦ below ]
 
--- what passes is kept
+-- a move that passes is kept
 pub passes_stay : (p : Move → Bool) (xs : List Move) (x : Move) → Contains xs x → p x ≡ true → Contains (filter p xs) x
 passes_stay p [] x c e = absurd (omega (arith, c.1))
 passes_stay p (y ∷ ys) x c e = contains_at p y ys x c.0 c.1 c.2 e (passes_stay p ys)
@@ -82,7 +82,7 @@ two_found p xs i m found l e t inv some ordered =
 pub all_found : (p : Move → Bool) (xs : List Move) (i : ℕ) (found : Option Move) → length xs ≤ i → filter p (take i xs) ≡ found_list found → filter p xs ≡ found_list found
 all_found p xs i found l e = ap (λ (ys : List Move). filter p ys) (sym (take_all i xs l)) ∙ e
 
--- what is read at the end
+-- the reading at the end
 pub read_end : (p : Position) (text : List ℕ) (s : SanSpelling) (xs : List Move) (found : Option Move) → spelling_of_san text ≡ Some s → ((m : Move) → Contains xs m ↔ IsLegal p m.from.index m.to.index m.promotion) → filter (agrees p s) xs ≡ found_list found → SanReads p text (ok_or found NoFit)
 read_end p text s xs None e each f = (
   subst (λ (o : Option SanSpelling). SanIsSpelled o) (sym e) tt,

@@ -101,7 +101,7 @@ body_by false false p m mark s l h sign =
 text_is : (p : Position) (m : Move) → body p m ≡ cond (castles_short p m) (79 ∷ 45 ∷ 79 ∷ []) (cond (castles_long p m) (79 ∷ 45 ∷ 79 ∷ 45 ∷ 79 ∷ []) (piece_text p m))
 text_is p m = ap (λ o. cond (castles_short p m) (79 ∷ 45 ∷ 79 ∷ []) (cond (castles_long p m) (79 ∷ 45 ∷ 79 ∷ 45 ∷ 79 ∷ []) (letter (kind_at p m.from.index) ++ (o ++ tail (move_captures p m) (file_of m.to.index) (rank_of_square m.to.index) m.promotion)))) (origin_is p m)
 
--- what is written is read as the move's spelling
+-- the written text is read as the move's spelling
 pub spelled_is : (p : Position) (m : Move) (text : List ℕ) → IsLegal p m.from.index m.to.index m.promotion → IsSan p m text → spelling_of_san text ≡ Some (spelling_of p m)
 spelled_is p m text h w =
     ap spelling_of_san (w.whole ∙ ap (λ b. b ++ w.mark) (text_is p m)) ∙ body_by (castles_short p m) (castles_long p m) p m w.mark refl refl h (mark_is (position_after_move p m) w.mark w.fits)
@@ -116,7 +116,7 @@ read_back p m text h w =
 pub texts_differ : TextsDiffer
 texts_differ p a b text h i v w = (read_back p b text i w).1 a (read_back p a text h v).0
 
--- what a text that was written is read as
+-- the reading of a text that was written
 pub read_written : (p : Position) (m : Move) (text : List ℕ) (result : Result Move SanFault) → IsLegal p m.from.index m.to.index m.promotion → IsSan p m text → SanReads p text result → result ≡ Ok m
 read_written p m text (Ok n) h w r = ap (λ x. Ok x) ((read_back p m text h w).1 n r.0)
 read_written p m text (Err BadSan) h w r = cc (spelled_is p m text h w, r)

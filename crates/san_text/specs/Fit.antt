@@ -56,7 +56,7 @@ SanReads p text (Err NoFit) = SanIsSpelled (spelling_of_san text) × ((n : Move)
 SanReads p text (Err Ambiguous) =
     (a : Move) × ((b : Move) × (MoveFitsSan p text a × MoveFitsSan p text b × (a ≢ b)))
 
--- what is written of a legal move fits it alone, so reading it gives the move back
+-- the text of a legal move fits it alone, so reading it gives the move back
 abbrev pub IsReadBack : Type 0
 IsReadBack =
     (p : Position) (m : Move) (text : List ℕ) → IsLegal p m.from.index m.to.index m.promotion

@@ -44,7 +44,7 @@ pub record IsLongForm (p : Position) (m : Move) (text : List ℕ) : Type 0 where
 abbrev pub FitsLong : Position → List ℕ → Move → Type 0
 FitsLong p text m = IsLegal p m.from.index m.to.index m.promotion × IsLongForm p m (unmarked text)
 
--- what a text is read as: the one legal move that fits, or none if none does
+-- the reading of a text: the one legal move that fits, or none if none does
 abbrev pub IsLongRead : Position → List ℕ → Option Move → Type 0
 IsLongRead p text None = (m : Move) → FitsLong p text m → ⊥
 IsLongRead p text (Some m) = FitsLong p text m × ((n : Move) → FitsLong p text n → n ≡ m)
@@ -75,7 +75,7 @@ way_read (f ∷ r ∷ link ∷ rest) =
     if is_link link then way_from (file_named f) (rank_named r) (square_read rest) else None
 way_read _ = None
 
--- whether a piece of such a kind may legally go so
+-- true if a piece of such a kind may legally go so
 abbrev pub may_move : Position → Kind → Way → Bool
 may_move p occupant way =
     same_san_kind (kind_at p way.from) occupant && is_legal p way.from way.target.to way.target.promotion

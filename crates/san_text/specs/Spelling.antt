@@ -17,7 +17,7 @@ pub record Target : Type 0 where
   pub to : ℕ
   pub promotion : Option Kind
 
--- what a text says: castling, or a piece's kind, its file and rank if they are
+-- the meaning of a text: castling, or a piece's kind, its file and rank if they are
 -- given, and the square reached
 pub data SanSpelling : Type 0 where
   Short : SanSpelling
@@ -135,7 +135,7 @@ abbrev pub read_unmarked : List ℕ → Option SanSpelling
 read_unmarked text =
     if is_short text then Some Short else (if is_long_castling text then Some Long else piece_read text)
 
--- what the text spells
+-- the moves that the text spells
 abbrev pub spelling_of_san : List ℕ → Option SanSpelling
 spelling_of_san text = read_unmarked (unmarked text)
 

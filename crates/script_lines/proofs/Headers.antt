@@ -14,17 +14,17 @@ use Rattle.protocol_tokens.specs.Tokens.{is_white, is_token, rest_after_token, t
 use Rattle.protocol_tokens.proofs.TokenLists.{tokens_more, tokens_alone, tokens_some}
 use Rattle.protocol_tokens.proofs.Written.{decimal_digits, digits_decimal}
 use Rattle.protocol_tokens.proofs.Runs.{all_of}
-use Rattle.policy_rules.specs.declared.settings.Settings.{Settings}
-use Rattle.policy_rules.specs.declared.table.Setting.{Setting}
-use Rattle.policy_rules.specs.declared.table.Setting.TheVariants as names
-use Rattle.policy_rules.specs.declared.table.Range.{Range}
-use Rattle.policy_rules.specs.declared.table.Range.TheVariants as ranges
-use Rattle.policy_rules.specs.declared.table.Value.{Value}
-use Rattle.policy_rules.specs.declared.table.Value.TheVariants.{Truth, Number}
-use Rattle.policy_rules.specs.declared.table.Choice.{Choice}
-use Rattle.policy_rules.specs.Policy.{IsProper, usual}
-use Rattle.policy_rules.specs.Table.{IsWithinRange, first_settings, has_usual_rest, is_same_value, is_usual, is_usual_in, later_settings, name_of, other_settings, range_of_setting, settings, stated_settings, truth_text, setting_value, setting_value_text, settings_with_value, unusual_in, with_choice}
-use Rattle.policy_rules.specs.Words.{choice_at, choice_for, choice_of, choices_of, range_value, with_choices, with_first, within}
+use Rattle.policy_rules.specs.declared.setting_rules.settings.Settings.{Settings}
+use Rattle.policy_rules.specs.declared.setting_rules.table.Setting.{Setting}
+use Rattle.policy_rules.specs.declared.setting_rules.table.Setting.TheVariants as names
+use Rattle.policy_rules.specs.declared.setting_rules.table.Range.{Range}
+use Rattle.policy_rules.specs.declared.setting_rules.table.Range.TheVariants as ranges
+use Rattle.policy_rules.specs.declared.setting_rules.table.Value.{Value}
+use Rattle.policy_rules.specs.declared.setting_rules.table.Value.TheVariants.{Truth, Number}
+use Rattle.policy_rules.specs.declared.setting_rules.table.Choice.{Choice}
+use Rattle.policy_rules.specs.SettingRules.Policy.{IsProper, usual}
+use Rattle.policy_rules.specs.SettingRules.Table.{IsWithinRange, first_settings, has_usual_rest, is_same_value, is_usual, is_usual_in, later_settings, name_of, other_settings, range_of_setting, settings, stated_settings, truth_text, setting_value, setting_value_text, settings_with_value, unusual_in, with_choice}
+use Rattle.policy_rules.specs.SettingRules.Words.{choice_at, choice_for, choice_of, choices_of, range_value, with_choices, with_first, within}
 use Rattle.script_lines.specs.Header.{SpellsHeader, header_of, header_text, header_with, if_written, header_settings_in, setting_word_of, stated_in, unusual_text, words_text}
 use Rattle.script_lines.proofs.Numerals.{same_text}
 use Rattle.script_lines.specs.declared.header.TheConstants.{HEADER_ROOM}
@@ -35,6 +35,7 @@ use Rattle.std.proofs.lemmas.Grind.{flat_map-append}
 pub is_within : (s : Settings) → IsProper s → (r : Setting) → IsWithinRange (range_of_setting r) (setting_value s r)
 is_within s p names.ResignMoves = (p.some_moves, p.few_moves)
 is_within s p names.ResignScore = (omega arith, p.low_score)
+is_within s p names.TimeMargin = (omega arith, p.short_margin)
 is_within s p r = tt
 
 -- a number has at most six digits
@@ -45,6 +46,7 @@ IsSmall (Number n) = n < 10 ^ 6
 pub is_small : (s : Settings) → IsProper s → (r : Setting) → IsSmall (setting_value s r)
 is_small s p names.ResignMoves = let m = p.few_moves in omega arith
 is_small s p names.ResignScore = let m = p.low_score in omega arith
+is_small s p names.TimeMargin = let m = p.short_margin in omega arith
 is_small s p r = tt
 
 in_range : (low high n : ℕ) → low ≤ n → n ≤ high → (nat_le low n && nat_le n high) ≡ true
@@ -250,12 +252,14 @@ short_truth false = omega arith
 abbrev most_value : Setting → ℕ
 most_value names.ResignMoves = 4
 most_value names.ResignScore = 6
+most_value names.TimeMargin = 5
 most_value r = 5
 
 short_value : (s : Settings) → IsProper s → (r : Setting) → length (setting_value_text (setting_value s r)) ≤ most_value r
 short_value s p names.Resign = short_truth s.resign
 short_value s p names.ResignMoves = length-decimal-le 4 s.resign_moves (lit< tt) (let m = p.few_moves in omega arith) (omega arith)
 short_value s p names.ResignScore = length-decimal-le 6 s.resign_score (lit< tt) (let m = p.low_score in omega arith) (omega arith)
+short_value s p names.TimeMargin = length-decimal-le 5 s.time_margin (lit< tt) (let m = p.short_margin in omega arith) (omega arith)
 short_value s p r = short_truth _
 
 abbrev most_words : List Setting → ℕ

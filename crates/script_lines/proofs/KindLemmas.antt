@@ -7,14 +7,14 @@ use Rattle.std.proofs.lemmas.Bool.Decides.{nat_tests}
 use Rattle.std.proofs.lemmas.Bool.{or_from, and_parts}
 use Rattle.protocol_tokens.proofs.Written.{decimal_digits}
 use Rattle.line_io.specs.Event.{has_feed}
-use Rattle.policy_rules.specs.declared.settings.Settings.{Settings}
-use Rattle.policy_rules.specs.Policy.{IsProper}
+use Rattle.policy_rules.specs.declared.setting_rules.settings.Settings.{Settings}
+use Rattle.policy_rules.specs.SettingRules.Policy.{IsProper}
 use Rattle.script_lines.specs.Marks.{SpellsNone, mark_spelled}
-use Rattle.policy_rules.specs.declared.table.Setting.{Setting}
-use Rattle.policy_rules.specs.declared.table.Setting.TheVariants as names
-use Rattle.policy_rules.specs.declared.table.Value.{Value}
-use Rattle.policy_rules.specs.declared.table.Value.TheVariants.{Truth, Number}
-use Rattle.policy_rules.specs.Table.{first_settings, has_usual_rest, name_of, truth_text, setting_value, setting_value_text}
+use Rattle.policy_rules.specs.declared.setting_rules.table.Setting.{Setting}
+use Rattle.policy_rules.specs.declared.setting_rules.table.Setting.TheVariants as names
+use Rattle.policy_rules.specs.declared.setting_rules.table.Value.{Value}
+use Rattle.policy_rules.specs.declared.setting_rules.table.Value.TheVariants.{Truth, Number}
+use Rattle.policy_rules.specs.SettingRules.Table.{first_settings, has_usual_rest, name_of, truth_text, setting_value, setting_value_text}
 use Rattle.script_lines.specs.Header.{header_text, setting_word_of, stated_in, words_text}
 use Rattle.script_lines.specs.StepLine.{step_number_line}
 use Rattle.script_lines.specs.Kinds.{LinesAreOfOneKind, HeadersAreLines, StepLinesAreLines}

@@ -5,13 +5,13 @@ use Rattle.std.specs.Option.{option_map}
 use Rattle.std.specs.Str.{bytes_eq}
 use Rattle.protocol_tokens.specs.Bytes.{blank, equals}
 use Rattle.protocol_tokens.specs.Tokens.{rest_after_token, tokens}
-use Rattle.policy_rules.specs.declared.settings.Settings.{Settings}
-use Rattle.policy_rules.specs.declared.table.Setting.{Setting}
-use Rattle.policy_rules.specs.Policy.{IsProper, usual}
-use Rattle.policy_rules.specs.Table.{first_settings, has_usual_rest, later_settings, name_of}
-use Rattle.policy_rules.specs.Table.{setting_value, setting_value_text}
-use Rattle.policy_rules.specs.Table.{stated_settings, unusual_in}
-use Rattle.policy_rules.specs.Words.{choices_of, with_choices}
+use Rattle.policy_rules.specs.declared.setting_rules.settings.Settings.{Settings}
+use Rattle.policy_rules.specs.declared.setting_rules.table.Setting.{Setting}
+use Rattle.policy_rules.specs.SettingRules.Policy.{IsProper, usual}
+use Rattle.policy_rules.specs.SettingRules.Table.{first_settings, has_usual_rest, later_settings, name_of}
+use Rattle.policy_rules.specs.SettingRules.Table.{setting_value, setting_value_text}
+use Rattle.policy_rules.specs.SettingRules.Table.{stated_settings, unusual_in}
+use Rattle.policy_rules.specs.SettingRules.Words.{choices_of, with_choices}
 
 -- the word NAME=VALUE of a setting
 abbrev pub setting_word_of : Settings → Setting → List ℕ

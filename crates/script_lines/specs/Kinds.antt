@@ -1,8 +1,8 @@
 -- The kinds of lines in a script: marks, step lines and headers.
 use Rattle.std.specs.Prelude.{◌≡◌, ℕ, ◌<◌, ◌≤◌, ◌^◌, List, length, false}
 use Rattle.line_io.specs.Event.{has_feed}
-use Rattle.policy_rules.specs.declared.settings.Settings.{Settings}
-use Rattle.policy_rules.specs.Policy.{IsProper}
+use Rattle.policy_rules.specs.declared.setting_rules.settings.Settings.{Settings}
+use Rattle.policy_rules.specs.SettingRules.Policy.{IsProper}
 use Rattle.script_lines.specs.Header.{SpellsHeader, header_text}
 use Rattle.script_lines.specs.Marks.{SpellsNone}
 use Rattle.script_lines.specs.StepLine.{SpellsStep, step_number_line}

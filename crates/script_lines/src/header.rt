@@ -3,9 +3,9 @@ ghost use Rattle.std.specs.Prelude.{◌≡◌, ◌≤◌, ◌+◌, ◌↔◌, �
 ghost use Rattle.line_io.specs.Out.{with};
 ghost use Rattle.protocol_tokens.specs.Bytes.{blank};
 ghost use Rattle.protocol_tokens.specs.Tokens.{tokens};
-ghost use Rattle.policy_rules.specs.declared.settings.Settings.{Settings as SomeSettings};
-ghost use Rattle.policy_rules.specs.Policy.{IsProper};
-ghost use Rattle.policy_rules.specs.Table.{truth_text, setting_value_text};
+ghost use Rattle.policy_rules.specs.declared.setting_rules.settings.Settings.{Settings as SomeSettings};
+ghost use Rattle.policy_rules.specs.SettingRules.Policy.{IsProper};
+ghost use Rattle.policy_rules.specs.SettingRules.Table.{truth_text, setting_value_text};
 ghost use Rattle.script_lines.specs.Header.{SpellsHeader, header_of, header_text, header_with, header_settings_in, setting_word_of, unusual_text, words_text};
 ghost use Rattle.script_lines.specs.declared.header.TheConstants.{HEADER_ROOM};
 

@@ -9,7 +9,7 @@ use Rattle.line_io.specs.Lines.{Piece}
 use Rattle.line_io.specs.Out.{Text, empty}
 use Rattle.line_io.specs.Source.{Received, TakesPrefix}
 use Rattle.line_io.specs.LineConsumers.{ConsumerThen}
-use Rattle.policy_rules.specs.declared.settings.Settings.{Settings}
+use Rattle.policy_rules.specs.declared.setting_rules.settings.Settings.{Settings}
 use Rattle.adapter_core.specs.Parts.{CoreParts}
 use Rattle.replay_command_base.specs.declared.ending.Ending.{Ending}
 use Rattle.replay_command_base.specs.declared.ending.Ending.TheVariants as endings
@@ -43,14 +43,14 @@ pub took_more : (o : Settings) (lines : List Piece) (p : Piece) (core : CorePart
 took_more o [] p core stage text before after x = x
 took_more o (l ∷ ls) p core stage text before after x = x
 
--- what a line came to
+-- the outcome of a line
 pub came_by : (o : Settings) (lines : List Piece) (p : Piece) (answer : Option Ending) (player : Player) (before after : Received)
     → LinePlayed o (lines ++ p ∷ []) answer player.core player.stage player.text.text before after → ReplayMayGoOn player → after.faults ≡ before.faults
     → ReplayAfterLine o (lines ++ p ∷ []) answer player before after
 came_by o lines p None player before after x may same = record { took = took_more o lines p player.core player.stage player.text.text before after x; may = may; no_failure = same }
 came_by o lines p (Some f) player before after x may same = record { halts = inr (record { is_fault = x.0; scripted = x.1; no_failure = same }); may = may }
 
--- what was replayed is a script that was written but for the rest
+-- the replayed lines are a script that was written but for the rest
 pub scripted_by : (o : Settings) (lines : List Piece) (core : CoreParts) (stage : ScriptStage) (text : List ℕ) (before after : Received) → Playing o lines core stage text before after → OutputIsScript o lines text before after
 scripted_by o lines core stage text before after p = record { trace = p.trace; lawful = p.lawful; short = p.short; events_are = p.events_are; written = p.written; appended = p.appended; script_is = p.script_is }
 
@@ -131,7 +131,7 @@ on_ok : {T E : Type 0} (r : Result T E) (P : Type 0) → OnOk r P → is_err r �
 on_ok (Ok v) P h e = h
 on_ok (Err x) P h e = cc
 
--- what a write did
+-- the effect of a write
 pub record Wrote {T E : Type 0} (r : Result T E) (old new : Player) (before after : Received) : Type 0 where
   pub ok : OnOk r (Appends before.taken after.taken old.text.text × (new ≡ player_with_text old (empty old.text.room)))
   pub err : OnErr r (TakesPrefix before.taken after.taken old.text.text × (new ≡ old))
@@ -221,7 +221,7 @@ scripted_opened o lines old new before after e s b =
     let p = playing_opened o lines old new before after e s b in
     subst (λ (ls : List Piece). OutputIsScript o ls new.text.text before after) (sym p.0) (scripted_by o [] new.core new.stage new.text.text before after p.1)
 
--- what a line came to, as the driver asks for it
+-- the outcome of a line, as the driver asks for it
 pub then_by : {O : Type 0} (see : O → Received) (player0 : Player) (output0 : O) (pieces : List Piece) (result : Option Ending) (player : Player) (output : O)
     → ((o : Settings) → IsFresh o player0 → ReplayAfterLine o pieces result player (see output0) (see output)) → ConsumerThen (replays see) player0 output0 pieces result player output
 then_by see player0 output0 pieces None player output h = h

@@ -5,7 +5,7 @@ use Rattle.line_io.specs.Lines.{Piece, Whole, TooLong}
 use Rattle.line_io.specs.Out.{Text}
 use Rattle.line_io.specs.Source.{Received}
 use Rattle.script_lines.specs.Header.{header_of}
-use Rattle.policy_rules.specs.declared.settings.Settings.{Settings}
+use Rattle.policy_rules.specs.declared.setting_rules.settings.Settings.{Settings}
 use Rattle.adapter_core.specs.declared.ends.Ends.{Ends}
 use Rattle.adapter_core.specs.Ends.{may}
 use Rattle.adapter_core.specs.Parts.{CoreParts}

@@ -11,7 +11,7 @@ use Rattle.script_lines.specs.StepLine.{step_number}
 use Rattle.script_lines.specs.StepText.{numbered_marks}
 use Rattle.script_lines.proofs.Numerals.{number_below, number_next}
 use Rattle.script_replay.specs.Stages.{IsNumbered}
-use Rattle.policy_rules.specs.declared.settings.Settings.{Settings}
+use Rattle.policy_rules.specs.declared.setting_rules.settings.Settings.{Settings}
 use Rattle.adapter_core.specs.declared.ends.Ends.{Ends}
 use Rattle.adapter_core.specs.Ends.{may, ends_after}
 use Rattle.adapter_core.specs.Trace.{Step, LawfulTrace, state, iface_text, engine_text}
@@ -226,7 +226,7 @@ module _ (o : Settings) (lines : List Piece) (core : CoreParts) (stage : ScriptS
   of_said Cannot core' stage' old new is_text is t =
       bad core' stage' old new (endings.MayNotCome number) is_text t (on_fault (endings.MayNotCome number) (ap (fault_said number) is) (ap (λ (y : LineSaid). events_said y []) is))
 
-  -- what the line said was done
+  -- the order of the line was carried out
   pub on_line : (core' : CoreParts) (stage' : ScriptStage) (old new : Text) (answer : Option Ending) → old.text ≡ text → answer ≡ fault_said number said → LineIsPlayed core stage old said core' stage' new
       → LinePlayed o more answer core' stage' new.text before after
   on_line core' stage' old new answer is_text e t = subst (λ (a : Option Ending). LinePlayed o more a core' stage' new.text before after) (sym e) (of_said said core' stage' old new is_text refl t)

@@ -8,7 +8,7 @@ use Rattle.line_io.specs.Source.{Received}
 use Rattle.script_lines.specs.Header.{header_text}
 use Rattle.script_lines.specs.StepLine.{step_number}
 use Rattle.script_lines.specs.StepText.{numbered_marks}
-use Rattle.policy_rules.specs.declared.settings.Settings.{Settings}
+use Rattle.policy_rules.specs.declared.setting_rules.settings.Settings.{Settings}
 use Rattle.adapter_core.specs.Trace.{Step, LawfulTrace, iface_text, engine_text}
 use Rattle.adapter_core.specs.Parts.{CoreParts}
 use Rattle.adapter_core.specs.Represents.{Represents}
@@ -45,7 +45,7 @@ pub record StepIsPut (stage : ScriptStage) (old new : CoreParts) (e : Event)
   pub put : text_new ≡ with text_old (step_text_at stage step)
   pub short : IsShortStep step
 
--- what a line said was done
+-- the order of a line was carried out
 abbrev pub LineIsPlayed : CoreParts → ScriptStage → Text → LineSaid → CoreParts → ScriptStage → Text
     → Type 0
 LineIsPlayed core stage text (Comes e) core' stage' text' =
@@ -115,7 +115,7 @@ pub record OutputIsScript (o : Settings) (lines : List Piece) (unwritten : List 
   pub appended : Appends before.taken after.taken written
   pub script_is : written ++ unwritten ≡ script_by (version_in lines) trace
 
--- what a line came to
+-- the outcome of a line
 abbrev pub LinePlayed : Settings → List Piece → Option Ending → CoreParts → ScriptStage → List ℕ
     → Received → Received → Type 0
 LinePlayed o lines None core stage text before after = Playing o lines core stage text before after

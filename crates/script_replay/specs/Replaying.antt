@@ -7,7 +7,7 @@ use Rattle.line_io.specs.Lines.{Piece}
 use Rattle.line_io.specs.Out.{Text, empty}
 use Rattle.line_io.specs.Source.{Received}
 use Rattle.line_io.specs.LineConsumers.{ConsumerMeaning}
-use Rattle.policy_rules.specs.declared.settings.Settings.{Settings}
+use Rattle.policy_rules.specs.declared.setting_rules.settings.Settings.{Settings}
 use Rattle.adapter_core.specs.Trace.{Step, LawfulTrace}
 use Rattle.adapter_core.specs.Represents.{Represents}
 use Rattle.trace_scripts.specs.Script.{events}
@@ -66,12 +66,12 @@ pub record ReplayHalted (o : Settings) (ending : Ending) (lines : List Piece) (p
       ⊎ ReplayFaulted o ending lines player.text.text before after
   pub may : ReplayMayGoOn player
 
--- what a line came to
+-- the outcome of a line
 abbrev pub ReplayAfterLine : Settings → List Piece → Option Ending → Player → Received → Received → Type 0
 ReplayAfterLine o lines None player before after = ReplayStood o lines player before after
 ReplayAfterLine o lines (Some ending) player before after = ReplayHalted o ending lines player before after
 
--- what is left was written, and this is the ending, or writing failed
+-- the rest was written, and this is the ending, or writing failed
 abbrev pub ReplayFinished : Settings → List Piece → Ending → Ending → Received → Received → Type 0
 ReplayFinished o lines ending answer before after =
     ((answer ≡ ending) × OutputIsScript o lines [] before after × (after.faults ≡ before.faults))
@@ -88,7 +88,7 @@ abbrev pub is_cut : Ending → Bool
 is_cut endings.WritingFailed = true
 is_cut e = false
 
--- what a replay of lines means
+-- the meaning of a replay of lines
 abbrev pub replays : {O : Type 0} → (O → Received) → ConsumerMeaning Player O Ending
 replays {O} see = record {
   took =

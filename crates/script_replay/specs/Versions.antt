@@ -2,7 +2,7 @@
 use Rattle.std.specs.Prelude.{ℕ, ◌+◌, ◌==◌, List, [], ◌∷◌, if◌then◌else◌, Option, Some, None}
 use Rattle.line_io.specs.Event.{Event, Open}
 use Rattle.line_io.specs.Lines.{Piece, Whole, TooLong}
-use Rattle.policy_rules.specs.declared.settings.Settings.{Settings}
+use Rattle.policy_rules.specs.declared.setting_rules.settings.Settings.{Settings}
 use Rattle.script_lines.specs.Header.{header_of}
 use Rattle.script_lines.specs.Marks.{Mark, Happens, mark_spelled}
 use Rattle.script_lines.specs.StepLine.{step_number, step_of}
@@ -77,7 +77,7 @@ pub record ScriptPlace : Type 0 where
   pub stage : ScriptStage
   pub ends : Ends
 
--- what a line says there: an event that may come, a line that was written, the number of the
+-- the meaning of a line there: an event that may come, a line that was written, the number of the
 -- step that comes, or a fault
 pub data LineSaid : Type 0 where
   Comes : (event : Event) → LineSaid

@@ -48,7 +48,7 @@ not_false : (b : Bool) → false ≡ not b → b ≡ true
 not_false true e = refl
 not_false false e = cc e
 
--- what is found for each word, where the answers for one have one more
+-- the answers that are found for each word, if those for one have one more
 more_by : (same : Bool) (w v : List ℕ) (ws : List (List ℕ)) (xs : List Queue) (q : Queue) (text : List ℕ) → bytes_eq w v ≡ same → q ≡ queue_with_text (find w ws xs) text
     → cond (bytes_eq v w) q (find v ws xs) ≡ cond (bytes_eq w v) (queue_with_text (find v ws xs) text) (find v ws xs)
 more_by true w v ws xs q text e h = rw (e, eq_sym v w ∙ e) (h ∙ ap (λ x. queue_with_text (find x ws xs) text) (same_word w v e))

@@ -48,7 +48,7 @@ here_again : {A : Type 0} (p : Bool) (q x z : A) → cond p q z ≡ cond p q (co
 here_again true q x z = refl
 here_again false q x z = refl
 
--- what is found once the answers for one word are others
+-- the answers that are found once those for one word are others
 set_by : (same : Bool) (w u v : List ℕ) (us : List (List ℕ)) (x : Queue) (xs : List Queue) (q : Queue) → bytes_eq w u ≡ same → place_of w (u ∷ us) < suc (length us)
     → (place_of w us < length us → find v us (set xs (place_of w us) q) ≡ cond (bytes_eq v w) q (find v us xs))
     → find v (u ∷ us) (set (x ∷ xs) (place_of w (u ∷ us)) q) ≡ cond (bytes_eq v w) q (find v (u ∷ us) (x ∷ xs))
@@ -74,7 +74,7 @@ here_by true w u us x d xs e h ih = ap (λ i. get_or (x ∷ xs) i d) (place_here
 here_by false w u us x d xs e h ih =
     let later = place_later w u us e in ap (λ i. get_or (x ∷ xs) i d) later ∙ ih (omega (arith, later)) ∙ sym (ap (λ b. cond b x (find w us xs)) e)
 
--- what stands at the place of a word is what is found
+-- the answers at the place of a word are those that are found
 pub find_here : (w : List ℕ) (ws : List (List ℕ)) (xs : List Queue) (d : Queue) → length ws ≡ length xs → place_of w ws < length ws → get_or xs (place_of w ws) d ≡ find w ws xs
 find_here w [] xs d n h = absurd (omega (arith, h))
 find_here w (u ∷ us) [] d n h = absurd (omega (arith, n))
@@ -99,7 +99,7 @@ push_by false w u v us x xs q e h ih =
     let later = place_later w u us e in
     ap (λ (r : Queue). cond (bytes_eq v u) x r) (ih (omega (arith, h, later))) ∙ swapped (bytes_eq v u) (bytes_eq v w) x q (find v us xs) (apart v u w e)
 
--- what is found once a word was added that was not there
+-- the answers that are found once a word was added that was not there
 pub find_push : (w v : List ℕ) (ws : List (List ℕ)) (xs : List Queue) (q : Queue) → length ws ≡ length xs → place_of w ws ≡ length ws → find v (ws ++ w ∷ []) (xs ++ q ∷ []) ≡ cond (bytes_eq v w) q (find v ws xs)
 find_push w v [] [] q n h = refl
 find_push w v [] (x ∷ xs) q n h = absurd (omega (arith, n))

@@ -81,7 +81,7 @@ pub record AnswersAll (blocks : List Block) (old new : Supplied)
   pub at_end : ended ≡ true → IsOver old new
   pub at_quit : ended ≡ false → has_quit_line (until_quit (items PEER_LINE heard)) ≡ true
 
--- what is written is a prefix of all answers, whatever is left after them, and nothing is
+-- the written bytes are a prefix of all answers, whatever is left after them, and nothing is
 -- left if the end was seen
 pub record AnswersPrefix (blocks : List Block) (old new : Supplied)
     (heard replied : List ℕ) : Type 0 where
@@ -95,7 +95,7 @@ pub record AnswersWhole (blocks : List Block) (heard replied : List ℕ) : Type 
   pub all : replied ≡ scripted_replies blocks (whole PEER_LINE heard)
   pub no_quit : has_quit_line (until_quit (whole PEER_LINE heard)) ≡ false
 
--- what the file and the input show, and the output
+-- the reports of the file, the input and the output
 pub record ScriptedStreams : Type 0 where
   pub file : Supplied
   pub input : Supplied

@@ -46,7 +46,7 @@ pub record ScriptedHalted (stop : Stop) (blocks : List Block) (pieces : List Pie
   pub took : Appends output0.taken output.taken replied
   pub stops : StopsBy stop blocks pieces replied output0 output
 
--- what answers to lines are
+-- the answers to lines
 abbrev pub answers_of : {O : Type 0} → (O → Received) → ConsumerMeaning ScriptedAnswers O Stop
 answers_of {O} see = record {
   took =

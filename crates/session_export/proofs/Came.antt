@@ -4,7 +4,7 @@ use Rattle.line_io.specs.Event.{Open}
 use Rattle.line_io.specs.Lines.{Piece, Whole, TooLong}
 use Rattle.line_io.specs.Out.{Text}
 use Rattle.script_lines.specs.Header.{header_of}
-use Rattle.policy_rules.specs.declared.settings.Settings.{Settings}
+use Rattle.policy_rules.specs.declared.setting_rules.settings.Settings.{Settings}
 use Rattle.game_record.specs.Game.{Game}
 use Rattle.adapter_core.specs.Trace.{Step, LawfulTrace}
 use Rattle.adapter_core.specs.Parts.{CoreParts}
@@ -105,7 +105,7 @@ module _ {T : Type 0} (means : Exporting T) where
   says_fault o lines (endings.MayNotCome n) text h = h
   says_fault o lines f text h = absurd (script_has lines f h.0)
 
-  -- what a line came to, as a run asks for it
+  -- the outcome of a line, as a run asks for it
   pub then_by : (w0 : SessionWriter T) (lines : List Piece) (answer : Option Ending) (w : SessionWriter T) (text : List ℕ)
       → ((o : Settings) → WriterIsUnused means o w0 → CameTo means o lines answer w text) → FilterThen (export_meaning means) w0 lines answer w text
   then_by w0 lines None w text h = h

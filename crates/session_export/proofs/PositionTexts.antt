@@ -1,7 +1,7 @@
 -- The export of a session is the text of its positions.
 use Rattle.std.proofs.Common.{◌≡◌, ℕ, List, [], ◌∷◌, ◌++◌, refl, ap, ◌∙◌, append-nil}
 use Rattle.line_io.specs.Lines.{Piece}
-use Rattle.policy_rules.specs.declared.settings.Settings.{Settings}
+use Rattle.policy_rules.specs.declared.setting_rules.settings.Settings.{Settings}
 use Rattle.adapter_core.specs.Trace.{Step}
 use Rattle.script_replay.specs.Versions.{settings_by, version_in}
 use Rattle.session_export.specs.Exporting.{event_lines, game_of, steps_text, exported_text}

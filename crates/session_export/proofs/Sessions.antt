@@ -4,7 +4,7 @@ use Rattle.line_io.specs.Event.{Event, Open}
 use Rattle.line_io.specs.Lines.{Piece}
 use Rattle.line_io.specs.Out.{Text, with}
 use Rattle.script_lines.specs.Header.{header_text}
-use Rattle.policy_rules.specs.declared.settings.Settings.{Settings}
+use Rattle.policy_rules.specs.declared.setting_rules.settings.Settings.{Settings}
 use Rattle.game_record.specs.Game.{Game}
 use Rattle.adapter_core.specs.Trace.{Step, LawfulTrace}
 use Rattle.adapter_core.specs.Parts.{CoreParts}
@@ -48,7 +48,7 @@ text_same : (text_of : Event → Option Game → Game → List ℕ) (e e' : Even
 text_same text_of e e' g g' h h' a b c =
     ap (λ (x : Event). text_of x g h) a ∙ ap (λ (x : Option Game). text_of e' x h) b ∙ ap (text_of e' g') c
 
--- what was put at Open is the text of the one session whose only event it is
+-- the text that was put at Open is that of the one session whose only event it is
 pub opened_text : {T : Type 0} (means : Exporting T) (q : Settings) (core core' : CoreParts) (put : List ℕ) (trace : List Step) → Represents q core [] → TakesStep (means.step_text 0) None core core' Open put → LawfulTrace q trace → events trace ≡ Open ∷ []
     → put ≡ steps_text means q (0 ∷ []) trace
 opened_text means q core core' put trace st s l announced =

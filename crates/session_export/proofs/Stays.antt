@@ -2,7 +2,7 @@
 use Rattle.std.proofs.Common.{◌≡◌, List, [], ◌∷◌, ◌++◌, refl, sym, ap, subst, ◌∙◌, append_assoc, append-nil}
 use Rattle.line_io.specs.Event.{Event, Open}
 use Rattle.line_io.specs.Lines.{Piece}
-use Rattle.policy_rules.specs.declared.settings.Settings.{Settings}
+use Rattle.policy_rules.specs.declared.setting_rules.settings.Settings.{Settings}
 use Rattle.game_record.specs.Game.{Game}
 use Rattle.adapter_core.specs.Trace.{Step, LawfulTrace}
 use Rattle.adapter_core.proofs.Unique.{unique}

@@ -1,7 +1,7 @@
 -- The export of a session is the text of its games.
 use Rattle.std.proofs.Common.{◌≡◌, ℕ, List, [], ◌∷◌, ◌++◌, length, refl, sym, ap, ◌∙◌, append_assoc, append-nil, arith}
 use Rattle.line_io.specs.Lines.{Piece}
-use Rattle.policy_rules.specs.declared.settings.Settings.{Settings}
+use Rattle.policy_rules.specs.declared.setting_rules.settings.Settings.{Settings}
 use Rattle.game_record.specs.Game.{Game}
 use Rattle.san_text.specs.GameText.{game_text}
 use Rattle.adapter_core.specs.Trace.{Step}

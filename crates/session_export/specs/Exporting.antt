@@ -4,7 +4,7 @@ use Rattle.line_io.specs.Event.{Event}
 use Rattle.line_io.specs.Lines.{Piece}
 use Rattle.chess_board.specs.Play.{start_position}
 use Rattle.game_record.specs.Game.{Game, game_from}
-use Rattle.policy_rules.specs.declared.settings.Settings.{Settings}
+use Rattle.policy_rules.specs.declared.setting_rules.settings.Settings.{Settings}
 use Rattle.adapter_core.specs.Trace.{Step, state}
 use Rattle.replay_command_base.specs.declared.ending.Ending.{Ending}
 use Rattle.script_replay.specs.Versions.{ScriptPlace, LineSaid, Comes, Passes, Starts}
@@ -70,7 +70,7 @@ steps_text means o (n ∷ numbers) (step ∷ trace) =
     ++ means.step_text n step.event (exported_game o trace) (game_of o (step ∷ trace))
 steps_text means o numbers trace = []
 
--- what is exported of the session of these lines, if this is its trace
+-- the export of the session of these lines, if this is its trace
 abbrev pub exported_text : {T : Type 0} → Exporting T → Settings → List Piece → List Step → List ℕ
 exported_text means o lines trace =
     steps_text means (settings_by (version_in lines) o) (event_lines lines) trace

@@ -2,7 +2,7 @@
 use Rattle.std.specs.Prelude.{◌≡◌, ℕ, List, []}
 use Rattle.chess_board.specs.Play.{start_position}
 use Rattle.game_record.specs.Game.{Game, game_from}
-use Rattle.policy_rules.specs.declared.settings.Settings.{Settings}
+use Rattle.policy_rules.specs.declared.setting_rules.settings.Settings.{Settings}
 use Rattle.adapter_core.specs.Trace.{Step}
 use Rattle.replay_command_base.specs.declared.ending.Ending.{Ending}
 use Rattle.replay_command_base.specs.declared.ending.Ending.TheVariants as endings
@@ -13,7 +13,7 @@ use Rattle.session_export.specs.Writing as writing
 use Rattle.session_export.specs.declared.game_exporter.GameExporter.{GameExporter}
 use Rattle.session_export.specs.Games.{games_of, games_over, games_text, over_by, running_game}
 
--- what is put at an end: the running game, if the input has ended
+-- the text that is put at an end: the running game, if the input has ended
 abbrev pub last_by : Ending → Game → List Game
 last_by endings.Done g = running_game g
 last_by ending g = []
@@ -42,6 +42,6 @@ text_over o trace = games_text (games_over o trace)
 abbrev pub text_all : Settings → List Step → List ℕ
 text_all o trace = games_text (games_of o trace)
 
--- what a writer of games means to the run that gives it lines
+-- the meaning of a writer of games to the run that gives it lines
 abbrev pub writes_games : Putting GameWriter
 writes_games = writing.export_meaning exports_games

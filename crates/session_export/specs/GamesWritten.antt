@@ -6,7 +6,7 @@ use Rattle.line_io.specs.Lines.{Piece, items}
 use Rattle.line_io.specs.Runs.{whole}
 use Rattle.line_io.specs.Source.{TakesPrefix}
 use Rattle.game_record.specs.Game.{Game}
-use Rattle.policy_rules.specs.declared.settings.Settings.{Settings}
+use Rattle.policy_rules.specs.declared.setting_rules.settings.Settings.{Settings}
 use Rattle.adapter_core.specs.Trace.{Step}
 use Rattle.replay_command_base.specs.declared.ending.Ending.{Ending}
 use Rattle.replay_command_base.specs.Diagnostics.{command_diagnostic}
@@ -98,7 +98,7 @@ pub record GamesWritten (o : Settings) (Unread Kept : Type 0) (before after : Fi
   -- The status, the diagnostic and the counts are those of one ending.
   pub ended : FilterRan (λ ending. FilterEndsBy writes_games (new_game_writer o) (Unread × Kept) ending before after)
       before after code
-  -- what each status says
+  -- the meaning of each status
   pub all_written : code ≡ 0 → AllGamesWritten o before after
   pub no_other : code ≡ 1 → ⊥
   pub fault_reported : code ≡ 2 → GamesFaultReported o before after

@@ -4,7 +4,7 @@ use Rattle.std.specs.Io.KnownBytes.{Appends}
 use Rattle.line_io.specs.Causes.{Rose}
 use Rattle.line_io.specs.Lines.{Piece, items}
 use Rattle.line_io.specs.Runs.{whole}
-use Rattle.policy_rules.specs.declared.settings.Settings.{Settings}
+use Rattle.policy_rules.specs.declared.setting_rules.settings.Settings.{Settings}
 use Rattle.adapter_core.specs.Trace.{Step, LawfulTrace}
 use Rattle.trace_scripts.specs.Script.{events}
 use Rattle.replay_command_base.specs.declared.ending.Ending.{Ending}
@@ -99,7 +99,7 @@ ExportReportsFault before after code =
     → script_fault (items SCRIPT_LINE x) ≡ Some fault → HasNoFault before after
     → ((code ≡ 2) × Appends before.diag.taken after.diag.taken (command_diagnostic fault)) ⊎ (code ≡ 3)
 
--- what each status says of a session that was told
+-- the meaning of each status of a session that was reported
 pub record SessionOutcome {T : Type 0} (means : Exporting T) (o : Settings) (Untouched : Type 0)
     (before after : FilterStreams) (code : ℕ) : Type 0 where
   pub all_announced : code ≡ 0 → AllExported means o before after × AreSame before after

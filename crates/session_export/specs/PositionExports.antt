@@ -4,7 +4,7 @@ use Rattle.std.specs.Str.{bytes_eq}
 use Rattle.arrayvec.specs.ArrayVec.{ArrayVec}
 use Rattle.line_io.specs.Lines.{Piece}
 use Rattle.game_record.specs.Game.{Game}
-use Rattle.policy_rules.specs.declared.settings.Settings.{Settings}
+use Rattle.policy_rules.specs.declared.setting_rules.settings.Settings.{Settings}
 use Rattle.adapter_core.specs.Trace.{Step}
 use Rattle.replay_command_base.specs.Putting.{Putting}
 use Rattle.script_replay.specs.Versions.{settings_by, version_in}
@@ -54,6 +54,6 @@ abbrev pub text_of_lines : Settings → List Piece → List Step → List ℕ
 text_of_lines o lines trace =
     positions_text (settings_by (version_in lines) o) (event_lines lines) trace
 
--- what a writer of positions means to the run that gives it lines
+-- the meaning of a writer of positions to the run that gives it lines
 abbrev pub writes_positions : Putting PositionWriter
 writes_positions = writing.export_meaning exports_positions

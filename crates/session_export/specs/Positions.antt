@@ -5,7 +5,7 @@ use Rattle.line_io.specs.Lines.{line_feed}
 use Rattle.protocol_tokens.specs.Bytes.{blank}
 use Rattle.fen_text.specs.Written.{position_fen}
 use Rattle.game_record.specs.Game.{Game, current_position}
-use Rattle.policy_rules.specs.declared.settings.Settings.{Settings}
+use Rattle.policy_rules.specs.declared.setting_rules.settings.Settings.{Settings}
 use Rattle.adapter_core.specs.Trace.{Step}
 use Rattle.session_export.specs.Exporting.{game_of}
 

@@ -4,7 +4,7 @@ use Rattle.line_io.specs.Event.{Event, Open}
 use Rattle.line_io.specs.Lines.{Piece}
 use Rattle.line_io.specs.Out.{Text, with}
 use Rattle.line_io.specs.Source.{Received}
-use Rattle.policy_rules.specs.declared.settings.Settings.{Settings}
+use Rattle.policy_rules.specs.declared.setting_rules.settings.Settings.{Settings}
 use Rattle.game_record.specs.Game.{Game}
 use Rattle.adapter_core.specs.Trace.{Step, LawfulTrace}
 use Rattle.adapter_core.specs.Parts.{CoreParts, opening_core_parts}
@@ -38,7 +38,7 @@ pub record TakesStep (text_of : Event → Option Game → Game → List ℕ) (be
   pub short : IsShortStep step
   pub announced : more ≡ text_of e before new.desk.game
 
--- what the line with this number said was done, and this was put for it
+-- the order of the line with this number was carried out, and this was put for it
 abbrev pub ExportsLine : {T : Type 0} → Exporting T → ℕ → CoreParts → ScriptStage → LineSaid → CoreParts
     → ScriptStage → List ℕ → Type 0
 ExportsLine means number core stage (Comes e) core' stage' more =
@@ -132,13 +132,13 @@ ExportEndsWith means o lines (endings.OutOfStep n) text = ExportFaulted means (e
 ExportEndsWith means o lines (endings.MayNotCome n) text = ExportFaulted means (endings.MayNotCome n) o lines text
 ExportEndsWith means o lines ending text = ⊥
 
--- what a line came to
+-- the outcome of a line
 abbrev pub CameTo : {T : Type 0} → Exporting T → Settings → List Piece → Option Ending
     → SessionWriter T → List ℕ → Type 0
 CameTo means o lines None writer text = Written means o lines writer text
 CameTo means o lines (Some fault) writer text = ExportFaulted means fault o lines text
 
--- what a writer of sessions means to the run that gives it lines
+-- the meaning of a writer of sessions to the run that gives it lines
 abbrev pub export_meaning : {T : Type 0} → Exporting T → Putting (SessionWriter T)
 export_meaning means = record {
   put = λ writer0 lines writer text.

@@ -2,7 +2,7 @@
 ghost use Rattle.std.specs.Prelude.{◌≡◌};
 ghost use Rattle.replay_command_base.specs.Diagnostics.{command_status};
 ghost use Rattle.replay_command_base.specs.Streams.{filter_streams};
-ghost use Rattle.policy_rules.specs.Policy.{IsProper};
+ghost use Rattle.policy_rules.specs.SettingRules.Policy.{IsProper};
 ghost use Rattle.session_export.specs.PositionsWritten.{PositionsWritten};
 
 use crate::position_exporter::PositionWriter;

@@ -3,7 +3,7 @@ ghost use Rattle.std.specs.Prelude.{◌≡◌, ◌+◌, ◌≤◌, [], length, t
 ghost use Rattle.line_io.specs.Event.{event_of};
 ghost use Rattle.line_io.specs.Lines.{Whole};
 ghost use Rattle.replay_command_base.specs.Putting.{IsOfLine};
-ghost use Rattle.policy_rules.specs.Policy.{IsProper};
+ghost use Rattle.policy_rules.specs.SettingRules.Policy.{IsProper};
 ghost use Rattle.game_record.specs.Game.{Game as AnyGame};
 ghost use Rattle.adapter_core.specs.Ends.{may};
 ghost use Rattle.adapter_core.specs.Represents.{Represents};

@@ -24,7 +24,7 @@ use Rattle.program_lifecycle.proofs.Took.{took_nothing, took_next}
 within : (n : ℕ) → nat_le n 65536 ≡ true → n ≤ 65536
 within n h = grind (arith, nat_tests)
 
--- what came through the channel has room
+-- a mark that came through the channel has room
 pub short : (x : TapMark) → is_short_mark x ≡ true → mark_length x ≤ 65536
 short (says.Line mark) h = within (length mark) (and_parts (nat_le (length mark) 65536) (not (has_feed mark)) h).0
 short says.Long h = omega arith

@@ -19,7 +19,7 @@ pieces_append o (x ∷ xs) ys = elim (is_feed x) as (λ b. cond b (piece_in o �
     ≡ cond b (piece_in o ∷ lines_ended_by (Some []) xs) (lines_ended_by (with_byte o x) xs) ++ lines_ended_by (cond b (line_after (Some []) xs) (line_after (with_byte o x) xs)) ys)
     [ true ↦ ap (λ l. piece_in o ∷ l) (pieces_append (Some []) xs ys) | false ↦ pieces_append (with_byte o x) xs ys ]
 
--- what is kept of an open line
+-- the part that is kept of an open line
 abbrev kept : List ℕ → Option (List ℕ)
 kept line = cond (nat_le (length line) 65534) (Some line) None
 

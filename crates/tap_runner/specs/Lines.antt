@@ -13,7 +13,7 @@ abbrev pub with_byte : Option (List ℕ) → ℕ → Option (List ℕ)
 with_byte None b = None
 with_byte (Some line) b = if nat_lt (length line) tap_line_limit then Some (line ++ b ∷ []) else None
 
--- what an open line is, once it ends
+-- the piece that an open line is, once it ends
 abbrev pub piece_in : Option (List ℕ) → Piece
 piece_in None = TooLong
 piece_in (Some line) = Whole line

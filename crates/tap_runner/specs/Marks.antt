@@ -31,7 +31,7 @@ piece_messages peer pieces = map (piece_message peer) pieces
 abbrev pub end_message : Peer → TapMessage
 end_message peer = tap_message peer says.End
 
--- what goes through it for all bytes of a peer: the marks of their lines, and then the peer's end
+-- the messages for all bytes of a peer: the marks of their lines, and then the peer's end
 abbrev pub channel_marks : Peer → List ℕ → List TapMessage
 channel_marks peer bytes =
     piece_messages peer (items tap_line_limit bytes) ++ end_message peer ∷ []

@@ -45,7 +45,7 @@ abbrev pub has_failed_to_write : PassingTurn → Bool
 has_failed_to_write turns.WriteFailed = true
 has_failed_to_write turn = false
 
--- what one turn did
+-- the work of one turn
 pub record Turned (old new : Open) (source source' : Supplied) (sink sink' : Received)
     (before now : List TapMessage) (turn : PassingTurn) : Type 0 where
   pub got : List ℕ

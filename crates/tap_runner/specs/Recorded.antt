@@ -38,7 +38,7 @@ pub record TapRecorded (wrote said : List ℕ) (messages : List TapMessage) (bef
 -- A run in which nothing failed, over a host that reports its bytes, whose engine says these: each
 -- side took the bytes of the other, and the log has the marks of both.
 pub record TapRunIsWhole (bytes : List ℕ) (before after : Outside) : Type 0 where
-  -- what the bridge wrote, to its end
+  -- the bytes that the bridge wrote, to its end
   pub wrote : List ℕ
   pub reads : SourceGave before.input after.input wrote
   pub at_end : IfSome before.input.left (λ _. IsAtEnd after.input.left)

@@ -12,7 +12,7 @@ use Rattle.tap_runner.specs.declared.run.TapEnd.{TapEnd}
 use Rattle.tap_runner.specs.Ran.{TapRan}
 use Rattle.tap_runner.specs.Recorded.{TapRecorded, TapRunIsWhole}
 
--- what a run answered is reported
+-- the answer of a run is reported
 pub record TapReportsRun (end : TapEnd) (failures : Failures) : Type 0 where
   pub iface_read : failures.iface_read ≡ end.bridge.read_failed
   pub iface_write : failures.iface_write ≡ end.engine.write_failed
@@ -48,7 +48,7 @@ pub record Tapped (OutputGone : Type 0) (EngineGone : Received → Type 0) (befo
   pub output_gone : OutputGone
   pub engine_gone : EngineGone last.into.engine
 
--- what a run leaves, whether an engine was started or not
+-- the result of a run, whether an engine was started or not
 pub record TapLeaves (OutputGone : Type 0) (EngineGone : Received → Type 0) (before after : Outside)
     (failures : Failures) : Type 0 where
   pub reported : AreReported before after failures

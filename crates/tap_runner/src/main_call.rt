@@ -7,7 +7,7 @@ ghost use Rattle.program_lifecycle.specs.Asked.{AsksByArguments};
 ghost use Rattle.program_lifecycle.specs.Outside.{outside_of};
 ghost use Rattle.program_lifecycle.specs.Program.{ProgramEnds, IsReportedTo};
 ghost use Rattle.program_lifecycle.specs.declared.ending.ProgramEnding.TheVariants as endings;
-ghost use Rattle.program_command_line.specs.Arguments.{EngineArgumentsAreTaken, argument_bytes_of};
+ghost use Rattle.program_command_line.specs.Arguments.Request.{EngineArgumentsAreTaken, argument_bytes_of};
 ghost use Rattle.tap_runner.specs.Program.{program};
 ghost use Rattle.tap_runner.specs.Recorded.{TapRunIsWhole};
 ghost use Rattle.tap_runner.specs.Tapped.{TapLeaves};

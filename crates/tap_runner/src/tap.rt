@@ -2,6 +2,7 @@
 ghost use Rattle.std.specs.Prelude.{◌≡◌, ◌<◌, length, map, string_bytes, IfOk, IfErr, OnOk, OnErr};
 ghost use Rattle.child_engine.specs.Asked.{and_engines};
 ghost use Rattle.child_engine.specs.Hosts.{HostIsUnused, IsStarted, fresh_source, fresh_sink, WasSinkClosed, with_run};
+ghost use Rattle.child_engine.specs.Places.{log_file};
 ghost use Rattle.program_lifecycle.specs.Asked.{AsksFor, OpensLogs, engines_asked_by};
 ghost use Rattle.program_lifecycle.specs.Early.{FailuresAreEarly};
 ghost use Rattle.program_lifecycle.specs.Outside.{outside_of};
@@ -10,7 +11,7 @@ ghost use Rattle.tap_runner.specs.Tapped.{TapLeaves};
 
 use crate::parts::make_parts;
 use crate::{TapParts, run_tap};
-use child_engine::{ClosableSink, Host, Started};
+use child_engine::{ClosableSink, Host, LogPlace, Started};
 use line_io::Source;
 use program_command_line::EngineRequest;
 use program_lifecycle::{
@@ -49,7 +50,7 @@ where
         (outside_of I.state O.state H.faults H.ledger interface.old host.old)
         (outside_of I.state O.state H.faults H.ledger interface.new host.new)
         result }
-    ensures asked { OpensLogs log_name.now (H.asked host.old) (H.asked host.new)
+    ensures asked { OpensLogs (log_file log_name.now) (H.asked host.old) (H.asked host.new)
         (H.ledger host.old) (H.ledger host.new) result }
 {
     let ReadyTap { parts, run } = ready;
@@ -58,7 +59,7 @@ where
         sink,
         process,
     } = run;
-    let Opened { log, fault } = open_log(host, alloc, log_name);
+    let Opened { log, fault } = open_log(host, alloc, &LogPlace::File(log_name));
     let mut handed = HandedStreams {
         source,
         engine: sink,
@@ -141,7 +142,7 @@ where
         (outside_of I.state O.state H.faults H.ledger interface.new host.new)
         result }
     ensures asked { AsksFor (map string_bytes request.now.engine.items)
-        (string_bytes request.now.log_name)
+        (log_file (string_bytes request.now.log_name))
         (H.asked host.old) (H.asked host.new) (H.ledger host.new) result }
 {
     match start(rt, alloc, request.engine.as_slice(), host) {

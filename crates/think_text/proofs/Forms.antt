@@ -105,7 +105,7 @@ pawn_by side takes (Some k) s t sg (inr e) i m = absurd (cc (e.1))
 
 -- ANY MOVE
 
--- what a move that is not castling is written as, by the piece that moves
+-- the text of a move that is not castling, by the piece that moves
 abbrev piece_text : Kind → Position → Move → List ℕ
 piece_text Pawn p m = cond (move_captures p m) ((97 + file_of m.from.index) ∷ []) [] ++ (capture_text p m ++ target m)
 piece_text k p m = letter k ++ (origin_text (has_rival p m Board) (has_rival p m File) (has_rival p m Rank) m.from.index ++ (capture_text p m ++ target m))

@@ -186,11 +186,11 @@ same_reported : (a b : Reply) (most : ℕ) → Some a ≡ Some b → length (rep
 same_reported a b most e h = let same : a ≡ b = cc in subst (λ (t : Reply). length (reply_text t) ≤ most) same h
 
 -- a hint by its squares has at most five bytes, another one seven
-abbrev most_hint : Spelling → ℕ
+abbrev pub most_hint : Spelling → ℕ
 most_hint Coordinates = 5
 most_hint San = 7
 
-hint_short : (s : Spelling) (hint : Option Pondered) → IsPlayableAsHint hint → hint_size (hint_text s hint) ≤ most_hint s
+pub hint_short : (s : Spelling) (hint : Option Pondered) → IsPlayableAsHint hint → hint_size (hint_text s hint) ≤ most_hint s
 hint_short Coordinates None h = omega arith
 hint_short San None h = omega arith
 hint_short Coordinates (Some hint) h = omega (arith, move_length hint.hint)

@@ -1,3 +1,4 @@
 pub mod Line
+pub mod Last
 pub mod Kept
 pub mod Short

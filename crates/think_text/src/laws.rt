@@ -1,4 +1,5 @@
 // The laws of all that is kept and shown.
+ghost use Rattle.think_text.specs.Last.{LinesDifferByHint};
 ghost use Rattle.think_text.specs.Kept.{StaysWritable};
 ghost use Rattle.think_text.specs.Short.{LinesAreReplies, LinesAreShort, StaysBounded, StatIsShort};
 
@@ -14,4 +15,9 @@ pub fn thinking_lines_are_short()
     ensures replies { LinesAreReplies }
     ensures bounded { StaysBounded }
     ensures stat01 { StatIsShort }
+{}
+
+/// A thinking line that is shown again has the numbers and the moves that were shown, the moves behind the hint.
+pub fn lines_differ_by_hint()
+    ensures { LinesDifferByHint }
 {}

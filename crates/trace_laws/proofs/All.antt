@@ -1,5 +1,5 @@
 -- All laws of lawful traces.
-use Rattle.policy_rules.specs.declared.settings.Settings.{Settings}
+use Rattle.policy_rules.specs.declared.setting_rules.settings.Settings.{Settings}
 use Rattle.adapter_core.proofs.Alone.{apart_from_engine, desk_is_alone, replies_are_alone}
 use Rattle.adapter_core.proofs.Ended.{silent_to_engine, silent_to_iface}
 use Rattle.adapter_core.proofs.Refused.{nothing_changes}

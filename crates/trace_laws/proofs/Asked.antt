@@ -3,9 +3,9 @@ use Rattle.std.proofs.Common.{◌≡◌, List, [], ◌∷◌, ◌++◌, map, Boo
 use Rattle.line_io.specs.Event.{Event}
 use Rattle.uci_lines.specs.Orders.{Order}
 use Rattle.uci_lines.specs.Orders as orders
-use Rattle.option_map.specs.Held.{Slot, Game, Setting, same_slot, slot_of, held_for_same, held_orders_staying, held_list_with, with_orders}
-use Rattle.option_map.proofs.Orders.{apart}
-use Rattle.policy_rules.specs.declared.settings.Settings.{Settings}
+use Rattle.option_map.specs.WaitingOrders.Held.{Slot, Game, Setting, same_slot, slot_of, held_for_same, held_orders_staying, held_list_with, with_orders}
+use Rattle.option_map.proofs.WaitingOrders.Orders.{apart}
+use Rattle.policy_rules.specs.declared.setting_rules.settings.Settings.{Settings}
 use Rattle.search_epochs.specs.Tickets.{MaySendAll, is_due, has_no_order, is_engine_idle, leaves_boot, needs_fence, has_batch, has_go}
 use Rattle.desk_rules.specs.Orders.{orders_waiting, dialogue_word_of, asked_by_effect}
 use Rattle.adapter_core.specs.Ends.{is_open}

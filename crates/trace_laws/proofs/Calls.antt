@@ -9,13 +9,13 @@ use Rattle.protocol_tokens.specs.declared.kinds.GoKind.{GoKind}
 use Rattle.protocol_tokens.specs.declared.kinds.GoKind.TheVariants as kinds
 use Rattle.cecp_lines.specs.Messages.{IfaceMsg}
 use Rattle.cecp_lines.specs.Messages as says
-use Rattle.option_map.specs.Settings.{OptionSetting}
-use Rattle.option_map.specs.Shown.{check_named}
+use Rattle.option_map.specs.DeclaredOptions.Settings.{OptionSetting}
+use Rattle.option_map.specs.DeclaredOptions.Shown.{check_named}
 use Rattle.search_epochs.specs.declared.words.Call.{Call}
 use Rattle.search_epochs.specs.declared.words.Call.TheVariants as calls
 use Rattle.search_epochs.specs.declared.words.Said.TheVariants as said
 use Rattle.search_epochs.specs.declared.words.EngineState.TheVariants as states
-use Rattle.option_map.specs.Settings.{after_declared}
+use Rattle.option_map.specs.DeclaredOptions.Settings.{after_declared}
 use Rattle.search_epochs.specs.Tickets.{Engine, Boot, Getting, Idle, Search, Gone, Says, is_move}
 use Rattle.search_epochs.specs.Dialogue.{forget}
 use Rattle.search_epochs.specs.History.{answers_at, is_engine_end}
@@ -163,7 +163,7 @@ going : (b : Bool) (x c : Call) → b ≡ false → x ≡ c → x ≡ cond b cal
 going true x c e n = cc
 going false x c e n = n
 
--- what holds in Boot
+-- the facts of Boot
 abbrev pub IsFreshInBoot : State → Type 0
 IsFreshInBoot s = s.dialogue.engine ≡ Boot → (s.desk.booted ≡ false) × (s.desk.hint ≡ None)
 

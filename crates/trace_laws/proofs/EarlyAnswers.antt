@@ -15,14 +15,14 @@ use Rattle.cecp_lines.specs.Replies.{Reply}
 use Rattle.cecp_lines.specs.Replies as cecp
 use Rattle.uci_lines.specs.Orders.{Order, uci_order_text}
 use Rattle.uci_lines.specs.Orders as orders
-use Rattle.option_map.specs.declared.fault.OptionFault.{OptionFault}
-use Rattle.option_map.specs.declared.fault.OptionFault.TheVariants.{UnknownOption, BadValue}
-use Rattle.option_map.specs.Settings.{OptionSetting}
-use Rattle.option_map.specs.Asked.{asked}
-use Rattle.option_map.specs.Spelled.{AreDeclared}
-use Rattle.option_map.specs.Held.{with_orders, held_order_can_join, held_batch_text}
-use Rattle.option_map.proofs.KeptOrders.{batch_first}
-use Rattle.policy_rules.specs.declared.settings.Settings.{Settings}
+use Rattle.option_map.specs.declared.declared_options.fault.OptionFault.{OptionFault}
+use Rattle.option_map.specs.declared.declared_options.fault.OptionFault.TheVariants.{UnknownOption, BadValue}
+use Rattle.option_map.specs.DeclaredOptions.Settings.{OptionSetting}
+use Rattle.option_map.specs.WaitingOrders.Asked.{asked}
+use Rattle.option_map.specs.DeclaredOptions.Spelled.{AreDeclared}
+use Rattle.option_map.specs.WaitingOrders.Held.{with_orders, held_order_can_join, held_batch_text}
+use Rattle.option_map.proofs.WaitingOrders.KeptOrders.{batch_first}
+use Rattle.policy_rules.specs.declared.setting_rules.settings.Settings.{Settings}
 use Rattle.search_epochs.specs.declared.words.Said.TheVariants as said
 use Rattle.search_epochs.specs.declared.words.EngineState.TheVariants as states
 use Rattle.search_epochs.specs.Tickets as talks
@@ -35,11 +35,12 @@ use Rattle.desk_rules.specs.Early.{is_setting, may_wait, lines_with_feeds}
 use Rattle.desk_rules.specs.Lines.{Verdict, Refused, Accepted, Early, line_verdict, verdict_on, refusal, or_else, reason_where, refused_option, does_not_fit, asks, order_asked_by, is_early, early_verdict, early_answer, answered_by}
 use Rattle.desk_rules.specs.Steps.{Effect, Nothing, LongLine, Refuses, Boots, Dies, what_of, begins_epoch, call_after, desk_after, scores_after, is_boots, classify, line_effect, desk_after_effect}
 use Rattle.desk_rules.specs.Orders.{asked_by_effect, early_order, early_orders, asked_at_boot, ponder_at_boot, analysis_at_boot, orders_waiting, dialogue_word_of, search_orders}
-use Rattle.desk_rules.specs.Replies.{refused, reply_row, row_accepted, early_refusal, early_refusals, list_where, resign_where, replies_of}
+use Rattle.think_text.specs.Last.{ThinkingLine}
+use Rattle.desk_rules.specs.Replies.{refused, reply_row, row_accepted, early_refusal, early_refusals, list_where, resign_where, repeated_thinking, replies_of}
 use Rattle.desk_rules.proofs.EarlyLines.{fed_first}
 use Rattle.desk_rules.proofs.EarlyOrders.{early_short}
 use Rattle.adapter_core.specs.Ends.{ends_after, is_open}
-use Rattle.adapter_core.specs.Trace.{State, Step, IsLawfulStep, AreSettled, state, trace_state_after, situation_of_state, effect, turn_of_event, owed_after, closed_after, desk_of, still_held}
+use Rattle.adapter_core.specs.Trace.{State, Step, IsLawfulStep, AreSettled, state, trace_state_after, situation_of_state, effect, turn_of_event, owed_after, closed_after, step_hits, desk_of, still_held}
 use Rattle.adapter_core.proofs.Closing.{Closes, closing}
 use Rattle.adapter_core.proofs.Sides.{no_resigner}
 use Rattle.adapter_core.proofs.Traces.{Lasts, lasts, fits}
@@ -176,16 +177,27 @@ unfolding classify
 not_opening h held events.Open x = absurd (cc)
 not_opening h held e x = refl
 
+boot_misses : (u : DialogueTurn) (t : Ticketed) → t.engine ≡ talks.Boot → is_ponder_hit t u ≡ false
+boot_misses u t b = ap (λ (e : Engine). let x : Ticketed = record t { engine = e } in is_ponder_hit x u) b
+
+not_again : (repeats : Bool) (last : Option ThinkingLine) → repeated_thinking (repeats && false) last ≡ []
+not_again true last = refl
+not_again false last = refl
+
 -- what is written to the interface then
 boots_replies : (owes : Bool) (h : Situation) → is_gone h.engine ≡ false
-    → replies_of false owes h Boots ≡ list_where h.desk.due (booted_desk h.desk) ++ early_refusals h.desk.options h.desk.early ++ cond owes [] (map cecp.Pong h.desk.pings)
+    → replies_of false owes false h Boots ≡ list_where h.desk.due (booted_desk h.desk) ++ early_refusals h.desk.options h.desk.early ++ cond owes [] (map cecp.Pong h.desk.pings)
 unfolding reply_row desk_after_effect
 boots_replies owes h g =
     let list = list_where h.desk.due (booted_desk h.desk) in
     let refusals = early_refusals h.desk.options h.desk.early in
+    let repeats = h.settings.repeat_thinking in
+    let last = h.desk.last_thinking in
     let pongs = cond owes [] (map cecp.Pong h.desk.pings) in
-    ap (λ (b : Bool). list ++ refusals ++ resign_where b ++ pongs)
+    ap (λ (b : Bool). list ++ refusals ++ resign_where b ++ repeated_thinking (repeats && false) last ++ pongs)
     (no_resigner h.settings.resign_when_gone (is_gone h.engine || false) (is_move (call_of_desk false false (booted_desk h.desk))) (ap (λ (b : Bool). b || false) g))
+    ∙ ap (λ (rs : List Reply). list ++ refusals ++ [] ++ rs ++ pongs) (not_again repeats last)
+    ∙ ap (λ (rs : List Reply). rs ++ [] ++ pongs) (append-nil (list ++ refusals))
     ∙ ap (λ (rs : List Reply). rs ++ pongs) (append-nil (list ++ refusals))
 
 booting_there : (e : _) → is_boot e ≡ true → is_gone e ≡ false
@@ -234,8 +246,9 @@ module _ (s : State) (step : Step) (last : Lasts s) (l : IsLawfulStep s step) (q
       let analysis = option_to_list (analysis_at_boot s.desk) in
       record {
         replies =
-            l.replies ∙ ap (λ (c : Bool). replies_of c owes h (effect s step.event)) open_after
-            ∙ ap (replies_of false owes h) q
+            l.replies ∙ ap (λ (c : Bool). replies_of c owes (step_hits s step.event) h (effect s step.event)) open_after
+            ∙ ap (λ (b : Bool). replies_of false owes b h (effect s step.event)) (boot_misses (turn_of_event s step.event) s.dialogue engine_boots)
+            ∙ ap (replies_of false owes false h) q
             ∙ boots_replies owes h (booting_there h.engine boot_fits.1)
             ∙ ap (λ (rs : List Reply). list_where s.desk.due (booted_desk s.desk) ++ rs ++ pongs) (sym (answered_all h boot_fits.0 s.desk.early sets last.sound.early.short last.sound.options));
         orders =

@@ -5,7 +5,7 @@ use Rattle.line_io.specs.Event.{Event}
 use Rattle.line_io.specs.Event as events
 use Rattle.uci_lines.specs.Orders.{Order}
 use Rattle.uci_lines.specs.Orders as orders
-use Rattle.policy_rules.specs.declared.settings.Settings.{Settings}
+use Rattle.policy_rules.specs.declared.setting_rules.settings.Settings.{Settings}
 use Rattle.search_epochs.specs.Tickets.{Engine, MaySendAll, engine_after_word, has_quit_order}
 use Rattle.desk_rules.specs.Orders.{dialogue_word_of}
 use Rattle.adapter_core.specs.Ends.{may, is_open, at_start}

@@ -13,7 +13,7 @@ use Rattle.cecp_lines.specs.Messages as says
 use Rattle.uci_lines.specs.Orders.{Order}
 use Rattle.game_record.specs.Game.{Ply, Game, ply_of, plies_of, IsPlayablePly, AreLegal, current_position, game_from, without_last}
 use Rattle.game_record.proofs.Replays.{legal-append, legal-take}
-use Rattle.policy_rules.specs.declared.settings.Settings.{Settings}
+use Rattle.policy_rules.specs.declared.setting_rules.settings.Settings.{Settings}
 use Rattle.desk_rules.specs.declared.desk.Desk.{Desk}
 use Rattle.desk_rules.specs.Desk.{Situation, is_boot}
 use Rattle.desk_rules.specs.Desk as desks

@@ -26,13 +26,14 @@ use Rattle.uci_lines.specs.Orders.{Order, uci_order_text}
 use Rattle.uci_lines.specs.Orders as orders
 use Rattle.uci_lines.proofs.Rows.{read_spells}
 use Rattle.game_record.specs.Game.{Game, Ply, ply_of, current_position}
-use Rattle.option_map.specs.declared.declared.Declared.TheVariants as outcome
-use Rattle.option_map.specs.Settings.{OptionSetting, text_size, shown_length, setting_from_option, option_by_name, is_combo_full, is_unshowable, declared_beside, grown_by, after_declared}
-use Rattle.option_map.specs.Spelled.{OrderIsSpelled}
-use Rattle.option_map.proofs.Values.{no_feed, line_part, rest_part}
-use Rattle.option_map.proofs.Measured.{more_text}
-use Rattle.option_map.specs.Features.{is_unfit}
-use Rattle.policy_rules.specs.declared.settings.Settings.{Settings}
+use Rattle.option_map.specs.declared.declared_options.declared.Declared.TheVariants as outcome
+use Rattle.option_map.specs.DeclaredOptions.Settings.{OptionSetting, text_size, shown_length, setting_from_option, option_by_name, is_combo_full, is_unshowable, declared_beside, grown_by, after_declared}
+use Rattle.option_map.specs.DeclaredOptions.Spelled.{OrderIsSpelled}
+use Rattle.option_map.proofs.DeclaredOptions.Values.{no_feed, line_part, rest_part}
+use Rattle.option_map.proofs.FeatureLists.Measured.{more_text}
+use Rattle.option_map.specs.FeatureLists.Features.{is_unfit}
+use Rattle.think_text.specs.Last.{ThinkingLine}
+use Rattle.policy_rules.specs.declared.setting_rules.settings.Settings.{Settings}
 use Rattle.search_epochs.specs.declared.words.EngineState.{EngineState}
 use Rattle.search_epochs.specs.declared.words.EngineState.TheVariants as states
 use Rattle.search_epochs.specs.Tickets.{Word, Stop, PonderHit, Position, Go, only, orders_stop, is_due, is_ponder_hit, is_move_now, is_engine_idle, is_move, is_no_call, has_go, kind_of}
@@ -40,21 +41,21 @@ use Rattle.search_epochs.proofs.Same.{only_orders}
 use Rattle.desk_rules.specs.declared.desk.Desk.{Desk}
 use Rattle.desk_rules.specs.Desk.{Situation, is_boot, is_getting, is_gone, is_full as is_full_game, plies, game_played, current}
 use Rattle.desk_rules.specs.Lines.{Verdict, Refused, Accepted, Early, line_verdict, refusal, change, desk_at_position}
-use Rattle.desk_rules.specs.Steps.{Effect, Nothing, LongLine, Names, Accepts, Declares, Boots, Readies, Shows, Forfeits, Dies, classify, line_effect, engine_says, search_reports, shows, answers, desk_after_effect}
+use Rattle.desk_rules.specs.Steps.{Effect, Nothing, LongLine, Names, Accepts, Declares, Boots, Readies, Thinks, Shows, Forfeits, Dies, classify, line_effect, engine_says, search_reports, shows, answers, searched_by, shows_thinking, named_hint, spelling_of, begins_epoch, clears_seen, desk_after_effect}
 use Rattle.desk_rules.specs.Orders.{orders_waiting, dialogue_word_of}
 use Rattle.desk_rules.specs.Fits.{EffectFitsDesk, IsServed, IsLineEvent}
 use Rattle.desk_rules.proofs.Passes.{passes, served_few}
 use Rattle.desk_rules.specs.declared.effect.Refusal.{Refusal}
 use Rattle.desk_rules.specs.declared.effect.Refusal.TheVariants as refusals
 use Rattle.adapter_core.specs.Ends.{is_open}
-use Rattle.adapter_core.specs.Trace.{State, Step, IsLawfulStep, LawfulTrace, AreSettled, state, trace_state_after, situation_of_state, effect, turn_of_event, mid, owed_after, closed_after, desk_of, is_gone_after, closing_step_orders, has_ready}
+use Rattle.adapter_core.specs.Trace.{State, Step, IsLawfulStep, LawfulTrace, AreSettled, state, trace_state_after, situation_of_state, effect, turn_of_event, mid, owed_after, closed_after, step_hits, desk_of, is_gone_after, closing_step_orders, has_ready}
 use Rattle.adapter_core.proofs.Closing.{line_event}
 use Rattle.adapter_core.proofs.Traces.{Lasts, lasts, fits}
 use Rattle.trace_laws.specs.OneLine.{IsOneLogLine, TracesWriteLines}
 use Rattle.trace_laws.proofs.Pieces.{one_line, all_both}
 use Rattle.trace_laws.proofs.OptionTexts.{begun_part}
 use Rattle.trace_laws.proofs.Games.{game_is}
-use Rattle.trace_laws.proofs.ReplyLines.{AreShown, replies_shown}
+use Rattle.trace_laws.proofs.ReplyLines.{AreShown, IsLastShown, kept_shown, replies_shown}
 use Rattle.trace_laws.proofs.OrderLines.{IsOrdered, AreOrdered, spelled_ordered, waiting_spelled, search_ordered}
 
 -- THE NAME THAT AN ENGINE SAYS
@@ -125,20 +126,22 @@ record IsFew (d : Desk) : Type 0 where
   count : length d.options ≤ 256
   name : no_feed d.name ≡ true
   plies : plies d.game ≤ 12000
+  last : IsLastShown d.last_thinking
 
--- what a message leaves as it is
+-- the parts that a message leaves as they are
 record Leaves (old new : Desk) : Type 0 where
   options : new.options ≡ old.options
   name : new.name ≡ old.name
+  last : new.last_thinking ≡ old.last_thinking
 
 placed_leaves : (d : Desk) (r : Result Place FenFault) → Leaves d (desk_at_position d r)
-placed_leaves d (Ok p) = record { options = refl; name = refl }
-placed_leaves d (Err fault) = record { options = refl; name = refl }
+placed_leaves d (Ok p) = record { options = refl; name = refl; last = refl }
+placed_leaves d (Err fault) = record { options = refl; name = refl; last = refl }
 
 change_leaves : (boot : Bool) (d : Desk) (m : IfaceMsg) → Leaves d (change boot d m)
 unfolding change
 change_leaves boot d (says.SetBoard text) = placed_leaves d (position_of text)
-change_leaves boot d m = record { options = refl; name = refl }
+change_leaves boot d m = record { options = refl; name = refl; last = refl }
 
 placed_plies : (d : Desk) (r : Result Place FenFault) → plies d.game ≤ 12000 → plies (desk_at_position d r).game ≤ 12000
 placed_plies d (Ok p) l = omega arith
@@ -212,6 +215,7 @@ left_few old new l p f = record {
   count = omega (arith, f.count, ap length l.options);
   name = ap no_feed l.name ∙ f.name;
   plies = p;
+  last = subst IsLastShown (sym l.last) f.last;
 }
 
 few_after : (h : Situation) (held : List Order) (d : Effect) → IsServed h → EffectFitsDesk h held d → IsBareName d → IsFew h.desk → IsFew (desk_after_effect h d)
@@ -219,13 +223,24 @@ unfolding desk_after_effect
 few_after h held (Accepts m) s f n k =
     let new = change (is_boot h.engine) h.desk m in
     left_few h.desk new (change_leaves (is_boot h.engine) h.desk m) (change_plies (is_boot h.engine) h.desk m (has_room h held m f.passes) k.plies) k
-few_after h held (Names text) s f n k = record { size = k.size; count = k.count; name = shown_bare (is_unfit text) text n; plies = k.plies }
+few_after h held (Names text) s f n k = record { size = k.size; count = k.count; name = shown_bare (is_unfit text) text n; plies = k.plies; last = k.last }
 few_after h held (Declares name shape) s f n k =
     let o = declared_few h.settings.strength_options h.desk.options name shape (record { size = k.size; count = k.count }) in
-    record { size = o.size; count = o.count; name = k.name; plies = k.plies }
+    record { size = o.size; count = o.count; name = k.name; plies = k.plies; last = k.last }
+few_after h held (Thinks kind facts) s f n k = record {
+  size = k.size;
+  count = k.count;
+  name = k.name;
+  plies = k.plies;
+  last = kept_shown (shows_thinking h kind) (spelling_of h.settings) facts (current_position (searched_by kind h.desk.game h.desk.hint)) (named_hint kind h.desk.game h.desk.hint) h.desk.last_thinking f.2 k.last;
+}
 few_after h held (Shows best hint) s f n k =
-    record { size = k.size; count = k.count; name = k.name; plies = played_plies h.desk.game best (served_few h kinds.Move s f.0 f.1) }
-few_after h held d s f n k = record { size = k.size; count = k.count; name = k.name; plies = k.plies }
+    record { size = k.size; count = k.count; name = k.name; plies = played_plies h.desk.game best (served_few h kinds.Move s f.0 f.1); last = k.last }
+few_after h held d s f n k = record { size = k.size; count = k.count; name = k.name; plies = k.plies; last = k.last }
+
+last_left : (b : Bool) (last : Option ThinkingLine) → IsLastShown last → IsLastShown (cond b None last)
+last_left true last l = tt
+last_left false last l = l
 
 -- AFTER EACH STEP
 
@@ -244,12 +259,12 @@ waits_after s step last l w =
     let f = fits s step last l in
     let k = few_after h s.held d last.served f (comes_bare h s.held step.event (line_event s.ends step.event l.may_come)) w.few in
     record {
-      few = record { size = k.size; count = k.count; name = k.name; plies = k.plies };
+      few = record { size = k.size; count = k.count; name = k.name; plies = k.plies; last = last_left (clears_seen (begins_epoch h d) (step_hits s step.event)) (desk_after_effect h d).last_thinking k.last };
       held = left_held (has_ready (map dialogue_word_of step.orders)) (orders_waiting h s.held d) (waiting_spelled h s.held d last.sound f w.held);
     }
 
 waits_in : (o : Settings) (t : List Step) → LawfulTrace o t → Waits (state o t)
-waits_in o [] l = record { few = record { size = omega arith; count = omega arith; name = refl; plies = omega arith }; held = tt }
+waits_in o [] l = record { few = record { size = omega arith; count = omega arith; name = refl; plies = omega arith; last = tt }; held = tt }
 waits_in o (step ∷ t) l = waits_after (state o t) step (lasts o t l.0) l.1 (waits_in o t l.0)
 
 -- THE ORDERS OF A STEP
@@ -268,7 +283,7 @@ plain_ordered (orders.Stop ∷ os) e = (record { line = refl; short = omega arit
 plain_ordered (orders.PonderHit ∷ os) e = (record { line = refl; short = omega arith }, plain_ordered os e)
 plain_ordered x e = cc
 
--- what is chosen without a batch and without a search is plain
+-- an order that is chosen without a batch and without a search is plain
 plain_by : (hits orders_stop begins : Bool) (k : GoKind) → has_go (cond hits (PonderHit ∷ []) (cond orders_stop (Stop ∷ []) (cond begins (Position ∷ Go k ∷ []) []))) ≡ false
     → is_plain (cond hits (PonderHit ∷ []) (cond orders_stop (Stop ∷ []) (cond begins (Position ∷ Go k ∷ []) []))) ≡ true
 plain_by true orders_stop begins k e = refl
@@ -330,9 +345,10 @@ module _ (o : Settings) (step : Step) (t : List Step) (l : LawfulTrace o (step �
   replies_ordered =
       let last = lasts o t l.0 in
       let few = (waits_in o t l.0).few in
+      let k = few_after (situation_of_state s) s.held (effect s ev) last.served (fits s step last l.1) (comes_bare (situation_of_state s) s.held ev (line_event s.ends ev l.1.may_come)) few in
       subst AreShown (sym l.1.replies)
-      (replies_shown (closed_after s ev) (is_move (owed_after s ev)) (situation_of_state s) s.held (effect s ev)
-      (record { options = last.sound.options; early = last.sound.early.lines; size = few.size; count = few.count; name = few.name }) last.sound (fits s step last l.1))
+      (replies_shown (closed_after s ev) (is_move (owed_after s ev)) (step_hits s ev) (situation_of_state s) s.held (effect s ev)
+      (record { options = last.sound.options; early = last.sound.early.lines; size = few.size; count = few.count; name = few.name; last = few.last }) k.last last.sound (fits s step last l.1))
 
 -- LINES
 

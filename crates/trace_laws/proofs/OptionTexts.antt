@@ -11,13 +11,13 @@ use Rattle.uci_lines.specs.Options.{option_text_shown}
 use Rattle.uci_lines.specs.Engine.{engine_message}
 use Rattle.uci_lines.specs.Spells.{FirstTokenPasses, FirstKnownWordIs, Behind, HasForm}
 use Rattle.uci_lines.proofs.Rows.{read_spells}
-use Rattle.option_map.specs.Names.{same_text, is_hidden}
-use Rattle.option_map.specs.Choices.{with_star, with_bars, choices_text}
-use Rattle.option_map.specs.Settings.{OptionSetting, SettingKind, Spin, bit_text, setting_kind_text, shown_kind, hidden_kind}
-use Rattle.option_map.specs.Spelled.{IsDeclared}
-use Rattle.option_map.proofs.Values.{no_feed, IsPart, IsPiece, back_part, trimmed_part, rest_part, line_part}
-use Rattle.option_map.proofs.HeardOptions.{IsHeardShape, IsHeardOption, message_heard}
-use Rattle.option_map.proofs.Usable.{usable}
+use Rattle.option_map.specs.DeclaredOptions.Names.{same_text, is_hidden}
+use Rattle.option_map.specs.DeclaredOptions.Choices.{with_star, with_bars, choices_text}
+use Rattle.option_map.specs.DeclaredOptions.Settings.{OptionSetting, SettingKind, Spin, bit_text, setting_kind_text, shown_kind, hidden_kind}
+use Rattle.option_map.specs.DeclaredOptions.Spelled.{IsDeclared}
+use Rattle.option_map.proofs.DeclaredOptions.Values.{no_feed, IsPart, IsPiece, back_part, trimmed_part, rest_part, line_part}
+use Rattle.option_map.proofs.DeclaredOptions.HeardOptions.{IsHeardShape, IsHeardOption, message_heard}
+use Rattle.option_map.proofs.DeclaredOptions.Usable.{usable}
 use Rattle.trace_laws.proofs.Pieces.{both_bare, either_part, none_part, signed_part}
 
 -- PARTS OF A LINE

@@ -27,15 +27,15 @@ use Rattle.clock_map.specs.declared.clocks.Clocks.{Clocks}
 use Rattle.chess_board.specs.declared.board.Side.{Side}
 use Rattle.protocol_tokens.specs.declared.kinds.GoKind.{GoKind}
 use Rattle.protocol_tokens.specs.declared.kinds.GoKind.TheVariants as kinds
-use Rattle.option_map.specs.declared.fault.OptionFault.{OptionFault}
-use Rattle.policy_rules.specs.declared.settings.Settings.{Settings}
-use Rattle.option_map.specs.Settings.{OptionSetting}
-use Rattle.option_map.specs.Shown.{check_named}
-use Rattle.option_map.specs.Asked.{asked}
-use Rattle.option_map.specs.Spelled.{OrderIsSpelled, AreDeclared}
-use Rattle.option_map.proofs.Values.{no_feed, IsPart}
-use Rattle.option_map.proofs.Asking.{asked_spelled, switches_spelled}
-use Rattle.option_map.proofs.Orders.{stay_spelled}
+use Rattle.option_map.specs.declared.declared_options.fault.OptionFault.{OptionFault}
+use Rattle.policy_rules.specs.declared.setting_rules.settings.Settings.{Settings}
+use Rattle.option_map.specs.DeclaredOptions.Settings.{OptionSetting}
+use Rattle.option_map.specs.DeclaredOptions.Shown.{check_named}
+use Rattle.option_map.specs.WaitingOrders.Asked.{asked}
+use Rattle.option_map.specs.DeclaredOptions.Spelled.{OrderIsSpelled, AreDeclared}
+use Rattle.option_map.proofs.DeclaredOptions.Values.{no_feed, IsPart}
+use Rattle.option_map.proofs.WaitingOrders.Asking.{asked_spelled, switches_spelled}
+use Rattle.option_map.proofs.WaitingOrders.Orders.{stay_spelled}
 use Rattle.search_epochs.specs.declared.words.Call.{Call}
 use Rattle.search_epochs.specs.Tickets.{kind_of}
 use Rattle.desk_rules.specs.declared.desk.Desk.{Desk}
@@ -126,7 +126,7 @@ three_spelled : (xs : List Order) (a b : Option Order) → AllByRecursion (Order
     → AllByRecursion (OrderIsSpelled 65700) (xs ++ option_to_list a ++ option_to_list b)
 three_spelled xs a b f g h = both_spelled (xs ++ option_to_list a) (option_to_list b) (both_spelled xs (option_to_list a) f (one_spelled a g)) (one_spelled b h)
 
--- what an effect asks for
+-- the orders that an effect asks for
 effect_spelled : (h : Situation) (held : List Order) (d : Effect) → DeskInvariant h.desk → EffectFitsDesk h held d → AllByRecursion (OrderIsSpelled 65700) (asked_by_effect h d)
 unfolding asked_by_effect asks
 effect_spelled h held (Accepts m) s f =
@@ -138,7 +138,7 @@ effect_spelled h held Boots s f =
     (only_if (analyses h.desk.mode) (check_order h.desk.options analyse_name true) (reports_setting h.desk.options analyse_name true s.options))
 effect_spelled h held d s f = tt
 
--- what waits after an effect
+-- the orders that wait after an effect
 pub waiting_spelled : (h : Situation) (held : List Order) (d : Effect) → DeskInvariant h.desk → EffectFitsDesk h held d → AllByRecursion (OrderIsSpelled 65700) held → AllByRecursion (OrderIsSpelled 65700) (orders_waiting h held d)
 waiting_spelled h held d s f a = stay_spelled 65700 held (asked_by_effect h d) a (effect_spelled h held d s f)
 
@@ -221,8 +221,8 @@ go_ordered ponder control depth =
     wide 131070 (go_text ponder control depth) (optional_part (codes "go" ++ ponder_text ponder ++ control_text control) (codes " depth ") depth refl (omega arith) prefix) (omega arith)
 
 clock_ordered : (k : GoKind) (r : SearchRequest) (c : Clocks) → IsOrdered (order_by_kind k r c)
-clock_ordered kinds.Move r c = go_ordered false (time_of c.control c r.side r.plies) _
-clock_ordered kinds.Ponder r c = go_ordered true (time_of c.control c r.side r.plies) _
+clock_ordered kinds.Move r c = go_ordered false (time_of c.control c r.side r.plies r.settings.time_margin) _
+clock_ordered kinds.Ponder r c = go_ordered true (time_of c.control c r.side r.plies r.settings.time_margin) _
 clock_ordered kinds.Analyse r c = go_ordered false Infinite None
 
 pub search_ordered : (o : Settings) (d : Desk) (c : Call) → IsGame d.game → plies d.game ≤ 12000 → AreOrdered (search_orders o d c)

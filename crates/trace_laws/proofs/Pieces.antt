@@ -16,7 +16,7 @@ use Rattle.chess_board.specs.Board.{file_of, rank_of_square}
 use Rattle.chess_board.specs.Text.{text_of_move, promotion_text}
 use Rattle.chess_board.proofs.TextLengths.{move_length}
 use Rattle.protocol_tokens.proofs.Runs.{all_of}
-use Rattle.option_map.proofs.Values.{no_feed, IsPart}
+use Rattle.option_map.proofs.DeclaredOptions.Values.{no_feed, IsPart}
 use Rattle.trace_laws.specs.OneLine.{IsOneLogLine}
 use Rattle.trace_laws.proofs.Numerals.{numeral}
 

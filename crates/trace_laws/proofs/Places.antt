@@ -7,7 +7,7 @@ use Rattle.protocol_tokens.specs.declared.kinds.GoKind.{GoKind}
 use Rattle.protocol_tokens.specs.declared.kinds.GoKind.TheVariants as kinds
 use Rattle.uci_lines.specs.Orders.{Order}
 use Rattle.uci_lines.specs.Orders as orders
-use Rattle.policy_rules.specs.declared.settings.Settings.{Settings}
+use Rattle.policy_rules.specs.declared.setting_rules.settings.Settings.{Settings}
 use Rattle.search_epochs.specs.Tickets as talks
 use Rattle.search_epochs.specs.Tickets.{Engine, Word, Ticketed, MaySend, MaySendAll, sent_all}
 use Rattle.search_epochs.specs.Tickets.{Paired}

@@ -1,5 +1,5 @@
 -- Each accepted ping gets one pong, in order.
-use Rattle.std.proofs.Common.{◌≡◌, ℕ, List, [], ◌∷◌, ◌++◌, map, codes, Bool, true, false, cond, Option, Some, None, append_assoc, append-nil, refl, sym, ap, ◌∙◌}
+use Rattle.std.proofs.Common.{◌≡◌, ℕ, List, [], ◌∷◌, ◌++◌, map, codes, Bool, true, false, cond, ◌&&◌, Option, Some, None, append_assoc, append-nil, refl, sym, ap, ◌∙◌}
 use Rattle.std.specs.Option.{option_to_list}
 use Rattle.chess_board.specs.declared.board.Move.{Move as AnyMove}
 use Rattle.chess_board.specs.declared.board.Side.{Side}
@@ -12,25 +12,26 @@ use Rattle.uci_lines.specs.Info.{Info}
 use Rattle.game_record.specs.declared.ending.GameEnd.{GameEnd}
 use Rattle.game_record.specs.Game.{Game, current_position}
 use Rattle.game_record.specs.Ending.{ended_of}
-use Rattle.option_map.specs.Settings.{OptionSetting}
-use Rattle.option_map.specs.Shown.{takes_tables}
+use Rattle.option_map.specs.DeclaredOptions.Settings.{OptionSetting}
+use Rattle.option_map.specs.DeclaredOptions.Shown.{takes_tables}
 use Rattle.uci_lines.specs.declared.messages.Score.{Score}
 use Rattle.think_text.specs.Line.{thinking_line, line_with, legal_run, run_texts, hint_text}
-use Rattle.option_map.specs.declared.negotiation.ProtoverAnswer.{ProtoverAnswer}
-use Rattle.option_map.specs.declared.negotiation.ProtoverAnswer.TheVariants as say
-use Rattle.option_map.specs.Due.{protover_answer}
-use Rattle.option_map.specs.Features.{feature_list, tables, option_feature, shown_options}
-use Rattle.policy_rules.specs.declared.settings.Settings.{Settings}
+use Rattle.think_text.specs.Last.{ThinkingLine}
+use Rattle.option_map.specs.declared.feature_lists.negotiation.ProtoverAnswer.{ProtoverAnswer}
+use Rattle.option_map.specs.declared.feature_lists.negotiation.ProtoverAnswer.TheVariants as say
+use Rattle.option_map.specs.WaitingOrders.Due.{protover_answer}
+use Rattle.option_map.specs.FeatureLists.Features.{feature_list, tables, option_feature, shown_options}
+use Rattle.policy_rules.specs.declared.setting_rules.settings.Settings.{Settings}
 use Rattle.search_epochs.specs.Tickets.{is_move}
 use Rattle.desk_rules.specs.declared.effect.Refusal.{Refusal}
 use Rattle.desk_rules.specs.declared.effect.Refusal.TheVariants as refusals
 use Rattle.desk_rules.specs.declared.desk.Desk.{Desk}
 use Rattle.desk_rules.specs.Desk.{Situation, is_boot, table, on_move, game_played, plays}
 use Rattle.desk_rules.specs.Lines.{change, refused_option, early_answer}
-use Rattle.desk_rules.specs.Steps.{Effect, Refuses, Accepts, Boots, Thinks, Shows, Dies, searched_by, resigns_after, resigns_at_end, resigns_when_gone, desk_after_effect, answers_pings}
-use Rattle.desk_rules.specs.Replies.{refused, result_reply_by, result_reply_of, protover_row, offer_where, hint_row, row_accepted, list_where, resign_where, early_refusal, early_refusals, reply_row, shows_thinking, named_hint, spelling_of, replies_of}
+use Rattle.desk_rules.specs.Steps.{Effect, Refuses, Accepts, Boots, Thinks, Shows, Dies, searched_by, shows_thinking, named_hint, spelling_of, resigns_after, resigns_at_end, resigns_when_gone, desk_after_effect, answers_pings}
+use Rattle.desk_rules.specs.Replies.{refused, result_reply_by, result_reply_of, protover_row, offer_where, hint_row, row_accepted, list_where, resign_where, early_refusal, early_refusals, reply_row, repeated_thinking, replies_of}
 use Rattle.desk_rules.proofs.Quiet.{added_ping, quiet_pings}
-use Rattle.adapter_core.specs.Trace.{State, Step, IsLawfulStep, state, situation_of_state, effect, owed_after, closed_after}
+use Rattle.adapter_core.specs.Trace.{State, Step, IsLawfulStep, state, situation_of_state, effect, owed_after, closed_after, step_hits}
 use Rattle.adapter_core.proofs.Traces.{no_pings}
 use Rattle.trace_laws.specs.Pings.{ping_in, pongs_written, written_pongs, PingsHavePongs, PongsWait, NoneIsHeld}
 
@@ -111,9 +112,14 @@ no_line (Some depth) (Some score) [] facts s hint = refl
 no_line (Some depth) None texts facts s hint = refl
 no_line None score texts facts s hint = refl
 
-no_thinking : (b : Bool) (x : Option Reply) → pongs_written (option_to_list x) ≡ [] → pongs_written (cond b (option_to_list x) []) ≡ []
+no_thinking : (b : Bool) (x : Option Reply) → pongs_written (option_to_list x) ≡ [] → pongs_written (option_to_list (cond b x None)) ≡ []
 no_thinking true x e = e
 no_thinking false x e = refl
+
+no_repeated : (b : Bool) (last : Option ThinkingLine) → pongs_written (repeated_thinking b last) ≡ []
+no_repeated true None = refl
+no_repeated true (Some line) = refl
+no_repeated false last = refl
 
 no_answer : (h : Situation) (m : IfaceMsg) → pongs_written (row_accepted h m) ≡ []
 unfolding row_accepted
@@ -152,18 +158,19 @@ none_owed true ns = refl
 none_owed false ns = pongs_in ns
 
 -- in a session that is not closed
-open_pongs : (owes : Bool) (h : Situation) (d : Effect) → pongs_written (replies_of false owes h d) ≡ cond owes [] (desk_after_effect h d).pings
-open_pongs owes h d =
+open_pongs : (owes hits : Bool) (h : Situation) (d : Effect) → pongs_written (replies_of false owes hits h d) ≡ cond owes [] (desk_after_effect h d).pings
+open_pongs owes hits h d =
     let resign = resign_where (resigns_when_gone false h d) in
-    joined (reply_row h d ++ resign) (cond owes [] (map cecp.Pong (desk_after_effect h d).pings))
-    ∙ ap (λ (l : List ℕ). l ++ pongs_written (cond owes [] (map cecp.Pong (desk_after_effect h d).pings))) (none_joined (reply_row h d) resign (no_pong h d) (no_resign (resigns_when_gone false h d)))
+    let again = repeated_thinking (h.settings.repeat_thinking && hits) (desk_after_effect h d).last_thinking in
+    joined (reply_row h d ++ resign ++ again) (cond owes [] (map cecp.Pong (desk_after_effect h d).pings))
+    ∙ ap (λ (l : List ℕ). l ++ pongs_written (cond owes [] (map cecp.Pong (desk_after_effect h d).pings))) (none_joined (reply_row h d ++ resign) again (none_joined (reply_row h d) resign (no_pong h d) (no_resign (resigns_when_gone false h d))) (no_repeated (h.settings.repeat_thinking && hits) (desk_after_effect h d).last_thinking))
     ∙ none_owed owes (desk_after_effect h d).pings
 
 -- what is told and what is held then are all that were held
-shown_or_held : (closed owes : Bool) (h : Situation) (d : Effect) → pongs_written (replies_of closed owes h d) ++ cond (answers_pings closed owes) [] (desk_after_effect h d).pings ≡ (desk_after_effect h d).pings
-shown_or_held true owes h d = refl
-shown_or_held false true h d = ap (λ (l : List ℕ). l ++ (desk_after_effect h d).pings) (open_pongs true h d)
-shown_or_held false false h d = append-nil _ ∙ open_pongs false h d
+shown_or_held : (closed owes hits : Bool) (h : Situation) (d : Effect) → pongs_written (replies_of closed owes hits h d) ++ cond (answers_pings closed owes) [] (desk_after_effect h d).pings ≡ (desk_after_effect h d).pings
+shown_or_held true owes hits h d = refl
+shown_or_held false true hits h d = ap (λ (l : List ℕ). l ++ (desk_after_effect h d).pings) (open_pongs true hits h d)
+shown_or_held false false hits h d = append-nil _ ∙ open_pongs false hits h d
 
 effect_pings : (h : Situation) (d : Effect) → (desk_after_effect h d).pings ≡ h.desk.pings ++ ping_in d
 effect_pings h (Accepts (says.Ping n)) = added_ping h n
@@ -176,7 +183,7 @@ step_pings s step l =
     let d = effect s step.event in
     let closed = closed_after s step.event in
     let owes = is_move (owed_after s step.event) in
-    sym (effect_pings h d) ∙ sym (shown_or_held closed owes h d)
+    sym (effect_pings h d) ∙ sym (shown_or_held closed owes (step_hits s step.event) h d)
     ∙ ap (λ (rs : List Reply). pongs_written rs ++ cond (answers_pings closed owes) [] (desk_after_effect h d).pings) (sym l.replies)
 
 -- THE LAWS
@@ -190,15 +197,15 @@ pings_have_pongs o (step ∷ t) l =
     ∙ ap (λ (ns : List ℕ). written_pongs t ++ ns) (step_pings s step l.1)
     ∙ sym (append_assoc (written_pongs t) (pongs_written step.replies) (state o (step ∷ t)).desk.pings)
 
-waits_by : (closed owes : Bool) (h : Situation) (d : Effect) → owes ≡ true → pongs_written (replies_of closed owes h d) ≡ []
-waits_by true owes h d e = refl
-waits_by false true h d e = open_pongs true h d
-waits_by false false h d e = cc
+waits_by : (closed owes hits : Bool) (h : Situation) (d : Effect) → owes ≡ true → pongs_written (replies_of closed owes hits h d) ≡ []
+waits_by true owes hits h d e = refl
+waits_by false true hits h d e = open_pongs true hits h d
+waits_by false false hits h d e = cc
 
 pub pongs_wait : (o : Settings) → PongsWait o
 pongs_wait o step t l e =
     let s = state o t in
-    ap pongs_written l.1.replies ∙ waits_by (closed_after s step.event) (is_move (owed_after s step.event)) (situation_of_state s) (effect s step.event) e
+    ap pongs_written l.1.replies ∙ waits_by (closed_after s step.event) (is_move (owed_after s step.event)) (step_hits s step.event) (situation_of_state s) (effect s step.event) e
 
 pub none_is_held : (o : Settings) → NoneIsHeld o
 none_is_held o step t l c e =

@@ -2,10 +2,10 @@
 use Rattle.std.proofs.Common.{◌≡◌, ◌+◌, ◌≤◌, List, [], ◌∷◌, ◌++◌, map, length, Bool, true, false, cond, refl, sym, ap, subst, ◌∙◌, arith}
 use Rattle.line_io.specs.Event.{Event}
 use Rattle.uci_lines.specs.Orders.{Order}
-use Rattle.option_map.specs.Held.{held_batch_text, held_list_with, with_orders, held_orders_staying}
-use Rattle.option_map.proofs.KeptOrders.{join_few, join_short}
-use Rattle.policy_rules.specs.declared.settings.Settings.{Settings}
-use Rattle.policy_rules.specs.Policy.{IsProper}
+use Rattle.option_map.specs.WaitingOrders.Held.{held_batch_text, held_list_with, with_orders, held_orders_staying}
+use Rattle.option_map.proofs.WaitingOrders.KeptOrders.{join_few, join_short}
+use Rattle.policy_rules.specs.declared.setting_rules.settings.Settings.{Settings}
+use Rattle.policy_rules.specs.SettingRules.Policy.{IsProper}
 use Rattle.desk_rules.specs.Desk.{current}
 use Rattle.desk_rules.specs.Steps.{classify}
 use Rattle.desk_rules.specs.Orders.{orders_waiting, asked_by_effect, AllJoin}

@@ -1,5 +1,5 @@
 -- Each line to the interface is one line.
-use Rattle.std.proofs.Common.{◌≡◌, ℕ, ◌+◌, ◌≤◌, List, [], ◌∷◌, ◌++◌, length, map, not, Bool, true, false, cond, Option, Some, None, Result, Ok, Err, decimal, codes, refl, arith, length-append}
+use Rattle.std.proofs.Common.{◌≡◌, ℕ, ◌+◌, ◌≤◌, List, [], ◌∷◌, ◌++◌, length, map, not, Bool, true, false, cond, Option, Some, None, Result, Ok, Err, decimal, codes, ◌&&◌, refl, sym, subst, arith, length-append}
 use Rattle.std.specs.Prelude.{ℤ, IfSome}
 use Rattle.std.specs.Fmt.{signed_decimal}
 use Rattle.std.specs.List.{AllByRecursion, join_with_byte}
@@ -27,29 +27,31 @@ use Rattle.uci_lines.specs.Messages as hears
 use Rattle.game_record.specs.declared.ending.GameEnd.{GameEnd}
 use Rattle.game_record.specs.Game.{Game, current_position}
 use Rattle.game_record.specs.Ending.{ended_of}
-use Rattle.option_map.specs.Settings.{OptionSetting, setting_kind_text, text_size}
-use Rattle.option_map.specs.Shown.{takes_memory, takes_cores, takes_tables}
-use Rattle.option_map.specs.Spelled.{AreDeclared}
+use Rattle.option_map.specs.DeclaredOptions.Settings.{OptionSetting, setting_kind_text, text_size}
+use Rattle.option_map.specs.DeclaredOptions.Shown.{takes_memory, takes_cores, takes_tables}
+use Rattle.option_map.specs.DeclaredOptions.Spelled.{AreDeclared}
 use Rattle.line_io.specs.Event.{is_line}
 use Rattle.uci_lines.specs.Orders.{Order}
-use Rattle.option_map.specs.declared.fault.OptionFault.{OptionFault}
-use Rattle.option_map.specs.declared.fault.OptionFault.TheVariants.{UnknownOption, BadValue}
-use Rattle.option_map.proofs.Values.{no_feed, IsPart, line_part, trimmed_part}
+use Rattle.option_map.specs.declared.declared_options.fault.OptionFault.{OptionFault}
+use Rattle.option_map.specs.declared.declared_options.fault.OptionFault.TheVariants.{UnknownOption, BadValue}
+use Rattle.option_map.proofs.DeclaredOptions.Values.{no_feed, IsPart, line_part, trimmed_part}
 use Rattle.think_text.specs.declared.line.Pondered.{Pondered}
 use Rattle.think_text.specs.Line.{legal_run, line_with, run_texts, thinking_line, value_of, written}
 use Rattle.think_text.specs.Line as think
+use Rattle.think_text.specs.Last.{ThinkingLine, with_hint, last_after}
+use Rattle.think_text.proofs.Hints.{differ}
 use Rattle.think_text.proofs.Short.{lines_short}
-use Rattle.option_map.specs.declared.negotiation.ProtoverAnswer.{ProtoverAnswer}
-use Rattle.option_map.specs.declared.negotiation.ProtoverAnswer.TheVariants as say
-use Rattle.option_map.specs.Due.{protover_answer}
-use Rattle.option_map.specs.Features.{shown_name, is_unfit, in_quotes, bit, fixed_features, tables, by_options, option_feature, shown_options, feature_list, reply_line, reply_lines}
+use Rattle.option_map.specs.declared.feature_lists.negotiation.ProtoverAnswer.{ProtoverAnswer}
+use Rattle.option_map.specs.declared.feature_lists.negotiation.ProtoverAnswer.TheVariants as say
+use Rattle.option_map.specs.WaitingOrders.Due.{protover_answer}
+use Rattle.option_map.specs.FeatureLists.Features.{shown_name, is_unfit, in_quotes, bit, fixed_features, tables, by_options, option_feature, shown_options, feature_list, reply_line, reply_lines}
 use Rattle.desk_rules.specs.declared.effect.Refusal.{Refusal}
 use Rattle.desk_rules.specs.declared.effect.Refusal.TheVariants as refusals
 use Rattle.desk_rules.specs.declared.desk.Desk.{Desk}
 use Rattle.desk_rules.specs.Desk.{Situation, is_boot, on_move, game_played, plays}
 use Rattle.desk_rules.specs.Lines.{change, refused_option, early_answer}
-use Rattle.desk_rules.specs.Steps.{Effect, LongLine, Refuses, Accepts, Boots, Thinks, Shows, Forfeits, Dies, searched_by, resigns_after, resigns_at_end, resigns_when_gone, desk_after_effect}
-use Rattle.desk_rules.specs.Replies.{refused, outcome_of, result_reply_by, result_reply_of, protover_row, offer_where, hint_row, row_accepted, list_where, resign_where, early_refusal, early_refusals, reply_row, shows_thinking, named_hint, spelling_of, replies_of}
+use Rattle.desk_rules.specs.Steps.{Effect, LongLine, Refuses, Accepts, Boots, Thinks, Shows, Forfeits, Dies, searched_by, shows_thinking, named_hint, spelling_of, resigns_after, resigns_at_end, resigns_when_gone, desk_after_effect}
+use Rattle.desk_rules.specs.Replies.{refused, outcome_of, result_reply_by, result_reply_of, protover_row, offer_where, hint_row, row_accepted, list_where, resign_where, early_refusal, early_refusals, reply_row, repeated_thinking, replies_of}
 use Rattle.desk_rules.specs.Fits.{EffectFitsDesk, IsSaid, DeskInvariant}
 use Rattle.desk_rules.proofs.Ponders.{hint_played}
 use Rattle.desk_rules.proofs.Rooms.{line_le, list_le, most_le}
@@ -151,6 +153,10 @@ lines_shown n (r ∷ rs) b l m =
     let whole : length (reply_text r) + length (reply_lines rs) ≤ n = omega (arith, l, length-append (reply_line r) (reply_lines rs), length-append (reply_text r) (10 ∷ [])) in
     (record { line = b.0; short = omega (arith, whole, m) }, lines_shown n rs b.1 (omega (arith, whole)) m)
 
+-- the last thinking line is one, if it is shown again
+abbrev pub IsLastShown : Option ThinkingLine → Type 0
+IsLastShown last = IfSome last (λ line. IsShown (with_hint None line))
+
 -- what the lines to the interface say of the desk
 pub record HasTexts (d : Desk) : Type 0 where
   pub options : AreDeclared d.options
@@ -158,6 +164,7 @@ pub record HasTexts (d : Desk) : Type 0 where
   pub size : text_size d.options ≤ 65536
   pub count : length d.options ≤ 256
   pub name : no_feed d.name ≡ true
+  pub last : IsLastShown d.last_thinking
 
 -- the name that is shown
 shown_name_bare : (said : List ℕ) → no_feed said ≡ true → no_feed (shown_name said) ≡ true
@@ -290,12 +297,12 @@ line_bare (Some depth) (Some score) [] facts s hint b w = tt
 line_bare (Some depth) None texts facts s hint b w = tt
 line_bare None score texts facts s hint b w = tt
 
-one_shown : (o : Option Reply) (b : Bool) → IsBareIn o → ((t : Reply) → o ≡ Some t → length (reply_text t) ≤ 128 + 104857) → AreShown (cond b (option_to_list o) [])
+one_shown : (o : Option Reply) (b : Bool) → IsBareIn o → ((t : Reply) → o ≡ Some t → length (reply_text t) ≤ 128 + 104857) → AreShown (option_to_list (cond b o None))
 one_shown o false h l = tt
 one_shown None true h l = tt
 one_shown (Some t) true h l = (record { line = h; short = omega (arith, l t refl) }, tt)
 
-thought_shown : (b : Bool) (s : Spelling) (facts : Info) (p : Position) (hint : Option Pondered) → think.IsPlayableAsHint hint → IsSaid (hears.Info facts) → AreShown (cond b (option_to_list (thinking_line s facts p hint)) [])
+thought_shown : (b : Bool) (s : Spelling) (facts : Info) (p : Position) (hint : Option Pondered) → think.IsPlayableAsHint hint → IsSaid (hears.Info facts) → AreShown (option_to_list (cond b (thinking_line s facts p hint) None))
 thought_shown b s facts p hint i said =
     one_shown (thinking_line s facts p hint) b
     (line_bare facts.depth facts.score (run_texts s p (legal_run p facts.pv)) facts s (think.hint_text s hint) (texts_bare s p (legal_run p facts.pv)) (said_bare s hint))
@@ -337,7 +344,7 @@ row_shown h LongLine t o f = (record { line = refl; short = omega arith }, tt)
 row_shown h (Accepts m) t o f = answered_shown h m t
 row_shown h Boots t o f =
     all_both IsShown (list_where h.desk.due (record h.desk { booted = true })) (early_refusals h.desk.options h.desk.early)
-    (list_shown h.desk.due (record h.desk { booted = true }) (record { options = t.options; early = t.early; size = t.size; count = t.count; name = t.name }))
+    (list_shown h.desk.due (record h.desk { booted = true }) (record { options = t.options; early = t.early; size = t.size; count = t.count; name = t.name; last = t.last }))
     (early_shown h.desk.options h.desk.early t.early)
 row_shown h (Thinks k facts) t o f = thought_shown (shows_thinking h k) (spelling_of h.settings) facts (current_position (searched_by k h.desk.game h.desk.hint)) (named_hint k h.desk.game h.desk.hint) (hint_played k h.desk.game h.desk.hint o.hint) f.1.2
 row_shown h (Shows best hint) t o f = shown_is_shown h best
@@ -345,9 +352,32 @@ row_shown h Forfeits t o f = (report_shown user_error.Move, (record { line = ref
 row_shown h Dies t o f = all_both IsShown (list_where h.desk.due h.desk) _ (list_shown h.desk.due h.desk t) (report_shown user_error.Ended, resign_shown (resigns_at_end h))
 row_shown h d t o f = tt
 
-pub replies_shown : (closed owes : Bool) (h : Situation) (held : List _) (d : Effect) → HasTexts h.desk → DeskInvariant h.desk → EffectFitsDesk h held d → AreShown (replies_of closed owes h d)
-replies_shown closed owes h held d t o f =
+again_shown : (b : Bool) (last : Option ThinkingLine) → IsLastShown last → AreShown (repeated_thinking b last)
+again_shown true None l = tt
+again_shown true (Some line) l = (l, tt)
+again_shown false last l = tt
+
+-- the line that a report leaves as the last one
+left_shown : (depth : Option ℕ) (score : Option Score) (texts : List (List ℕ)) (facts : Info) (s : Spelling) (old : Option ThinkingLine) → IsLastShown old
+    → AreShown (option_to_list (line_with depth score texts facts s None)) → IsLastShown (last_after old (line_with depth score texts facts s None))
+left_shown (Some depth) (Some score) (t ∷ texts) facts s old l a = a.0
+left_shown (Some depth) (Some score) [] facts s old l a = l
+left_shown (Some depth) None texts facts s old l a = l
+left_shown None score texts facts s old l a = l
+
+pub kept_shown : (b : Bool) (s : Spelling) (facts : Info) (p : Position) (hint : Option Pondered) (old : Option ThinkingLine) → IsSaid (hears.Info facts) → IsLastShown old
+    → IsLastShown (last_after old (cond b (thinking_line s facts p hint) None))
+kept_shown false s facts p hint old said l = l
+kept_shown true s facts p hint old said l =
+    subst IsLastShown (sym ((differ s facts p hint old).1))
+    (left_shown facts.depth facts.score (run_texts s p (legal_run p facts.pv)) facts s old l (thought_shown true s facts p None tt said))
+
+pub replies_shown : (closed owes hits : Bool) (h : Situation) (held : List _) (d : Effect) → HasTexts h.desk → IsLastShown (desk_after_effect h d).last_thinking → DeskInvariant h.desk → EffectFitsDesk h held d → AreShown (replies_of closed owes hits h d)
+replies_shown closed owes hits h held d t last o f =
+    let resign = resign_where (resigns_when_gone closed h d) in
+    let again = repeated_thinking (h.settings.repeat_thinking && hits) (desk_after_effect h d).last_thinking in
     all_where IsShown closed [] _ tt
-    (all_both IsShown (reply_row h d ++ resign_where (resigns_when_gone closed h d)) (cond owes [] (map cecp.Pong (desk_after_effect h d).pings))
-    (all_both IsShown (reply_row h d) (resign_where (resigns_when_gone closed h d)) (row_shown h d t o (held, f)) (resign_shown (resigns_when_gone closed h d)))
+    (all_both IsShown (reply_row h d ++ resign ++ again) (cond owes [] (map cecp.Pong (desk_after_effect h d).pings))
+    (all_both IsShown (reply_row h d ++ resign) again (all_both IsShown (reply_row h d) resign (row_shown h d t o (held, f)) (resign_shown (resigns_when_gone closed h d)))
+    (again_shown (h.settings.repeat_thinking && hits) (desk_after_effect h d).last_thinking last))
     (all_where IsShown owes [] (map cecp.Pong (desk_after_effect h d).pings) tt (pongs_told (desk_after_effect h d).pings)))

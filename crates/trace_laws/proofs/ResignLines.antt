@@ -13,19 +13,20 @@ use Rattle.uci_lines.specs.declared.messages.Score.{Score}
 use Rattle.game_record.specs.declared.ending.GameEnd.{GameEnd}
 use Rattle.game_record.specs.Game.{Game}
 use Rattle.game_record.specs.Ending.{ended_of}
-use Rattle.option_map.specs.Settings.{OptionSetting}
-use Rattle.option_map.specs.Shown.{takes_tables}
-use Rattle.option_map.specs.declared.negotiation.ProtoverAnswer.{ProtoverAnswer}
-use Rattle.option_map.specs.declared.negotiation.ProtoverAnswer.TheVariants as say
-use Rattle.option_map.specs.Due.{protover_answer}
-use Rattle.option_map.specs.Features.{feature_list, tables, option_feature, shown_options}
+use Rattle.option_map.specs.DeclaredOptions.Settings.{OptionSetting}
+use Rattle.option_map.specs.DeclaredOptions.Shown.{takes_tables}
+use Rattle.option_map.specs.declared.feature_lists.negotiation.ProtoverAnswer.{ProtoverAnswer}
+use Rattle.option_map.specs.declared.feature_lists.negotiation.ProtoverAnswer.TheVariants as say
+use Rattle.option_map.specs.WaitingOrders.Due.{protover_answer}
+use Rattle.option_map.specs.FeatureLists.Features.{feature_list, tables, option_feature, shown_options}
 use Rattle.think_text.specs.Line.{line_with}
 use Rattle.desk_rules.specs.declared.effect.Refusal.{Refusal}
 use Rattle.desk_rules.specs.declared.effect.Refusal.TheVariants as refusals
 use Rattle.desk_rules.specs.declared.desk.Desk.{Desk}
 use Rattle.desk_rules.specs.Desk.{Situation, is_boot, on_move, plays, table}
 use Rattle.desk_rules.specs.Lines.{change, refused_option, early_answer}
-use Rattle.desk_rules.specs.Replies.{refused, result_reply_by, result_reply_of, protover_row, offer_where, hint_row, row_accepted, list_where, early_refusal, early_refusals}
+use Rattle.think_text.specs.Last.{ThinkingLine}
+use Rattle.desk_rules.specs.Replies.{refused, result_reply_by, result_reply_of, protover_row, offer_where, hint_row, row_accepted, list_where, early_refusal, early_refusals, repeated_thinking}
 use Rattle.trace_laws.specs.Resigning.{resigns_in}
 
 pub joined : (xs ys : List Reply) → resigns_in (xs ++ ys) ≡ resigns_in xs + resigns_in ys
@@ -96,9 +97,14 @@ no_line (Some depth) (Some score) [] facts s hint = refl
 no_line (Some depth) None texts facts s hint = refl
 no_line None score texts facts s hint = refl
 
-pub no_thinking : (b : Bool) (x : Option Reply) → resigns_in (option_to_list x) ≡ 0 → resigns_in (cond b (option_to_list x) []) ≡ 0
+pub no_thinking : (b : Bool) (x : Option Reply) → resigns_in (option_to_list x) ≡ 0 → resigns_in (option_to_list (cond b x None)) ≡ 0
 no_thinking true x e = e
 no_thinking false x e = refl
+
+pub no_repeated : (b : Bool) (last : Option ThinkingLine) → resigns_in (repeated_thinking b last) ≡ 0
+no_repeated true None = refl
+no_repeated true (Some line) = refl
+no_repeated false last = refl
 
 pub no_answer : (h : Situation) (m : IfaceMsg) → resigns_in (row_accepted h m) ≡ 0
 unfolding row_accepted

@@ -16,7 +16,7 @@ use Rattle.uci_lines.specs.Orders.{Order}
 use Rattle.game_record.specs.Game.{Game, current_position}
 use Rattle.game_record.specs.Ending.{ended_of}
 use Rattle.think_text.specs.Line.{thinking_line, legal_run, run_texts, hint_text}
-use Rattle.policy_rules.specs.declared.settings.Settings.{Settings}
+use Rattle.policy_rules.specs.declared.setting_rules.settings.Settings.{Settings}
 use Rattle.search_epochs.specs.declared.words.Call.{Call}
 use Rattle.search_epochs.specs.declared.words.Call.TheVariants as calls
 use Rattle.search_epochs.specs.Tickets as talks
@@ -27,18 +27,18 @@ use Rattle.desk_rules.specs.declared.mode.Mode.TheVariants as modes
 use Rattle.desk_rules.specs.declared.desk.Desk.{Desk}
 use Rattle.desk_rules.specs.Desk.{Situation, call_of_desk, call_before, owed_at, is_boot, is_gone, is_full, on_move, game_played, plays}
 use Rattle.desk_rules.specs.Lines.{change, desk_at_position, new_mode}
-use Rattle.desk_rules.specs.Steps.{Effect, Refuses, Accepts, Boots, Thinks, Shows, Forfeits, Dies, searched_by, desk_after_effect, is_death, over_where, resigns_after, resigns_at_end, resigns_when_gone}
-use Rattle.desk_rules.specs.Replies.{result_reply_of, list_where, resign_where, early_refusals, reply_row, shows_thinking, named_hint, spelling_of, replies_of}
+use Rattle.desk_rules.specs.Steps.{Effect, Refuses, Accepts, Boots, Thinks, Shows, Forfeits, Dies, searched_by, shows_thinking, named_hint, spelling_of, desk_after_effect, is_death, over_where, resigns_after, resigns_at_end, resigns_when_gone}
+use Rattle.desk_rules.specs.Replies.{result_reply_of, list_where, resign_where, early_refusals, reply_row, repeated_thinking, replies_of}
 use Rattle.desk_rules.specs.Fits.{EffectFitsDesk, IsServed}
 use Rattle.adapter_core.specs.Alone.{is_of_iface}
-use Rattle.adapter_core.specs.Trace.{State, Step, IsLawfulStep, LawfulTrace, state, situation_of_state, effect, owed_after, closed_after, desk_of}
+use Rattle.adapter_core.specs.Trace.{State, Step, IsLawfulStep, LawfulTrace, state, situation_of_state, effect, owed_after, closed_after, step_hits, desk_of}
 use Rattle.adapter_core.proofs.Fresh.{calls_move, plays_now, call_is, closed_calls}
 use Rattle.adapter_core.proofs.Sides.{IsIfaceAction, iface_effect, closed_still}
 use Rattle.adapter_core.proofs.Traces.{Lasts, lasts, fits}
 use Rattle.trace_laws.specs.Resigning.{resigns_in, IsOnMove, GoneEngineOwesNothing, GamesEndAloud, gives_side, resigns_since_side, ResignsOnce}
 use Rattle.trace_laws.specs.Wire.{Gone, on_wire}
 use Rattle.trace_laws.proofs.Heard.{engine_on_wire}
-use Rattle.trace_laws.proofs.ResignLines.{joined, none_joined, no_list, no_result, no_refusal, no_early, no_line, no_thinking, no_answer, no_pongs}
+use Rattle.trace_laws.proofs.ResignLines.{joined, none_joined, no_list, no_result, no_refusal, no_early, no_line, no_thinking, no_repeated, no_answer, no_pongs}
 
 -- AN ENGINE THAT IS GONE
 
@@ -108,16 +108,28 @@ row_is h Dies =
 row_is h d = refl
 
 -- the `resign`s of a step
-step_is : (closed owes : Bool) (h : Situation) (d : Effect) → closed ≡ false → resigns_in (replies_of closed owes h d) ≡ one_where (gives_up h d) + one_where (resigns_when_gone closed h d)
-step_is true owes h d c = cc
-step_is false owes h d c =
+step_is : (closed owes hits : Bool) (h : Situation) (d : Effect) → closed ≡ false → resigns_in (replies_of closed owes hits h d) ≡ one_where (gives_up h d) + one_where (resigns_when_gone closed h d)
+step_is true owes hits h d c = cc
+step_is false owes hits h d c =
     let resign = resign_where (resigns_when_gone false h d) in
+    let repeats = h.settings.repeat_thinking && hits in
+    let last = (desk_after_effect h d).last_thinking in
+    let again = repeated_thinking repeats last in
     let pongs = cond owes [] (map cecp.Pong (desk_after_effect h d).pings) in
-    omega (arith, joined (reply_row h d ++ resign) pongs, joined (reply_row h d) resign, row_is h d, resign_where_is (resigns_when_gone false h d), no_pongs owes (desk_after_effect h d).pings)
+    omega (
+      arith,
+      joined (reply_row h d ++ resign ++ again) pongs,
+      joined (reply_row h d ++ resign) again,
+      joined (reply_row h d) resign,
+      row_is h d,
+      resign_where_is (resigns_when_gone false h d),
+      no_repeated repeats last,
+      no_pongs owes (desk_after_effect h d).pings,
+    )
 
-closed_none : (closed owes : Bool) (h : Situation) (d : Effect) → closed ≡ true → resigns_in (replies_of closed owes h d) ≡ 0
-closed_none true owes h d c = refl
-closed_none false owes h d c = cc
+closed_none : (closed owes hits : Bool) (h : Situation) (d : Effect) → closed ≡ true → resigns_in (replies_of closed owes hits h d) ≡ 0
+closed_none true owes hits h d c = refl
+closed_none false owes hits h d c = cc
 
 -- THE MODE
 
@@ -270,10 +282,10 @@ module _ (s : State) (step : Step) (last : Lasts s) (l : IsLawfulStep s step) wh
   next = desk_of s step.event
 
   open_resigns : closed ≡ false → resigns_in step.replies ≡ one_where (gives_up h d) + one_where when_gone
-  open_resigns c = ap resigns_in l.replies ∙ step_is closed owes h d c
+  open_resigns c = ap resigns_in l.replies ∙ step_is closed owes (step_hits s step.event) h d c
 
   closed_resigns : closed ≡ true → resigns_in step.replies ≡ 0
-  closed_resigns c = ap resigns_in l.replies ∙ closed_none closed owes h d c
+  closed_resigns c = ap resigns_in l.replies ∙ closed_none closed owes (step_hits s step.event) h d c
 
   closed_stays_so : closed ≡ true → when_gone ≡ false
   closed_stays_so c = none_resigns s.settings.resign_when_gone (is_gone h.engine || is_death d) (is_move (call_of_desk closed false (desk_after_effect h d))) (closed_calls closed false (desk_after_effect h d) c)

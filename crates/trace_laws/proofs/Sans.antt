@@ -9,7 +9,7 @@ use Rattle.chess_board.specs.Place.{has_any_way}
 use Rattle.chess_board.specs.Position.{Position}
 use Rattle.san_text.specs.declared.pieces.RivalSquares.TheVariants.{Board, File, Rank}
 use Rattle.san_text.specs.Writing.{kind_at, castles_short, castles_long, move_captures, has_rival, file_letter, rank_digit, letter, origin, promotion_letters, target, capture_text, body, position_after_move, sign, san_of_move}
-use Rattle.option_map.proofs.Values.{no_feed}
+use Rattle.option_map.proofs.DeclaredOptions.Values.{no_feed}
 use Rattle.trace_laws.proofs.Pieces.{both_bare, high_bare}
 
 sign_by : (checked moves : Bool) → no_feed (cond checked (cond moves (43 ∷ []) (35 ∷ [])) []) ≡ true

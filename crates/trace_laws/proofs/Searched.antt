@@ -11,7 +11,7 @@ use Rattle.game_record.specs.Game.{Ply, Game, with_ply}
 use Rattle.clock_map.specs.declared.clocks.Clocks.{Clocks}
 use Rattle.clock_map.specs.declared.request.SearchRequest.{SearchRequest}
 use Rattle.clock_map.specs.Search.{order_by_kind}
-use Rattle.policy_rules.specs.declared.settings.Settings.{Settings}
+use Rattle.policy_rules.specs.declared.setting_rules.settings.Settings.{Settings}
 use Rattle.search_epochs.specs.declared.words.Call.{Call}
 use Rattle.search_epochs.specs.declared.words.Call.TheVariants as calls
 use Rattle.search_epochs.specs.Tickets as talks

@@ -3,7 +3,7 @@ use Rattle.std.proofs.Common.{◌≡◌, ℕ, ◌+◌, ◌≤◌, List, [], ◌�
 use Rattle.cecp_lines.specs.Replies.{Reply}
 use Rattle.uci_lines.specs.Orders.{Order}
 use Rattle.uci_lines.specs.Orders as orders
-use Rattle.policy_rules.specs.declared.settings.Settings.{Settings}
+use Rattle.policy_rules.specs.declared.setting_rules.settings.Settings.{Settings}
 use Rattle.search_epochs.specs.declared.words.Said.{Said}
 use Rattle.search_epochs.specs.declared.words.Said.TheVariants as said
 use Rattle.search_epochs.specs.Tickets.{Engine, Boot, Getting, Idle, Search, Gone, Word, Go, Ticketed, engine_after_heard, said_of_event, engine_after_word, sent_all, is_move}
@@ -12,7 +12,7 @@ use Rattle.desk_rules.specs.Steps.{Effect, Shows, what_of}
 use Rattle.desk_rules.specs.Replies.{replies_of}
 use Rattle.desk_rules.specs.Orders.{dialogue_word_of}
 use Rattle.desk_rules.specs.Fits.{EffectFitsDesk, IsCurrentMove}
-use Rattle.adapter_core.specs.Trace.{State, Step, IsLawfulStep, LawfulTrace, state, situation_of_state, effect, mid, owed_after, closed_after}
+use Rattle.adapter_core.specs.Trace.{State, Step, IsLawfulStep, LawfulTrace, state, situation_of_state, effect, mid, owed_after, closed_after, step_hits}
 use Rattle.adapter_core.specs.Shown.{moves_shown}
 use Rattle.adapter_core.proofs.Shown.{shown_by, open_shows}
 use Rattle.adapter_core.proofs.Traces.{Lasts, lasts, fits}
@@ -64,15 +64,15 @@ by_effect : (s : State) (n : ℕ) (d : Effect) → EffectFitsDesk (situation_of_
 by_effect s n (Shows best hint) f a = shows_to s.dialogue.epoch n s.dialogue.engine f.1 a
 by_effect s n d f a = stays_few n s.dialogue.engine (said_of_event (what_of d)) a
 
-by_closed : (s : State) (n : ℕ) (d : Effect) (closed owes : Bool) → EffectFitsDesk (situation_of_state s) s.held d → AreFew s.dialogue.engine n
-    → AreFew (engine_after_heard s.dialogue.engine (said_of_event (what_of d))) (n + length (moves_shown (replies_of closed owes (situation_of_state s) d)))
-by_closed s n d true owes f a = stays_few n s.dialogue.engine (said_of_event (what_of d)) a
-by_closed s n d false owes f a = subst (λ (ms : List _). AreFew (engine_after_heard s.dialogue.engine (said_of_event (what_of d))) (n + length ms)) (sym (open_shows owes (situation_of_state s) d)) (by_effect s n d f a)
+by_closed : (s : State) (n : ℕ) (d : Effect) (closed owes hits : Bool) → EffectFitsDesk (situation_of_state s) s.held d → AreFew s.dialogue.engine n
+    → AreFew (engine_after_heard s.dialogue.engine (said_of_event (what_of d))) (n + length (moves_shown (replies_of closed owes hits (situation_of_state s) d)))
+by_closed s n d true owes hits f a = stays_few n s.dialogue.engine (said_of_event (what_of d)) a
+by_closed s n d false owes hits f a = subst (λ (ms : List _). AreFew (engine_after_heard s.dialogue.engine (said_of_event (what_of d))) (n + length ms)) (sym (open_shows owes hits (situation_of_state s) d)) (by_effect s n d f a)
 
 mid_few : (s : State) (step : Step) (n : ℕ) → Lasts s → IsLawfulStep s step → AreFew s.dialogue.engine n → AreFew (mid s step.event).engine (n + length (moves_shown step.replies))
 mid_few s step n last l a =
     subst (λ (rs : List Reply). AreFew (mid s step.event).engine (n + length (moves_shown rs))) (sym l.replies)
-    (by_closed s n (effect s step.event) (closed_after s step.event) (is_move (owed_after s step.event)) (fits s step last l) a)
+    (by_closed s n (effect s step.event) (closed_after s step.event) (is_move (owed_after s step.event)) (step_hits s step.event) (fits s step last l) a)
 
 after_few : (m : Ticketed) (n : ℕ) (os : List Order) (b : Bool) → orders_begin_search os ≡ b → AreFew m.engine n → AreFew (sent_all m.epoch m.engine (map dialogue_word_of os)) (cond b 0 n)
 after_few m n os true e a = record { few = omega arith; none = λ x. refl }

@@ -4,8 +4,8 @@ use Rattle.std.specs.Prelude.{length, Bool, true, false, if◌then◌else◌}
 use Rattle.uci_lines.specs.Orders.{Order}
 use Rattle.uci_lines.specs.Orders as orders
 use Rattle.protocol_tokens.specs.declared.kinds.GoKind.{GoKind}
-use Rattle.policy_rules.specs.declared.settings.Settings.{Settings}
-use Rattle.policy_rules.specs.Policy.{IsProper}
+use Rattle.policy_rules.specs.declared.setting_rules.settings.Settings.{Settings}
+use Rattle.policy_rules.specs.SettingRules.Policy.{IsProper}
 use Rattle.search_epochs.specs.History as history
 use Rattle.search_epochs.specs.History.{Exchange}
 use Rattle.search_epochs.specs.Tickets.{Search, SearchServesCall}
@@ -16,7 +16,7 @@ use Rattle.adapter_core.specs.Trace.{State, Step, LawfulTrace, state, situation_
 use Rattle.adapter_core.specs.Trace.{turn_of_event, desk_of, closed_after}
 use Rattle.adapter_core.specs.Shown.{moves_shown}
 
--- what a step is to the dialogue
+-- the meaning of a step to the dialogue
 abbrev pub exchange : State → Step → Exchange
 exchange s step = record {
   turn = turn_of_event s step.event;

@@ -5,8 +5,8 @@ use Rattle.std.specs.Option.{option_to_list}
 use Rattle.line_io.specs.Event as events
 use Rattle.cecp_lines.specs.Replies.{Reply, Pong}
 use Rattle.uci_lines.specs.Orders.{Order, IsReady}
-use Rattle.option_map.specs.Held.{with_orders}
-use Rattle.policy_rules.specs.declared.settings.Settings.{Settings}
+use Rattle.option_map.specs.WaitingOrders.Held.{with_orders}
+use Rattle.policy_rules.specs.declared.setting_rules.settings.Settings.{Settings}
 use Rattle.search_epochs.specs.declared.words.EngineState.TheVariants as states
 use Rattle.search_epochs.specs.Tickets.{is_move}
 use Rattle.desk_rules.specs.declared.desk.Desk.{Desk}

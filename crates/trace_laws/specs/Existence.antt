@@ -1,8 +1,8 @@
 -- For each list of events that may come there is a lawful trace with them.
 use Rattle.std.specs.Prelude.{◌≡◌, List, [], ◌∷◌, map, true}
 use Rattle.line_io.specs.Event.{Event}
-use Rattle.policy_rules.specs.declared.settings.Settings.{Settings}
-use Rattle.policy_rules.specs.Policy.{IsProper}
+use Rattle.policy_rules.specs.declared.setting_rules.settings.Settings.{Settings}
+use Rattle.policy_rules.specs.SettingRules.Policy.{IsProper}
 use Rattle.adapter_core.specs.declared.ends.Ends.{Ends}
 use Rattle.adapter_core.specs.Ends.{may, ends_after, at_start}
 use Rattle.adapter_core.specs.Trace.{Step, LawfulTrace, event_of_step}

@@ -1,10 +1,10 @@
--- Whether a `stop` is fenced: an `isready` was written after it, and the `readyok` to that was read.
+-- A `stop` is fenced if an `isready` was written after it, and then a `readyok` was read.
 use Rattle.std.specs.Prelude.{◌≡◌, ℕ, List, [], ◌∷◌, ◌++◌, Bool, true, false, Option, Some}
 use Rattle.protocol_tokens.specs.declared.kinds.GoKind.{GoKind}
 use Rattle.uci_lines.specs.declared.orders.GoControl.{GoControl}
 use Rattle.uci_lines.specs.Orders.{Order}
 use Rattle.uci_lines.specs.Orders as orders
-use Rattle.policy_rules.specs.declared.settings.Settings.{Settings}
+use Rattle.policy_rules.specs.declared.setting_rules.settings.Settings.{Settings}
 use Rattle.search_epochs.specs.declared.words.Said.{Said}
 use Rattle.search_epochs.specs.declared.words.Said.TheVariants as said
 use Rattle.adapter_core.specs.Trace.{Step, LawfulTrace}
@@ -17,7 +17,7 @@ pub data Fence : Type 0 where
   Stopped : Fence
   Asked : Fence
 
--- the `readyok` to that `isready` fences it
+-- the next `readyok` fences it, which answers that `isready` if the engine writes one for each
 abbrev pub fence_once_answered : Fence → Fence
 fence_once_answered Asked = Fenced
 fence_once_answered f = f
@@ -52,7 +52,7 @@ fence_at trace step before =
     fence_all (fence_once_heard (fence trace) (said_by_step (ends trace).closed step.event)) before
 
 -- With FenceStops on each `go` comes where the last `stop` is fenced. So between a
--- `stop` and the next `go` an `isready` was written after that `stop`, and its `readyok` was read.
+-- `stop` and the next `go` an `isready` was written after that `stop`, and then a `readyok` was read.
 abbrev pub SearchesAreFenced : Settings → Type 0
 SearchesAreFenced o =
     o.fence_stops ≡ true → (step : Step) (trace : List Step) (before behind : List Order)

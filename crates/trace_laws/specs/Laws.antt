@@ -1,5 +1,5 @@
 -- The laws of every lawful trace, all together.
-use Rattle.policy_rules.specs.declared.settings.Settings.{Settings}
+use Rattle.policy_rules.specs.declared.setting_rules.settings.Settings.{Settings}
 use Rattle.adapter_core.specs.Alone.{DeskIsAlone, IsApartFromEngine, RepliesAreAlone}
 use Rattle.adapter_core.specs.Shown.{MovesAreShownInTime, MovesAreShownOnce}
 use Rattle.adapter_core.specs.Shown.{RefusedLinesChangeNothing}
@@ -28,7 +28,7 @@ pub record HasLaws (o : Settings) : Type 0 where
   pub shown_once : MovesAreShownOnce o
   -- a refused line changes nothing, and the engine gets nothing
   pub refused_changes_nothing : RefusedLinesChangeNothing o
-  -- what the interface alone decides, whenever the engine speaks
+  -- the choices of the interface alone, whenever the engine speaks
   pub desk_alone : DeskIsAlone o
   pub apart_from_engine : IsApartFromEngine o
   pub replies_alone : RepliesAreAlone o
@@ -57,7 +57,7 @@ pub record HasLaws (o : Settings) : Type 0 where
   pub pings_have_pongs : PingsHavePongs o
   pub pongs_wait : PongsWait o
   pub no_ping_held : NoneIsHeld o
-  -- what was asked for an option last is what was written last, or is held; where a
+  -- the value that was asked for an option last is the one that was written last, or is held; if a
   -- search begins it was written
   pub last_asked_stands : LastAskedStands o
   pub searches_have_settings : SearchesHaveSettings o

@@ -1,10 +1,10 @@
 -- The limits of every core that stands for a lawful trace.
 use Rattle.std.specs.Prelude.{◌≡◌, ℕ, ◌≤◌, List, length, Bool, false}
 use Rattle.protocol_tokens.specs.declared.kinds.GoKind.{GoKind}
-use Rattle.option_map.specs.Held.{held_batch_text}
-use Rattle.option_map.specs.declared.held.TheConstants.{MOST_ORDERS, MOST_BYTES}
-use Rattle.policy_rules.specs.declared.settings.Settings.{Settings}
-use Rattle.policy_rules.specs.Policy.{IsProper}
+use Rattle.option_map.specs.WaitingOrders.Held.{held_batch_text}
+use Rattle.option_map.specs.declared.waiting_orders.held.TheConstants.{MOST_ORDERS, MOST_BYTES}
+use Rattle.policy_rules.specs.declared.setting_rules.settings.Settings.{Settings}
+use Rattle.policy_rules.specs.SettingRules.Policy.{IsProper}
 use Rattle.search_epochs.specs.declared.words.EngineState.TheVariants as states
 use Rattle.search_epochs.specs.Tickets.{SearchServesCall}
 use Rattle.desk_rules.specs.declared.pings.TheConstants.{MOST_PINGS}

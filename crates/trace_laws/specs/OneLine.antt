@@ -4,7 +4,7 @@ use Rattle.std.specs.List.{AllByRecursion}
 use Rattle.line_io.specs.Event.{has_feed}
 use Rattle.cecp_lines.specs.Replies.{Reply, reply_text}
 use Rattle.uci_lines.specs.Orders.{Order, uci_order_text}
-use Rattle.policy_rules.specs.declared.settings.Settings.{Settings}
+use Rattle.policy_rules.specs.declared.setting_rules.settings.Settings.{Settings}
 use Rattle.adapter_core.specs.Trace.{Step, LawfulTrace}
 use Rattle.line_io.specs.declared.limits.TheConstants.{SCRIPT_LINE}
 

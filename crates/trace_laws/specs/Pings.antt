@@ -3,7 +3,7 @@ use Rattle.std.specs.Prelude.{◌≡◌, ℕ, List, [], ◌∷◌, ◌++◌, tru
 use Rattle.cecp_lines.specs.Messages as says
 use Rattle.cecp_lines.specs.Replies.{Reply}
 use Rattle.cecp_lines.specs.Replies as cecp
-use Rattle.policy_rules.specs.declared.settings.Settings.{Settings}
+use Rattle.policy_rules.specs.declared.setting_rules.settings.Settings.{Settings}
 use Rattle.search_epochs.specs.Tickets.{is_move}
 use Rattle.desk_rules.specs.Steps.{Effect, Accepts}
 use Rattle.adapter_core.specs.Trace.{Step, LawfulTrace, state, effect, owed_after}

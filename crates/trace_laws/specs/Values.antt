@@ -1,8 +1,8 @@
 -- The settings that were asked for and those that were written.
 use Rattle.std.specs.Prelude.{◌≡◌, List, [], ◌∷◌, ◌++◌, true, if◌then◌else◌, Option, Some, None}
 use Rattle.uci_lines.specs.Orders.{Order}
-use Rattle.option_map.specs.Held.{held_for_same}
-use Rattle.policy_rules.specs.declared.settings.Settings.{Settings}
+use Rattle.option_map.specs.WaitingOrders.Held.{held_for_same}
+use Rattle.policy_rules.specs.declared.setting_rules.settings.Settings.{Settings}
 use Rattle.desk_rules.specs.Orders.{asked_by_effect}
 use Rattle.adapter_core.specs.Trace.{Step, LawfulTrace, state, situation_of_state, effect}
 use Rattle.trace_laws.specs.Dialogue.{orders_begin_search}

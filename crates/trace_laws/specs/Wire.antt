@@ -11,7 +11,7 @@ use Rattle.uci_lines.specs.Messages as says
 use Rattle.uci_lines.specs.Engine.{engine_message}
 use Rattle.uci_lines.specs.Orders.{Order}
 use Rattle.uci_lines.specs.Orders as orders
-use Rattle.policy_rules.specs.declared.settings.Settings.{Settings}
+use Rattle.policy_rules.specs.declared.setting_rules.settings.Settings.{Settings}
 use Rattle.search_epochs.specs.declared.words.Said.{Said}
 use Rattle.search_epochs.specs.declared.words.Said.TheVariants as said
 use Rattle.search_epochs.specs.Tickets.{Engine, Paired}
@@ -29,7 +29,7 @@ pub data Wire : Type 0 where
   Search : (kind : GoKind) (stopped : Bool) → Wire
   Gone : Wire
 
--- what a line of the engine says to the dialogue
+-- the meaning of a line of the engine to the dialogue
 abbrev pub said_in_line : EngineMsg → Option Said
 said_in_line says.UciOk = Some said.UciOk
 said_in_line says.ReadyOk = Some said.ReadyOk
@@ -84,7 +84,7 @@ abbrev pub wire_at : List Step → Step → List Order → Wire
 wire_at trace step before =
     writing_all (wire_once_heard (wire trace) (said_by_step (ends trace).closed step.event)) before
 
--- what the wire shows of an engine whose searches have tickets
+-- the engine, as the wire shows it, whose searches have tickets
 abbrev pub on_wire : Engine → Wire
 on_wire talks.Boot = Boot
 on_wire talks.Getting = Getting

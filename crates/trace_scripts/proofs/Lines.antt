@@ -57,7 +57,7 @@ abbrev pub event_lines : Event → List (List ℕ)
 event_lines Open = []
 event_lines e = event_mark_text e ∷ []
 
--- what a mark can tell
+-- the events that a mark can stand for
 abbrev pub IsMarked : Event → Type 0
 IsMarked (events.Iface line) = is_line line ≡ true
 IsMarked (events.Engine line) = is_line line ≡ true

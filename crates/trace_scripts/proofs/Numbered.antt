@@ -2,8 +2,8 @@
 use Rattle.std.proofs.Common.{◌≡◌, ◌⊎◌, inl, inr, true, ℕ, List, [], ◌∷◌, ◌++◌, length, Some, refl, ap, sym, ◌∙◌, subst, arith, length-append, append_assoc, append-nil}
 use Rattle.line_io.specs.Event.{Event, Open}
 use Rattle.line_io.specs.Lines.{parts_by_feed}
-use Rattle.policy_rules.specs.declared.settings.Settings.{Settings}
-use Rattle.policy_rules.specs.Policy.{IsProper}
+use Rattle.policy_rules.specs.declared.setting_rules.settings.Settings.{Settings}
+use Rattle.policy_rules.specs.SettingRules.Policy.{IsProper}
 use Rattle.script_lines.specs.Marks.{mark_spelled}
 use Rattle.script_lines.specs.Header.{header_text, header_of}
 use Rattle.script_lines.specs.StepLine.{step_number_line, step_number}
@@ -70,7 +70,7 @@ script2_marked o t a = ap (λ es. es ++ script_events_in (numbered_lines t)) (he
 
 -- WHAT A LONGER TRACE ADDS
 
--- what newer steps add to the lines
+-- the lines that newer steps add
 abbrev pub numbered_added : List Step → List Step → List (List ℕ)
 numbered_added [] t = []
 numbered_added (s ∷ newer) t = numbered_added newer t ++ number_line (length (newer ++ t)) ∷ step_lines s

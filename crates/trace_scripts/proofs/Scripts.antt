@@ -7,7 +7,7 @@ use Rattle.line_io.specs.Event as events
 use Rattle.line_io.specs.Lines.{parts_by_feed}
 use Rattle.script_lines.specs.Marks.{Happens, ToIface, ToEngine, is_written, mark_spelled, event_mark_text}
 use Rattle.script_lines.proofs.Spelled.{spelled_read}
-use Rattle.policy_rules.specs.declared.settings.Settings.{Settings}
+use Rattle.policy_rules.specs.declared.setting_rules.settings.Settings.{Settings}
 use Rattle.adapter_core.specs.declared.ends.Ends.{Ends}
 use Rattle.adapter_core.specs.Ends.{may, at_start}
 use Rattle.adapter_core.specs.Trace.{Step, LawfulTrace, state, event_of_step, iface_text, engine_text}
@@ -172,7 +172,7 @@ pub record Next (o : Settings) (t : List Step) (more : List (List ℕ)) : Type 0
   pub others : List (List ℕ)
   pub lines_are : more ≡ event_mark_text event ∷ others
 
--- what newer steps add to the lines
+-- the lines that newer steps add
 abbrev pub added : List Step → List (List ℕ)
 added [] = []
 added (s ∷ newer) = added newer ++ step_lines s

@@ -1,7 +1,7 @@
 -- A script is read back in one way only.
 use Rattle.std.specs.Prelude.{◌≡◌, List, true}
-use Rattle.policy_rules.specs.declared.settings.Settings.{Settings}
-use Rattle.policy_rules.specs.Policy.{IsProper}
+use Rattle.policy_rules.specs.declared.setting_rules.settings.Settings.{Settings}
+use Rattle.policy_rules.specs.SettingRules.Policy.{IsProper}
 use Rattle.adapter_core.specs.Trace.{Step, LawfulTrace, state}
 use Rattle.trace_scripts.specs.Script.{script1, script2}
 

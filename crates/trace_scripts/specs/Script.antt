@@ -2,7 +2,7 @@
 use Rattle.std.specs.Prelude.{ℕ, ◌<◌, length, List, [], ◌∷◌, ◌++◌, Option, Some}
 use Rattle.std.specs.List.{AllByRecursion}
 use Rattle.line_io.specs.Event.{Event}
-use Rattle.policy_rules.specs.declared.settings.Settings.{Settings}
+use Rattle.policy_rules.specs.declared.setting_rules.settings.Settings.{Settings}
 use Rattle.script_lines.specs.Marks.{Mark, Happens, mark_spelled}
 use Rattle.script_lines.specs.Header.{header_text}
 use Rattle.script_lines.specs.StepLine.{step_number}
@@ -50,7 +50,7 @@ abbrev pub script_events_in : List (List ℕ) → List Event
 script_events_in [] = []
 script_events_in (l ∷ ls) = marked_events (mark_spelled l) ++ script_events_in ls
 
--- what a step may write to one peer: whole lines, each shorter than a line of a script may be
+-- the text that a step may write to one peer: whole lines, each shorter than a line of a script may be
 pub record IsShortText (text : List ℕ) : Type 0 where
   pub lines : IsWholeLines text
   pub short : length text < SCRIPT_LINE

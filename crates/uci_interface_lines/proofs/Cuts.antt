@@ -35,7 +35,7 @@ behind_none (s ∷ ts) n =
     let both = and_parts (not (is_moves_token s)) (list_all (λ x. not (is_moves_token x)) ts) n in
     rw (not-true (is_moves_token s) both.0) (behind_none ts both.1)
 
--- what was found before and after the first `moves`
+-- the tokens before and after the first `moves`
 pub record Splits (text before behind : List ℕ) : Type 0 where
   pub before_is : tokens before ≡ before_moves (tokens text)
   pub behind_is : tokens behind ≡ behind_moves (tokens text)

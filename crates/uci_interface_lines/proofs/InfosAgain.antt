@@ -161,7 +161,7 @@ number_white : (word : List ℕ) (n : Option ℕ) (more : List ℕ) → BeginsWh
 number_white word None more w = w
 number_white word (Some n) more w = refl
 
--- what follows `info`, field by field
+-- the fields behind `info`, one by one
 unfoldable pub behind_counts : AnyInfo → List ℕ
 behind_counts f = score_text f.score ++ (bound_text f.bound ++ (move_after_word (codes " currmove ") f.current ++ pv_text f.pv))
 

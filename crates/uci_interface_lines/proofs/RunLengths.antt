@@ -45,7 +45,7 @@ run_fits ts _ _ (IsRun.Ends h) = omega arith
 run_fits _ _ others (IsRun.Goes {t = t} {m = m} {ts = ts} {moves = moves} s r) =
     omega (arith, move_fits t m s, run_fits ts moves others r, length-append (text_of_move m) (each_move moves))
 
--- what a field leaves, and the moves that it takes
+-- the tokens that a field leaves, and the moves that it takes
 record Left (f : Info) (ts : List (List ℕ)) (g : Info) (others : List (List ℕ)) (n : ℕ) : Type 0 where
   fewer : total others ≤ total ts
   moves : length (each_move g.pv) ≤ n

@@ -76,7 +76,7 @@ unfolding AllClean next_part
 values_again value [] c h = HasValues.Ended (none_spaced value c)
 values_again value (w ∷ vs) c h = HasValues.Var (next_part value w vs) (next_first value w vs c) refl (value_up w vs h.0) (values_again w vs h.0 h.1)
 
--- what ends with the last value ends with no white space
+-- a text that ends with the last value ends with no white space
 pub solid_spaced : (xs value : List ℕ) → Solid xs → trimmed value ≡ value → Solid (xs ++ spaced_text value)
 solid_spaced xs [] s h = subst (λ (t : List ℕ). Solid t) (sym (append-nil xs)) s
 solid_spaced xs (b ∷ bs) s h = solid_over xs (32 ∷ b ∷ bs) (solid_over (32 ∷ []) (b ∷ bs) (solid_trimmed b bs h))

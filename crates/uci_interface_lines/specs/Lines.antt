@@ -44,7 +44,7 @@ abbrev pub behind_moves : List (List ℕ) → List (List ℕ)
 behind_moves [] = []
 behind_moves (t ∷ ts) = if is_moves_token t then ts else behind_moves ts
 
--- what is before and after a word
+-- the text before and after a word
 abbrev pub sides : Found → List ℕ × List ℕ
 sides part = (part.before, part.after)
 
@@ -71,10 +71,10 @@ abbrev pub line_from : Option Position → List (List ℕ) → Option Line
 line_from None moves = None
 line_from (Some p) moves = line_to p moves (position_after_texts moves (Some p))
 
--- what the tokens after `position` say
+-- the meaning of the tokens after `position`
 abbrev pub line_in : List (List ℕ) → Option Line
 line_in ts = line_from (start_position_in (before_moves ts)) (behind_moves ts)
 
--- what a `position` line says, or nothing if it cannot be read
+-- the meaning of a `position` line, or nothing if it cannot be read
 unfoldable pub position_line_in : List ℕ → Option Line
 position_line_in line = line_in (drop 1 (tokens line))

@@ -120,7 +120,7 @@ none_since p fresh (b ∷ bs) h = cut_none_step (fresh && p (prefix (b ∷ bs)))
 pub cut_none : (p : List ℕ → Bool) (text : List ℕ) → found_token p true text ≡ None → IsNoneOf p (tokens text)
 cut_none p text h = none_since p true text h
 
--- what is before a cut
+-- the text before a cut
 record Before (p : List ℕ → Bool) (fresh : Bool) (before : List ℕ) : Type 0 where
   pub ends : ends_white fresh before ≡ true
   pub none : IsNoneOf p (since fresh before)

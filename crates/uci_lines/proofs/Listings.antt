@@ -13,7 +13,7 @@ use Rattle.uci_lines.proofs.FirstTokens.{first_cut, none_cut, cut_first, cut_non
 use Rattle.uci_lines.proofs.Pieces.{values_none, values_some}
 use Rattle.chess_board.proofs.Spelled.{move_spells, spells_move, read_is}
 
--- what follows a cut
+-- the text behind a cut
 abbrev pub after_cut : Option Found → List ℕ
 after_cut None = []
 after_cut (Some part) = part.after

@@ -7,7 +7,7 @@ use Rattle.uci_lines.specs.Options.{SpinRange, first_signed, limited, range_from
 use Rattle.uci_lines.specs.Spells.{IsLast}
 use Rattle.uci_lines.proofs.Counts.{same_text, text_same}
 
--- what a token says of one number, with the tokens after it
+-- the meaning of a token for one number, with the tokens after it
 abbrev newer : List ℕ → Option ℤ → List ℕ → List (List ℕ) → Option ℤ
 newer word old t ts = cond (is_word word t) (option_or (first_signed ts) old) old
 

@@ -17,7 +17,7 @@ use Rattle.uci_lines.proofs.Listings.{after_cut, behind_cut, cut_behind, perhaps
 use Rattle.uci_lines.proofs.Ranges.{default_is, min_is, max_is, last_is, is_last}
 use Rattle.uci_lines.proofs.Tellings.{reports_is, reports}
 
--- what is read after a word, by what follows it
+-- the reading after a word, by the text that follows it
 hint_by : (o : Option Found) → hint_in_bestmove o ≡ move_spelled_by (first_token (after_cut o))
 unfolding move_spelled_by
 hint_by None = refl

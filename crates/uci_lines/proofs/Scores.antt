@@ -61,7 +61,7 @@ in_small : (text : List ℕ) → HasSmall (facts_in text)
 unfolding facts_in
 in_small text = from_small no_facts (tokens text) tt
 
--- what is told of a search, if anything is
+-- the report of a search, if there is one
 abbrev SaysSmall : EngineMsg → Type 0
 SaysSmall (says.Info f) = HasSmall f
 SaysSmall _ = Unit {0}

@@ -28,7 +28,7 @@ none_by : (word text : List ℕ) (o : Option (List ℕ)) → after word text ≡
 none_by word text None e h = refl
 none_by word text (Some others) e h = absurd (h others (word_after word text others e))
 
--- what stripping a word answers
+-- the answer of stripping a word
 pub stripped : (word text : List ℕ) (r : Option (Bor (List ℕ))) → MatchOption r ((others : List ℕ) → text ≢ word ++ others) (λ x. text ≡ word ++ x.now) → optional_now r ≡ after word text
 stripped word text None h = none_by word text (after word text) refl h
 stripped word text (Some x) h = sym (ap (after word) h ∙ after_word word x.now)

@@ -98,7 +98,7 @@ some_moves : List Move → Bool
 some_moves [] = false
 some_moves (m ∷ moves) = true
 
--- whether a field takes something of the tokens after its word
+-- true if a field takes something of the tokens after its word
 taking_by : InfoField → List (List ℕ) → Bool
 taking_by fields.Depth ts = is_some (first_count ts)
 taking_by fields.Time ts = is_some (first_count ts)

@@ -6,7 +6,7 @@ use Rattle.std.specs.Str.{bytes_eq}
 use Rattle.protocol_tokens.specs.Tokens.{is_white, token_end}
 use Rattle.protocol_tokens.specs.Numbers.{count}
 
--- what follows a word at the start
+-- the text behind a word at the start
 abbrev pub after : List ℕ → List ℕ → Option (List ℕ)
 after [] text = Some text
 after (b ∷ bs) [] = None

@@ -14,7 +14,7 @@ pieces fresh (b ∷ bs) =
     then [] ∷ onto_first b (pieces (is_white b) bs)
     else onto_first b (pieces (is_white b) bs)
 
--- what follows each `var`
+-- the text behind each `var`
 abbrev pub values_among : List (List ℕ) → List (List ℕ)
 values_among [] = []
 values_among (piece ∷ others) =
@@ -25,12 +25,12 @@ values_among (piece ∷ others) =
 unfoldable pub values : List ℕ → List (List ℕ)
 values text = values_among (pieces true text)
 
--- what is before the first `default` or `var`, or all
+-- the text before the first `default` or `var`, or all
 abbrev pub before_choice : Option Found → List ℕ → List ℕ
 before_choice None text = text
 before_choice (Some part) text = part.before
 
--- what begins with the first `default` or `var`
+-- the text from the first `default` or `var` on
 abbrev pub from_choice : Option Found → List ℕ → List ℕ
 from_choice None text = []
 from_choice (Some part) text = drop (length part.before) text
@@ -39,6 +39,6 @@ abbrev pub choice_text : Option Found → List ℕ
 choice_text None = []
 choice_text (Some part) = trimmed (before_choice (found_token is_choice true part.after) part.after)
 
--- what follows the first `default`, up to the next `default` or `var`
+-- the text behind the first `default`, up to the next `default` or `var`
 abbrev pub default_value : List ℕ → List ℕ
 default_value text = choice_text (found_token (is_word (codes "default")) true text)

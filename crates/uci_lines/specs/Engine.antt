@@ -37,6 +37,6 @@ abbrev pub found_message : Option Found → EngineMsg
 found_message None = Nothing
 found_message (Some part) = said_after part.word part.after
 
--- what is before the first known word is ignored
+-- the text before the first known word is ignored
 unfoldable pub engine_message : List ℕ → EngineMsg
 engine_message line = found_message (found_token is_known true line)

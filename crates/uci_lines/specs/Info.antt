@@ -6,7 +6,7 @@ use Rattle.uci_lines.specs.declared.messages.Score.{Score}
 use Rattle.uci_lines.specs.declared.messages.Info as code
 use Rattle.uci_lines.specs.Moves.{longest_move_run}
 
--- what an engine reports of its search, with the moves of its pv
+-- the report of an engine on its search, with the moves of its pv
 pub record Info : Type 0 where
   pub depth : Option ℕ
   pub time : Option ℕ

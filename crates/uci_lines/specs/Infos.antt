@@ -91,6 +91,6 @@ no_facts = record {
   pv = [];
 }
 
--- what follows `info`
+-- the text behind `info`
 unfoldable pub facts_in : List ℕ → Info
 facts_in text = facts_from no_facts (tokens text)

@@ -11,7 +11,7 @@ use Rattle.uci_lines.specs.Choices.{values, default_value}
 use Rattle.uci_lines.specs.Messages.{OptionKind, Check, Spin, Combo, Button}
 use Rattle.uci_lines.specs.Messages.{Text, EngineMsg, OptionLine, Nothing}
 
--- whether `default` is followed by `true`
+-- true if `default` is followed by `true`
 abbrev pub is_on : Option Found → Bool
 is_on None = false
 is_on (Some part) = is_word (codes "true") (first_token part.after)
@@ -29,7 +29,7 @@ abbrev pub first_signed : List (List ℕ) → Option ℤ
 first_signed [] = None
 first_signed (t ∷ ts) = signed_number t
 
--- what a token says of the range, with the tokens after it
+-- the meaning of a token for the range, with the tokens after it
 abbrev pub limited : SpinRange → List ℕ → List (List ℕ) → SpinRange
 limited r t ts =
     if is_word (codes "default") t
@@ -86,7 +86,7 @@ option_with None = Nothing
 option_with (Some part) =
     uci_option_line (trimmed part.before) (shape_named (first_token part.after) (rest_after_token part.after))
 
--- what follows `option`
+-- the text behind `option`
 unfoldable pub option_said : List ℕ → EngineMsg
 option_said text =
     if is_word (codes "name") (first_token text)

@@ -44,7 +44,7 @@ is_search ponder (Clock wtime btime winc binc movestogo) depth =
     is_positive wtime && is_positive btime && is_count winc && is_count binc
     && is_positive_or_none movestogo && is_positive_or_none depth
 
--- whether an order may be written
+-- true if an order may be written
 abbrev pub is_writable_order : Order → Bool
 is_writable_order (SetOption name value) = is_writable_setting name value
 is_writable_order (Position fen moves) = is_writable_start fen && is_played moves

@@ -21,7 +21,7 @@ abbrev pub begins_white : List ℕ → Bool
 begins_white [] = true
 begins_white (b ∷ bs) = is_white b
 
--- whether a text ends with white space; of an empty text it is said
+-- true if a text ends with white space; of an empty text it is said
 abbrev pub ends_white : Bool → List ℕ → Bool
 ends_white fresh [] = fresh
 ends_white fresh (b ∷ bs) = ends_white (is_white b) bs
@@ -39,7 +39,7 @@ pub record FirstTokenPasses (p : List ℕ → Bool) (text : List ℕ) (part : Fo
   pub ends_there : begins_white part.after ≡ true
   pub none_before : IsNoneOf p (tokens part.before)
 
--- what follows the first such word of a text; nothing if there is none
+-- the text behind the first such word; nothing if there is none
 abbrev pub Behind : List ℕ → List ℕ → List ℕ → Type 0
 Behind word text others =
     (IsNoneOf (is_word word) (tokens text) × (others ≡ []))
@@ -62,7 +62,7 @@ pub record IsLast (word : List ℕ) (ts : List (List ℕ)) (n : ℤ) : Type 0 wh
   pub last : (bs : List (List ℕ)) (t : List ℕ) (cs : List (List ℕ)) → others ≡ bs ++ (word ∷ t ∷ cs)
       → signed_number t ≡ None
 
--- what is before the first `default` or `var`, trimmed
+-- the text before the first `default` or `var`, trimmed
 abbrev pub UpToChoice : List ℕ → List ℕ → Type 0
 UpToChoice text value =
     (IsNoneOf is_choice (tokens text) × (value ≡ trimmed text))
@@ -97,7 +97,7 @@ HasShape word text (Text default) =
     (word ≡ codes "string") × (others : List ℕ) × Behind (codes "default") text others
     × (default ≡ option_text_shown (trimmed others))
 
--- what follows `option`: `name`, the name up to the first `type`, and the kind
+-- the text behind `option`: `name`, the name up to the first `type`, and the kind
 abbrev pub Declares : List ℕ → List ℕ → OptionKind → Type 0
 Declares text name shape =
     (first_token text ≡ codes "name")

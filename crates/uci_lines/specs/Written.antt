@@ -24,7 +24,7 @@ is_trimmed_text text = nat_lt 0 (length text) && bytes_eq (trimmed text) text
 abbrev pub onto_first_of : ℕ → List ℕ × List ℕ → List ℕ × List ℕ
 onto_first_of b halves = (b ∷ halves.0, halves.1)
 
--- what is before and after the first ` value `
+-- the text before and after the first ` value `
 abbrev pub value_here : Option (List ℕ) → Option (List ℕ × List ℕ) → Option (List ℕ × List ℕ)
 value_here (Some others) later = Some ([], others)
 value_here None later = later

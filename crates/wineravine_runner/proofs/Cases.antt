@@ -232,7 +232,7 @@ module _ (arguments : List Text) (before after : Outside) (diag diag' : Received
     | inr cut ↦ not_eight 5 (λ d. omega (arith, d)) cut.code_is
   ]
 
-  -- what is told of an engine that a run could not start
+  -- the diagnostic for an engine that a run could not start
   abbrev Unstarted : Type 0
   Unstarted = (after.input ≡ before.input) × IsReportedTo before.output after.output (not_started (engine_named arguments))
 

@@ -1,3 +1,5 @@
 mod Cases
+pub mod LastPart
+pub mod LogLetters
 mod Opening
 mod Parts

@@ -15,7 +15,8 @@ use Rattle.event_pipe.specs.Events.{has_last_event}
 use Rattle.line_io.specs.Event.{has_feed}
 use Rattle.line_io.specs.Lines.{Whole, TooLong, is_feed, parts_by_feed, piece_of, line_feed}
 use Rattle.event_loop.specs.First.{AreOpening, first_events}
-use Rattle.bridge_command_line.specs.WineravineArguments.{first_lines, has_feed_within, wineravine_log_name, cecp_option_line, options_set}
+use Rattle.bridge_command_line.specs.Values.{argument_or_empty}
+use Rattle.bridge_command_line.specs.WineravineArguments.{first_lines, has_feed_within, wineravine_log_name, wineravine_log_folder, cecp_option_line, options_set}
 
 option_is_no_quit : (o : List ℕ) → is_quit (codes "option " ++ o) ≡ false
 option_is_no_quit o = refl
@@ -55,4 +56,6 @@ lines_open (o ∷ os) h =
     ∙ both _ _ (no_end (nat_le (length line) line_limit) line (option_is_no_quit o)) (lines_open os n.1)
 
 pub are_opening : (rows : List Row) → has_feed_within rows ≡ false → AreOpening (first_lines rows)
-are_opening rows h = lines_open (options_set rows) (neither (has_feed (wineravine_log_name rows)) _ h).1
+are_opening rows h =
+    let after = (neither (has_feed (wineravine_log_name rows)) _ h).1 in
+    lines_open (options_set rows) (neither (has_feed (argument_or_empty (wineravine_log_folder rows))) _ after).1

@@ -1,1 +1,2 @@
+pub mod LogNames
 pub mod Program

@@ -12,7 +12,7 @@ use Rattle.program_lifecycle.specs.Program.{StatusIsReported, IsReportedTo}
 use Rattle.program_lifecycle.specs.declared.ending.ProgramEnding.TheVariants as endings
 use Rattle.bridge_runner.specs.Program.{RunsAsAsked}
 use Rattle.protocol_tokens.specs.Bytes.{carriage_return}
-use Rattle.program_command_line.specs.About.{version_line}
+use Rattle.program_command_line.specs.Arguments.About.{version_line}
 use Rattle.bridge_command_line.specs.Values.{argument_or_empty}
 use Rattle.bridge_command_line.specs.WineravineArguments.{WineravineArgumentsAreTaken, AskForHelp, AskForVersion, AreWrong}
 use Rattle.bridge_command_line.specs.WineravineArguments.{WineravineSettingsAreAsked, first_lines, wineravine_argument_values}
@@ -39,7 +39,7 @@ wrong_arguments = user_error (codes "wineravine: wrong arguments")
 abbrev pub is_shown : ℕ → Bool
 is_shown b = not (nat_eq b line_feed) && not (nat_eq b carriage_return)
 
--- what is shown of a name: at most so many bytes, all in one line
+-- the part of a name that is shown: at most so many bytes, all in one line
 abbrev pub argument_name_shown : Text → Text
 argument_name_shown name = take MOST_SHOWN (filter is_shown name)
 
@@ -100,7 +100,7 @@ pub record WineravineRuns (arguments : List Text) (before after : Outside) (diag
   pub unstarted : code ≡ 8 → IsReportedTo left.output after.output (not_started (engine_named arguments))
   pub else_same : code ≢ 8 → after ≡ left
 
--- what the program does, case by case
+-- the behaviour of the program, case by case
 pub record WineravineDoes (arguments : List Text) (before after : Outside) (diag diag' : Received)
     (code : ℕ) : Type 0 where
   pub help : AskForHelp arguments

@@ -33,16 +33,16 @@ def said_to_users():
 def read():
     """The settings, in the order in which a header states them."""
     numbers = {name: number.replace("_", "")
-               for name, number in CONSTANT.findall(code("policy_rules/src/settings.rt"))}
+               for name, number in CONSTANT.findall(code("policy_rules/src/setting_rules/settings.rt"))}
     words = said_to_users()
     return [Setting(name, kind == "truth", usual, numbers.get(least, least),
                     numbers.get(most, most), *words.get(name, (usual, "", "")))
-            for kind, name, usual, least, most in ROW.findall(code("policy_rules/src/table.rt"))]
+            for kind, name, usual, least, most in ROW.findall(code("policy_rules/src/setting_rules/table.rt"))]
 
 
 def stated_by_versions():
     """The settings that each header states, of each version from the second on."""
-    numbers = re.findall(r"const \w+_SETTINGS: usize = (\d+);", code("policy_rules/src/table.rt"))
+    numbers = re.findall(r"const \w+_SETTINGS: usize = (\d+);", code("policy_rules/src/setting_rules/table.rt"))
     return [read()[:number] for number in sorted(map(int, numbers))]
 
 

@@ -1,7 +1,7 @@
 // A run over a host in memory whose log can be but one, written out to the byte.
 use crate::expected::{expect_bytes, words_of};
 use crate::program::Counts;
-use child_engine::{Fails, MemHost};
+use child_engine::{Fails, LogPlace, MemHost};
 use line_io::MemSink;
 use paced_host::{DueText, PacedHost, PacedLog, PacedTexts};
 use program_lifecycle::Interface;
@@ -9,7 +9,7 @@ use std::alloc::Global;
 use std::process::Abort;
 use std::sync::Wait;
 use std::thread::Threads;
-use wineravine_runner::{refuse_for_memory, wineravine_main};
+use wineravine_runner::{ProgramCall, refuse_for_memory, wineravine_main};
 
 /// The text that the engine says at once, in one piece.
 const ENGINE: &[u8] = b"\
@@ -34,7 +34,8 @@ const OUTPUT: &[u8] = b"Error (unknown option): option Nope=1\npong 3\n";
 
 const LOG: &[u8] = b"\
     #3 Resign=false ResignMoves=3 ResignScore=600 ShowPonder=true EarlySettings=true \
-    ResignWhenGone=true HandleDraws=true ShowSan=true StrengthOptions=true FenceStops=true\n\
+    ResignWhenGone=true HandleDraws=true ShowSan=true StrengthOptions=true FenceStops=true \
+    TimeMargin=20 RepeatThinking=true\n\
     # 0\n\
     U uci\n\
     # 1\n\
@@ -81,8 +82,11 @@ fn run_program<'a, R: Threads + Wait + Sync + Abort>(
         output: PacedLog::new(output, &counts.output),
     };
     let mut diag = MemSink::make(alloc, 1_000, &[]).expect(rt, "memory");
-    let arguments = arguments.as_slice();
-    let status = wineravine_main(rt, alloc, arguments, &mut interface, &mut host, &mut diag);
+    let call = ProgramCall {
+        arguments: arguments.as_slice(),
+        process_id: 77,
+    };
+    let status = wineravine_main(rt, alloc, &call, &mut interface, &mut host, &mut diag);
     assert_eq!(rt; status.code, 0);
     expect_bytes(rt, interface.output.sink.taken(), OUTPUT);
     expect_bytes(rt, diag.taken(), b"");
@@ -94,7 +98,7 @@ fn options_come_before_the_first_line_of_an_engine_that_talks_at_once(rt: HostRu
     let counts = Counts::new();
     let host = run_program(&rt, rt.alloc(), &counts);
     expect_bytes(&rt, host.logged(), LOG);
-    assert!(rt; host.was_asked_for(1, &["toy", "-x"], "w.log"));
+    assert!(rt; host.was_asked_for(1, &["toy", "-x"], &LogPlace::File("w.log")));
 }
 
 #[test]

@@ -54,6 +54,8 @@ const LONGEST: Settings = Settings {
     show_san: false,
     strength_options: false,
     fence_stops: true,
+    time_margin: 10_000,
+    repeat_thinking: true,
 };
 
 #[test]
@@ -62,7 +64,7 @@ fn writes_the_longest_header(rt: HostRuntime) {
     write_header(&LONGEST, &mut out);
     let ends = out
         .bytes()
-        .ends_with(b"StrengthOptions=false FenceStops=true");
+        .ends_with(b"FenceStops=true TimeMargin=10000 RepeatThinking=true");
     expect(&rt, ends, "later settings last");
     expect(&rt, read_header(out.bytes()) == Some(LONGEST), "longest");
 }

@@ -3,7 +3,7 @@ use crate::expect::expect;
 use policy_rules::{Range, SETTINGS, Setting, Settings, Value, name_in, read_number};
 
 /// A name, and the text of its usual value.
-const ROWS: [(&str, &str); 10] = [
+const ROWS: [(&str, &str); 12] = [
     ("Resign", "false"),
     ("ResignMoves", "3"),
     ("ResignScore", "600"),
@@ -14,6 +14,8 @@ const ROWS: [(&str, &str); 10] = [
     ("ShowSan", "false"),
     ("StrengthOptions", "false"),
     ("FenceStops", "false"),
+    ("TimeMargin", "0"),
+    ("RepeatThinking", "false"),
 ];
 
 /// True if a setting has this name and this usual value.

@@ -117,7 +117,7 @@ fn are_refused(alloc: Global, arguments: &[Vec<u8>]) -> bool {
     }
 }
 
-// The words of a row are refused just if its status is 2.
+// The arguments of a row are refused just if its status is 2.
 fn expect_refusals(rt: &impl Abort, alloc: Global, rows: &str) {
     for row in rows.split(';') {
         let (_, arguments, others) = three_of(row);
@@ -128,7 +128,7 @@ fn expect_refusals(rt: &impl Abort, alloc: Global, rows: &str) {
     }
 }
 
-// True if this log and an engine of these two words are asked for.
+// True if this log and an engine of these two arguments are asked for.
 fn asks_for(request: &EngineRequest, log_name: &str, program: &str, argument: &str) -> bool {
     let [first, second] = request.engine.as_slice() else {
         return false;

@@ -88,7 +88,7 @@ const LOG: WholeLog = WholeLog {
         x quit\n",
 };
 
-// True if the words that are taken are read as what they ask for.
+// True if the arguments that are taken are read as what they ask for.
 fn are_read(rt: &impl Abort, alloc: Global) -> bool {
     let arguments = words_of(rt, alloc, "9,-,toy,--deep");
     match read_arguments(alloc, arguments.as_slice()) {

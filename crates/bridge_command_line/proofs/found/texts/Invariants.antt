@@ -1,6 +1,6 @@
 -- The rest of the arguments completes the texts.
 use Rattle.std.proofs.Common.{◌≡◌, ◌++◌, drop, map}
-use Rattle.program_command_line.specs.Arguments.{argument_bytes_of, AreUtf8}
+use Rattle.program_command_line.specs.Arguments.Request.{argument_bytes_of, AreUtf8}
 use Rattle.bridge_command_line.proofs.found.texts.Given as goal
 
 abbrev pub invariant-loop-argument : goal.invariant-loop-argument

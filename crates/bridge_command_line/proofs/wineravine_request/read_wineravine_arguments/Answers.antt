@@ -1,7 +1,7 @@
 use Rattle.std.proofs.Common.{◌≡◌, ◌∙◌, List, ap, subst, map}
 use Rattle.std.proofs.lemmas.Result.{IfOk-weaker}
 use Rattle.clap.specs.Words.{HasKind, Text}
-use Rattle.program_command_line.specs.Arguments.{argument_bytes_of}
+use Rattle.program_command_line.specs.Arguments.Request.{argument_bytes_of}
 use Rattle.bridge_command_line.specs.WineravineArguments.{wineravine_argument_faults}
 use Rattle.bridge_command_line.proofs.Reading.{asked_by}
 use Rattle.bridge_command_line.proofs.wineravine_request.read_wineravine_arguments.Goals as goal

@@ -1,4 +1,5 @@
 use Rattle.std.proofs.Common.{◌∙◌, ap, map, string_bytes}
+use Rattle.child_engine.specs.Places.{log_file}
 use Rattle.program_lifecycle.proofs.Asked.{asks_refused, asks_reported}
 use Rattle.program_lifecycle.proofs.Causes as causes
 use Rattle.bridge_runner.proofs.main_call.end_of.Goals as goal
@@ -17,7 +18,7 @@ pub returns-in-Ok-clause-asked : goal.returns-in-Ok-clause-asked
 returns-in-Ok-clause-asked g c =
     let reported = c.run_bridge.ensures.runs.leaves.reported in
     asks_reported _ _ _ _ _ _ _ _ _ _ (ap (map string_bytes) c.as_slice.ensures.value ∙ c.in-Ok.ensures.asked.engine)
-    (c.as_str.ensures.value ∙ c.in-Ok.ensures.asked.log) reported.engine_start reported.log c.run_bridge.ensures.asked
+    (ap log_file (c.as_str.ensures.value ∙ c.in-Ok.ensures.asked.log)) reported.engine_start reported.log c.run_bridge.ensures.asked
 
 pub returns-in-Err-clause-asked : goal.returns-in-Err-clause-asked
 returns-in-Err-clause-asked g c = asks_refused _ _ _ _ _ c.requires

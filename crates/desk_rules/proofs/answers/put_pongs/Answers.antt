@@ -1,7 +1,7 @@
 use Rattle.std.proofs.Common.{◌∙◌, arith, ap, length, get_or, List, ℕ, length-append}
 use Rattle.line_io.specs.Out.{Text, with}
 use Rattle.cecp_lines.specs.Replies as cecp
-use Rattle.option_map.specs.Features.{reply_line}
+use Rattle.option_map.specs.FeatureLists.Features.{reply_line}
 use Rattle.desk_rules.proofs.Rooms.{pong_more}
 use Rattle.desk_rules.proofs.answers.put_pongs.Goals as goal
 

@@ -1,7 +1,7 @@
 use Rattle.std.proofs.Common.{◌≡◌, ◌+◌, ◌*◌, ◌≤◌, length, take, map}
 use Rattle.line_io.specs.Out.{with}
 use Rattle.cecp_lines.specs.Replies as cecp
-use Rattle.option_map.specs.Features.{reply_lines}
+use Rattle.option_map.specs.FeatureLists.Features.{reply_lines}
 use Rattle.desk_rules.proofs.answers.put_pongs.Given as goal
 
 abbrev pub invariant-loop-number : goal.invariant-loop-number

@@ -2,7 +2,7 @@ use Rattle.std.proofs.Common.{◌≡◌, List, ℕ, Option, ap, sym, subst, ◌�
 use Rattle.std.specs.Option.{option_to_list}
 use Rattle.line_io.specs.Lines.{parts_by_feed}
 use Rattle.uci_lines.specs.Orders.{Order}
-use Rattle.option_map.specs.Held.{with_orders}
+use Rattle.option_map.specs.WaitingOrders.Held.{with_orders}
 use Rattle.desk_rules.specs.Lines.{order_asked_by}
 use Rattle.desk_rules.specs.Orders.{AllJoin, early_order, early_orders}
 use Rattle.desk_rules.proofs.Joins.{orders_append, parts_join}

@@ -1,6 +1,6 @@
 use Rattle.std.proofs.Common.{◌≡◌, length}
 use Rattle.line_io.specs.Lines.{parts_by_feed}
-use Rattle.option_map.specs.Held.{with_orders}
+use Rattle.option_map.specs.WaitingOrders.Held.{with_orders}
 use Rattle.desk_rules.specs.Orders.{AllJoin, early_orders}
 use Rattle.desk_rules.proofs.early.hold_lines.Given as goal
 

@@ -1,7 +1,7 @@
 use Rattle.std.proofs.Common.{◌≡◌, ◌∷◌, ◌++◌, List, ℕ, ap, ◌∙◌}
 use Rattle.line_io.specs.Lines.{parts_by_feed}
-use Rattle.option_map.proofs.Rooms.{room_here, put_on}
-use Rattle.option_map.specs.Features.{reply_lines}
+use Rattle.option_map.proofs.FeatureLists.Rooms.{room_here, put_on}
+use Rattle.option_map.specs.FeatureLists.Features.{reply_lines}
 use Rattle.desk_rules.specs.Lines.{refused_option, early_answer}
 use Rattle.desk_rules.specs.Replies.{early_refusal, early_refusals}
 use Rattle.desk_rules.proofs.Rooms.{lines-append}

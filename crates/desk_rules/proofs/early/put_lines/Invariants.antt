@@ -1,7 +1,7 @@
 use Rattle.std.proofs.Common.{◌≡◌, length}
 use Rattle.line_io.specs.Lines.{parts_by_feed}
 use Rattle.line_io.specs.Out.{with}
-use Rattle.option_map.specs.Features.{reply_lines}
+use Rattle.option_map.specs.FeatureLists.Features.{reply_lines}
 use Rattle.desk_rules.specs.Replies.{early_refusals}
 use Rattle.desk_rules.proofs.early.put_lines.Given as goal
 

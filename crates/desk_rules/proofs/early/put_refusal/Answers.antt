@@ -5,9 +5,9 @@ use Rattle.cecp_lines.specs.declared.reply.Reason.TheVariants as reasons
 use Rattle.protocol_tokens.specs.Tokens.{trimmed}
 use Rattle.line_io.specs.Out.{Text, with}
 use Rattle.uci_lines.specs.Orders.{Order}
-use Rattle.option_map.specs.declared.fault.OptionFault.{OptionFault}
-use Rattle.option_map.specs.Data.{answer_seen}
-use Rattle.option_map.specs.Features.{reply_lines}
+use Rattle.option_map.specs.declared.declared_options.fault.OptionFault.{OptionFault}
+use Rattle.option_map.specs.DeclaredOptions.Data.{answer_seen}
+use Rattle.option_map.specs.FeatureLists.Features.{reply_lines}
 use Rattle.desk_rules.specs.declared.effect.Refusal.{Refusal}
 use Rattle.desk_rules.specs.Lines.{because, early_answer, refused_option}
 use Rattle.desk_rules.specs.Replies.{early_refusal}

@@ -1,7 +1,7 @@
 use Rattle.std.proofs.Common.{ℕ, List, ◌++◌, length, ap, ◌∙◌, arith, length-append, append_assoc}
 use Rattle.uci_lines.specs.Orders.{IsReady}
 use Rattle.line_io.specs.Out.{Text, with}
-use Rattle.option_map.specs.Held.{held_batch_text, held_order_line}
+use Rattle.option_map.specs.WaitingOrders.Held.{held_batch_text, held_order_line}
 use Rattle.desk_rules.proofs.Batches.{batch_lines, ready_size}
 use Rattle.desk_rules.proofs.orders.put_batch.Goals as goal
 

@@ -1,4 +1,5 @@
 use Rattle.std.proofs.Common.{ap, map, string_bytes}
+use Rattle.child_engine.specs.Places.{log_file}
 use Rattle.program_lifecycle.proofs.Asked.{asks_by, asks_refused, asks_reported}
 use Rattle.program_lifecycle.proofs.Causes as causes
 use Rattle.driver_runner.proofs.main_call.end_of.Goals as goal
@@ -11,7 +12,7 @@ returns-in-Ok-clause-ends g c =
 pub returns-in-Ok-clause-asked : goal.returns-in-Ok-clause-asked
 returns-in-Ok-clause-asked g c =
     asks_by _ _ _ _ _ _ _ _ c.in-Ok.ensures.asked.words_are
-    (asks_reported _ _ _ _ _ _ _ _ _ _ (ap (map string_bytes) c.as_slice.ensures.value) c.as_str.ensures.value
+    (asks_reported _ _ _ _ _ _ _ _ _ _ (ap (map string_bytes) c.as_slice.ensures.value) (ap log_file c.as_str.ensures.value)
     c.drive_run.ensures.leaves.reported.engine_start c.drive_run.ensures.leaves.reported.log c.drive_run.ensures.asked)
 
 pub returns-in-Err-clause-asked : goal.returns-in-Err-clause-asked

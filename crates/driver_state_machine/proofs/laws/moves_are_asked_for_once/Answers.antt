@@ -1,4 +1,5 @@
-use Rattle.driver_state_machine.proofs.Prompts.{prompts_are_due, prompts_once, prompts_have_cause}
+use Rattle.driver_state_machine.proofs.Prompts.{prompts_are_due, prompts_once}
+use Rattle.driver_state_machine.proofs.PromptCauses.{prompts_have_cause}
 use Rattle.driver_state_machine.proofs.laws.moves_are_asked_for_once.Goals as goal
 
 pub returns-clause-due : goal.returns-clause-due

@@ -4,7 +4,7 @@ use Rattle.chess_board.specs.declared.board.Move.{Move}
 use Rattle.driver_state_machine.specs.Moves.{IsThought}
 use Rattle.driver_state_machine.proofs.moves.thought_move.Given as goal
 
--- what is found in the rest is found in all
+-- a move that is found in the rest is found in all
 abbrev pub invariant-loop-token : goal.invariant-loop-token
 invariant-loop-token l = (best : Option Move) → IsThought l.at (tokens l.others) best → IsThought l.at (tokens l.fn.text) best
 

@@ -5,7 +5,7 @@ use Rattle.line_io.specs.LineConsumers.{ConsumerMeaning}
 use Rattle.line_io.specs.Turns.{ConsumerReached, work}
 use Rattle.line_io.proofs.turns.take_held.Goals as goal
 
--- what was reached, said of what is the same
+-- the state that was reached, said of an equal one
 at_same : {S O X : Type 0} (means : ConsumerMeaning S O X) (limit : ℕ) (first now : Place S O) (before held : Held) (calls number : ℕ) → held ≡ before → ConsumerReached means limit first now before calls number → ConsumerReached means limit first now held calls number
 at_same means limit first now before held calls number same r = subst (λ (h : Held). ConsumerReached means limit first now h calls number) (sym same) r
 

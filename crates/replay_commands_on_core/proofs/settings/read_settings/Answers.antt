@@ -1,8 +1,8 @@
 use Rattle.std.proofs.Common.{IfSome, sym, ap, ◌∙◌, subst, Option, ◌-◌, length, take, drop}
-use Rattle.policy_rules.specs.declared.settings.Settings.{Settings}
-use Rattle.policy_rules.specs.declared.table.Choice.{Choice}
-use Rattle.policy_rules.specs.Table.{IsWithinRange, range_of_setting}
-use Rattle.policy_rules.specs.Words.{name_in}
+use Rattle.policy_rules.specs.declared.setting_rules.settings.Settings.{Settings}
+use Rattle.policy_rules.specs.declared.setting_rules.table.Choice.{Choice}
+use Rattle.policy_rules.specs.SettingRules.Table.{IsWithinRange, range_of_setting}
+use Rattle.policy_rules.specs.SettingRules.Words.{name_in}
 use Rattle.replay_commands_on_core.specs.Commands.{argument_bytes}
 use Rattle.replay_commands_on_core.specs.Words.{settings_after, settings_of}
 use Rattle.replay_commands_on_core.proofs.Chosen.{at_bad, at_next}

@@ -1,6 +1,6 @@
 -- The rest of the arguments completes what they gave.
 use Rattle.std.proofs.Common.{◌≡◌, length}
-use Rattle.policy_rules.specs.Policy.{IsProper}
+use Rattle.policy_rules.specs.SettingRules.Policy.{IsProper}
 use Rattle.replay_commands_on_core.specs.Commands.{argument_bytes}
 use Rattle.replay_commands_on_core.specs.Words.{settings_after, settings_of}
 use Rattle.replay_commands_on_core.proofs.settings.read_settings.Given as goal

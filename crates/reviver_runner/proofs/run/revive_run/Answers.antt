@@ -1,5 +1,6 @@
 use Rattle.std.proofs.Common.{◌∙◌, ap, map, string_bytes, sym, vec_items}
 use Rattle.child_engine.specs.Asked.{and_engines}
+use Rattle.child_engine.specs.Places.{log_file}
 use Rattle.program_lifecycle.proofs.Asked.{asks_as, asks_early, asks_many}
 use Rattle.reviver_runner.proofs.RunSteps.{ran_as, unstarted}
 use Rattle.reviver_runner.proofs.run.revive_run.Goals as goal
@@ -11,7 +12,7 @@ returns-in-Ok-clause-leaves g c =
 
 pub returns-in-Ok-clause-asked : goal.returns-in-Ok-clause-asked
 returns-in-Ok-clause-asked g c =
-    asks_as _ _ _ _ _ _ _ _ (ap (λ v. map string_bytes (vec_items v)) c.in-Ok.ensures.arguments) c.as_str.ensures.value
+    asks_as _ _ _ _ _ _ _ _ (ap (λ v. map string_bytes (vec_items v)) c.in-Ok.ensures.arguments) (ap log_file c.as_str.ensures.value)
     (asks_many _ _ _ _ _ _ _ _ _ c.requires.unused c.in-Ok.ensures.ledger
     (c.in-Ok.ensures.asked ∙ ap (λ v. and_engines 1 (map string_bytes (vec_items v)) (g.H.Host.asked c.args.host.now)) (sym c.in-Ok.ensures.arguments)) c.run_started.ensures.asked)
 

@@ -1,5 +1,5 @@
 use Rattle.std.proofs.Common.{◌++◌, ap, sym, ◌∙◌}
-use Rattle.policy_rules.specs.Table.{later_settings}
+use Rattle.policy_rules.specs.SettingRules.Table.{later_settings}
 use Rattle.script_lines.specs.Header.{unusual_text}
 use Rattle.script_lines.proofs.Headers.{third_text}
 use Rattle.script_lines.proofs.header.header_text.Goals as goal

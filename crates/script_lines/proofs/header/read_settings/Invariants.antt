@@ -1,8 +1,8 @@
 use Rattle.std.proofs.Common.{◌≡◌, length}
 use Rattle.std.specs.Option.{option_map}
 use Rattle.protocol_tokens.specs.Tokens.{tokens}
-use Rattle.policy_rules.specs.Policy.{IsProper}
-use Rattle.policy_rules.specs.Words.{choices_of, with_choices}
+use Rattle.policy_rules.specs.SettingRules.Policy.{IsProper}
+use Rattle.policy_rules.specs.SettingRules.Words.{choices_of, with_choices}
 use Rattle.script_lines.specs.Header.{header_settings_in}
 use Rattle.script_lines.proofs.header.read_settings.Given as goal
 

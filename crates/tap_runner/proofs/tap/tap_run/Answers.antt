@@ -1,4 +1,5 @@
 use Rattle.std.proofs.Common.{ap, map, refl, string_bytes}
+use Rattle.child_engine.specs.Places.{log_file}
 use Rattle.program_lifecycle.proofs.Asked.{asks_as, asks_one, asks_early}
 use Rattle.tap_runner.proofs.Starts.{leaves_run, leaves_nothing}
 use Rattle.tap_runner.proofs.tap.tap_run.Goals as goal
@@ -8,7 +9,7 @@ returns-in-Ok-clause-leaves g c = leaves_run _ _ _ _ _ _ _ _ _ _ c.in-Ok.ensures
 
 pub returns-in-Ok-clause-asked : goal.returns-in-Ok-clause-asked
 returns-in-Ok-clause-asked g c =
-    asks_as _ _ _ _ _ _ _ _ (ap (map string_bytes) c.as_slice.ensures.value) c.as_str.ensures.value
+    asks_as _ _ _ _ _ _ _ _ (ap (map string_bytes) c.as_slice.ensures.value) (ap log_file c.as_str.ensures.value)
     (asks_one _ _ _ _ _ _ _ _ _ c.requires.unused c.in-Ok.ensures.ledger c.in-Ok.ensures.asked c.run_started.ensures.asked)
 
 pub returns-in-Err-clause-leaves : goal.returns-in-Err-clause-leaves

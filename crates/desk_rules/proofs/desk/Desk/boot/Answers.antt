@@ -1,5 +1,5 @@
 use Rattle.std.proofs.Common.{arith, ap, true}
-use Rattle.option_map.specs.Features.{reply_lines}
+use Rattle.option_map.specs.FeatureLists.Features.{reply_lines}
 use Rattle.desk_rules.specs.Replies.{list_where, early_refusals}
 use Rattle.desk_rules.proofs.Rooms.{put_le, two_lines}
 use Rattle.desk_rules.proofs.EarlyRooms.{refusals_le, boot_le}

@@ -1,7 +1,7 @@
 use Rattle.std.proofs.Common.{◌≡◌, ◌++◌, List, Option, ap, sym, subst, ◌∙◌}
 use Rattle.std.specs.Option.{option_to_list}
 use Rattle.uci_lines.specs.Orders.{Order}
-use Rattle.option_map.specs.Held.{with_orders}
+use Rattle.option_map.specs.WaitingOrders.Held.{with_orders}
 use Rattle.desk_rules.specs.declared.desk.Desk.{Desk}
 use Rattle.desk_rules.specs.Orders.{ponder_at_boot, analysis_at_boot, early_orders, asked_at_boot, AllJoin}
 use Rattle.desk_rules.proofs.Joins.{orders_append, parts_join}

@@ -2,7 +2,7 @@ use Rattle.std.proofs.Common.{◌++◌, List, length, ap, sym, ◌∙◌, arith,
 use Rattle.line_io.specs.Out.{with}
 use Rattle.cecp_lines.specs.Messages.{message_of}
 use Rattle.cecp_lines.specs.Replies.{Reply}
-use Rattle.option_map.specs.Features.{reply_lines}
+use Rattle.option_map.specs.FeatureLists.Features.{reply_lines}
 use Rattle.desk_rules.specs.declared.desk.Desk.{Desk}
 use Rattle.desk_rules.specs.Desk.{at}
 use Rattle.desk_rules.specs.Lines.{change}

@@ -3,7 +3,7 @@ use Rattle.line_io.specs.Out.{with}
 use Rattle.cecp_lines.specs.Replies.{Reply}
 use Rattle.cecp_lines.specs.Replies as cecp
 use Rattle.cecp_lines.specs.declared.reply.UserError.TheVariants as user_error
-use Rattle.option_map.specs.Features.{reply_lines}
+use Rattle.option_map.specs.FeatureLists.Features.{reply_lines}
 use Rattle.desk_rules.specs.Replies.{list_where, resign_where}
 use Rattle.desk_rules.proofs.Rooms.{two_lines}
 use Rattle.desk_rules.proofs.desk.Desk.put_end.Goals as goal

@@ -1,5 +1,5 @@
 use Rattle.std.proofs.Common.{◌≤◌, Bool, cond, [], length, subst, sym, arith}
-use Rattle.option_map.specs.Features.{feature_list, reply_lines}
+use Rattle.option_map.specs.FeatureLists.Features.{feature_list, reply_lines}
 use Rattle.desk_rules.proofs.Rooms.{list_le}
 use Rattle.desk_rules.proofs.desk.Desk.put_list.Goals as goal
 

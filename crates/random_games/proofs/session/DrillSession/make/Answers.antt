@@ -1,5 +1,5 @@
 use Rattle.std.proofs.Common.{[], sym, subst, arith}
-use Rattle.policy_rules.specs.declared.settings.Settings.{Settings}
+use Rattle.policy_rules.specs.declared.setting_rules.settings.Settings.{Settings}
 use Rattle.adapter_core.specs.Represents.{Represents}
 use Rattle.random_games.specs.Sent.{CountsAreFew}
 use Rattle.random_games.proofs.session.DrillSession.make.Goals as goal

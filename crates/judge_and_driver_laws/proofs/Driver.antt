@@ -1,0 +1,4 @@
+mod Fed
+pub mod Spelled
+mod Held
+pub mod Heard

@@ -1,5 +1,0 @@
-use Rattle.judge_and_driver_laws.proofs.Tapped as tapped
-use Rattle.judge_and_driver_laws.proofs.laws.taps_are_clean.Goals as goal
-
-pub returns : goal.returns
-returns c = tapped.taps_are_clean

@@ -1,5 +1,0 @@
-use Rattle.policy_rules.proofs.Counts.{draws}
-use Rattle.policy_rules.proofs.scores.Scores.accepts_draw.Goals as goal
-
-pub returns-clause-exact : goal.returns-clause-exact
-returns-clause-exact c = λ o xs p e. draws o xs c.args.self.now p e
