@@ -10,7 +10,7 @@ _wineravine_files() { # the word so far
 # files could come there.
 _wineravine_values() { # the setting, the word so far
   case $1 in
-    --Resign | --ShowPonder | --EarlySettings | --ResignWhenGone | --HandleDraws | --ShowSan | --StrengthOptions | --FenceStops | --RepeatThinking)
+    --Resign | --ShowPonder | --EarlySettings | --ResignWhenGone | --HandleDraws | --ShowSan | --StrengthOptions | --FenceStops | --ResultReasons | --PlainTexts | --PathOptions | --RepeatThinking)
       mapfile -t COMPREPLY < <(compgen -W 'true false' -- "$2") ;;
     --ResignMoves) mapfile -t COMPREPLY < <(compgen -W 3 -- "$2") ;;
     --ResignScore) mapfile -t COMPREPLY < <(compgen -W 600 -- "$2") ;;
@@ -23,7 +23,7 @@ _wineravine() {
   local word=${COMP_WORDS[COMP_CWORD]} at=1 setting='' settings
   settings='--Resign --ResignMoves --ResignScore --ShowPonder --LogFile'
   [ "${1##*/}" != wineravine ] ||
-    settings="$settings --EarlySettings --ResignWhenGone --HandleDraws --ShowSan --StrengthOptions --FenceStops --TimeMargin --RepeatThinking --LogDir --Option --help --version"
+    settings="$settings --EarlySettings --ResignWhenGone --HandleDraws --ShowSan --StrengthOptions --FenceStops --ResultReasons --TimeMargin --PlainTexts --PathOptions --RepeatThinking --LogDir --Option --help --version"
   COMPREPLY=()
   # each setting with its value, which bash takes apart at `=`, until the engine comes
   while [ "$at" -lt "$COMP_CWORD" ]; do
@@ -59,7 +59,8 @@ _wineravine_replay() {
   case ${COMP_WORDS[1]} in
     replay | check | migrate | games | positions)
       mapfile -t COMPREPLY < <(compgen -W 'Resign= ResignMoves= ResignScore= ShowPonder= EarlySettings= ResignWhenGone=
-        HandleDraws= ShowSan= StrengthOptions= FenceStops= TimeMargin= RepeatThinking=' -- "$word")
+        HandleDraws= ShowSan= StrengthOptions= FenceStops= ResultReasons= TimeMargin= PlainTexts= PathOptions=
+        RepeatThinking=' -- "$word")
       compopt -o nospace ;;
     judge) mapfile -t COMPREPLY < <(compgen -W tap -- "$word") ;;
     revive) mapfile -t COMPREPLY < <(compgen -W '1 2 3 4 5 6 7 8 9' -- "$word") ;;

@@ -25,8 +25,8 @@ use Rattle.desk_rules.specs.declared.desk.Desk.{Desk}
 use Rattle.desk_rules.specs.Desk.{Situation, table, plays, has_ended, is_gone, is_boot, owes_move, owed_at, call_of_desk, call_before}
 use Rattle.desk_rules.specs.Early.{is_setting, may_wait}
 use Rattle.desk_rules.specs.Lines.{line_verdict, verdict_on, is_early, early_verdict, asks, or_else, reason_where, refused_option, does_not_fit, refusal, change}
-use Rattle.desk_rules.specs.Steps.{Effect, Nothing, LongLine, Refuses, Accepts, Defers, Boots, Thinks, Shows, Dies, classify, line_effect, desk_after_effect, resigns_when_gone, answers_pings, is_death}
-use Rattle.desk_rules.specs.Replies.{reply_row, row_accepted, result_reply_of, result_at, resign_where, offer_where, draw_row, hint_row, repeated_thinking, replies_of}
+use Rattle.desk_rules.specs.Steps.{Effect, Nothing, LongLine, Refuses, Accepts, Defers, Boots, Thinks, Shows, Forfeits, Dies, classify, line_effect, desk_after_effect, resigns_when_gone, answers_pings, is_death}
+use Rattle.desk_rules.specs.Replies.{reply_row, row_accepted, result_reply_of, result_at, given_up_where, offer_where, draw_row, hint_row, repeated_thinking, replies_of}
 use Rattle.desk_rules.proofs.Firsts.{no_table}
 use Rattle.adapter_core.specs.Ends.{ends_after}
 use Rattle.adapter_core.specs.Trace.{State, Step, IsLawfulStep, LawfulTrace, state, trace_state_after, situation_of_state, effect, turn_of_event, owed_after, closed_after, step_hits, desk_of, step_replies}
@@ -157,10 +157,10 @@ hintless_misses : (s : State) (e : Event) → s.desk.hint ≡ None → step_hits
 hintless_misses s e n = no_ponder (ticket_ponders s.dialogue) (is_move (owed_after s e)) (turn_of_event s e).what s.desk.hint n
 
 plain_replies : (closed owes : Bool) (h : Situation) (d : Effect)
-    → replies_of closed owes false h d ≡ cond closed [] (reply_row h d ++ resign_where (resigns_when_gone closed h d) ++ cond owes [] (map reply.Pong (desk_after_effect h d).pings))
+    → replies_of closed owes false h d ≡ cond closed [] (reply_row h d ++ given_up_where (resigns_when_gone closed h d) h.settings (desk_after_effect h d).game ++ cond owes [] (map reply.Pong (desk_after_effect h d).pings))
 plain_replies closed owes h d = plain h.settings.repeat_thinking where
   rows : List Reply
-  rows = reply_row h d ++ resign_where (resigns_when_gone closed h d)
+  rows = reply_row h d ++ given_up_where (resigns_when_gone closed h d) h.settings (desk_after_effect h d).game
 
   plain : (b : Bool) → cond closed [] (rows ++ repeated_thinking (b && false) (desk_after_effect h d).last_thinking ++ cond owes [] (map reply.Pong (desk_after_effect h d).pings))
       ≡ cond closed [] (rows ++ cond owes [] (map reply.Pong (desk_after_effect h d).pings))
@@ -271,6 +271,7 @@ module _ (o : Settings) (s : State) (a : Alone) (holds : Lasts s) (alike : Alike
   row_alike Boots i t = absurd i
   row_alike (Thinks k facts) i t = absurd i
   row_alike (Shows best hint) i t = absurd i
+  row_alike (Forfeits answer) i t = absurd i
   row_alike Dies i t = absurd i
   row_alike d i t = refl
 
@@ -341,11 +342,11 @@ module _ (o : Settings) (s : State) (a : Alone) (holds : Lasts s) (alike : Alike
           ∙ ap (λ (b : Bool). replies_of b owes false h d) closed_alike
           ∙ ap (λ (b : Bool). replies_of closed_then b false h d) owed_alike
           ∙ plain_replies closed_then (lone_owes o a e) h d
-          ∙ ap (λ (b : Bool). cond closed_then [] (reply_row h d ++ resign_where b ++ cond (lone_owes o a e) [] (map reply.Pong (desk_after_effect h d).pings)))
+          ∙ ap (λ (b : Bool). cond closed_then [] (reply_row h d ++ given_up_where b h.settings (desk_after_effect h d).game ++ cond (lone_owes o a e) [] (map reply.Pong (desk_after_effect h d).pings)))
           (no_resigner s.settings.resign_when_gone (is_gone h.engine || is_death d) (is_move (call_of_desk closed_then false (desk_after_effect h d))) still_here)
           ∙ ap (λ (rows : List Reply). cond closed_then [] (rows ++ [] ++ cond (lone_owes o a e) [] (map reply.Pong (desk_after_effect h d).pings))) (row_alike d of_iface t)
           ∙ ap (λ (c : Commanded). cond closed_then [] (reply_row g d ++ [] ++ cond (lone_owes o a e) [] (map reply.Pong c.pings))) (alike_effect d of_iface)
-          ∙ sym (ap (λ (b : Bool). cond closed_then [] (reply_row g d ++ resign_where b ++ cond (lone_owes o a e) [] (map reply.Pong (desk_after_effect g d).pings)))
+          ∙ sym (ap (λ (b : Bool). cond closed_then [] (reply_row g d ++ given_up_where b o (desk_after_effect g d).game ++ cond (lone_owes o a e) [] (map reply.Pong (desk_after_effect g d).pings)))
           (no_resigner o.resign_when_gone (is_death d) (is_move (call_of_desk closed_then false (desk_after_effect g d))) (no_death d of_iface)))
           ∙ sym (plain_replies closed_then (lone_owes o a e) g d)
           ∙ ap (λ (y : Effect). replies_of closed_then (lone_owes o a e) false g y) q

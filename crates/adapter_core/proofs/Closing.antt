@@ -92,7 +92,7 @@ pub closed_rises : (ends : Ends) (h : Situation) (held : List Order) (e : Event)
 unfolding classify
 closed_rises ends h held (events.Iface line) same c = either_rises h held h.closed (is_quit line) line (message_or_fault line) (sym (quit_first line)) (rw same c)
 closed_rises ends h held events.IfaceLong same c = nothing_rises h h.closed LongLine (same ∙ c)
-closed_rises ends h held (events.Engine line) same c = nothing_rises h h.closed (engine_says h (engine_message line)) (same ∙ c)
+closed_rises ends h held (events.Engine line) same c = nothing_rises h h.closed (engine_says h line (engine_message line)) (same ∙ c)
 closed_rises ends h held events.EngineEnd same c = dead_rises h (is_gone h.engine)
 closed_rises ends h held events.EngineLost same c = dead_rises h (is_gone h.engine)
 closed_rises ends h held e same c = refl
@@ -140,7 +140,7 @@ pub closing : (ends : Ends) (h : Situation) (held : List Order) (e : Event) → 
 unfolding classify
 closing ends h held (events.Iface line) same c = either_closes h held h.closed (is_quit line) line (message_or_fault line) (sym (quit_first line)) (rw same c)
 closing ends h held events.IfaceLong same c = cond_closes h.closed LongLine (same ∙ c)
-closing ends h held (events.Engine line) same c = cond_closes h.closed (engine_says h (engine_message line)) (same ∙ c)
+closing ends h held (events.Engine line) same c = cond_closes h.closed (engine_says h line (engine_message line)) (same ∙ c)
 closing ends h held events.EngineEnd same c = dead_closes (is_gone h.engine)
 closing ends h held events.EngineLost same c = dead_closes (is_gone h.engine)
 closing ends h held e same c = tt

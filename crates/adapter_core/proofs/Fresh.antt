@@ -100,7 +100,7 @@ pub stays : (h : Situation) (d : Effect) → begins_epoch h d ≡ false → Stay
 unfolding desk_after_effect
 stays h (Accepts m) r = line_stays h m r
 stays h (Shows best hint) r = cc
-stays h Forfeits r = Ends refl
+stays h (Forfeits answer) r = Ends refl
 stays h Dies r = over_stays h (resigns_at_end h)
 stays h d r = Same refl refl
 

@@ -15,7 +15,7 @@ use Rattle.cecp_lines.specs.declared.iface.IfaceFault.TheVariants as faults
 use Rattle.uci_lines.specs.Info.{Info}
 use Rattle.uci_lines.specs.Messages.{EngineMsg}
 use Rattle.uci_lines.specs.Messages as hears
-use Rattle.uci_lines.specs.Engine.{engine_message}
+use Rattle.uci_lines.specs.Engine.{answer_text, engine_message}
 use Rattle.uci_lines.specs.Orders.{Order}
 use Rattle.game_record.specs.Game.{Game, current_position}
 use Rattle.chess_board.specs.Place.{legal}
@@ -83,29 +83,29 @@ not_where : (b : Bool) (d : Effect) (r : Refusal) (text : List ℕ) → (d ≡ R
 not_where true d r text n e = cc
 not_where false d r text n e = n e
 
-shows_not : (g : Game) (best hint : Option Move) (r : Refusal) (text : List ℕ) → shows g best hint ≡ Refuses r text → ⊥
-shows_not g None hint r text e = cc
-shows_not g (Some m) hint r text e = by_legal (legal (current_position g) m) e where
-  by_legal : (b : Bool) → cond b (Shows m hint) Forfeits ≡ Refuses r text → ⊥
+shows_not : (g : Game) (line : List ℕ) (best hint : Option Move) (r : Refusal) (text : List ℕ) → shows g line best hint ≡ Refuses r text → ⊥
+shows_not g line None hint r text e = cc
+shows_not g line (Some m) hint r text e = by_legal (legal (current_position g) m) e where
+  by_legal : (b : Bool) → cond b (Shows m hint) (Forfeits (answer_text line)) ≡ Refuses r text → ⊥
   by_legal true e = cc
   by_legal false e = cc
 
-answers_not : (x : EngineState) (g : Game) (best hint : Option Move) (r : Refusal) (text : List ℕ) → answers x g best hint ≡ Refuses r text → ⊥
-answers_not (states.Search kinds.Move false stopped) g best hint r text e = shows_not g best hint r text e
-answers_not x g best hint r text e = cc
+answers_not : (x : EngineState) (g : Game) (line : List ℕ) (best hint : Option Move) (r : Refusal) (text : List ℕ) → answers x g line best hint ≡ Refuses r text → ⊥
+answers_not (states.Search kinds.Move false stopped) g line best hint r text e = shows_not g line best hint r text e
+answers_not x g line best hint r text e = cc
 
 thinks_not : (k : Option GoKind) (facts : Info) (r : Refusal) (text : List ℕ) → search_reports k facts ≡ Refuses r text → ⊥
 thinks_not None facts r text e = cc
 thinks_not (Some k) facts r text e = cc
 
-says_not : (h : Situation) (message : EngineMsg) (r : Refusal) (text : List ℕ) → engine_says h message ≡ Refuses r text → ⊥
-says_not h (hears.Best best hint) r text e = answers_not h.engine h.desk.game best hint r text e
-says_not h (hears.Name name) r text e = only_where (is_boot h.engine) (Names name) r text (λ x. cc) e
-says_not h (hears.OptionLine name shape) r text e = only_where (is_boot h.engine) (Declares name shape) r text (λ x. cc) e
-says_not h hears.UciOk r text e = only_where (is_boot h.engine) Boots r text (λ x. cc) e
-says_not h hears.ReadyOk r text e = only_where (is_getting h.engine) Readies r text (λ x. cc) e
-says_not h (hears.Info facts) r text e = thinks_not (current h.engine) facts r text e
-says_not h hears.Nothing r text e = cc
+says_not : (h : Situation) (line : List ℕ) (message : EngineMsg) (r : Refusal) (text : List ℕ) → engine_says h line message ≡ Refuses r text → ⊥
+says_not h line (hears.Best best hint) r text e = answers_not h.engine h.desk.game line best hint r text e
+says_not h line (hears.Name name) r text e = only_where (is_boot h.engine) (Names name) r text (λ x. cc) e
+says_not h line (hears.OptionLine name shape) r text e = only_where (is_boot h.engine) (Declares name shape) r text (λ x. cc) e
+says_not h line hears.UciOk r text e = only_where (is_boot h.engine) Boots r text (λ x. cc) e
+says_not h line hears.ReadyOk r text e = only_where (is_getting h.engine) Readies r text (λ x. cc) e
+says_not h line (hears.Info facts) r text e = thinks_not (current h.engine) facts r text e
+says_not h line hears.Nothing r text e = cc
 
 refused_line : (s : State) (e : Event) (r : Refusal) (text : List ℕ) → effect s e ≡ Refuses r text → IsLine s e
 unfolding classify
@@ -113,7 +113,7 @@ refused_line s (events.Iface line) r text e =
     let o = open_back s.ends.closed _ r text e in
     record { line = line; event = refl; is_open = o.0; stays = quit_first line ∙ refused_stays (situation_of_state s) s.held line (message_or_fault line) r text o.1 }
 refused_line s events.IfaceLong r text e = absurd (not_where s.ends.closed LongLine r text (λ x. cc) e)
-refused_line s (events.Engine line) r text e = absurd (not_where s.ends.closed (engine_says (situation_of_state s) (engine_message line)) r text (says_not (situation_of_state s) (engine_message line) r text) e)
+refused_line s (events.Engine line) r text e = absurd (not_where s.ends.closed (engine_says (situation_of_state s) line (engine_message line)) r text (says_not (situation_of_state s) line (engine_message line) r text) e)
 refused_line s events.EngineEnd r text e = absurd (not_where (is_gone (situation_of_state s).engine) Dies r text (λ x. cc) e)
 refused_line s events.EngineLost r text e = absurd (not_where (is_gone (situation_of_state s).engine) Dies r text (λ x. cc) e)
 refused_line s x r text e = absurd (cc)

@@ -5,9 +5,11 @@ use Rattle.line_io.specs.Out.{Text, empty, with}
 use Rattle.cecp_lines.specs.Replies.{Reply}
 use Rattle.cecp_lines.specs.Replies as cecp
 use Rattle.uci_lines.specs.Orders.{Order}
+use Rattle.game_record.specs.Game.{Game}
 use Rattle.think_text.specs.Kept.{nothing_seen}
 use Rattle.think_text.specs.Last.{ThinkingLine}
 use Rattle.option_map.specs.FeatureLists.Features.{reply_lines}
+use Rattle.policy_rules.specs.declared.setting_rules.settings.Settings.{Settings}
 use Rattle.policy_rules.specs.declared.score_rules.scores.Scores.{Scores}
 use Rattle.search_epochs.specs.declared.words.Call.{Call}
 use Rattle.search_epochs.specs.declared.words.Orders.{Orders}
@@ -18,7 +20,7 @@ use Rattle.desk_rules.specs.declared.effect.Context.{Context}
 use Rattle.desk_rules.specs.declared.desk.Desk.{Desk}
 use Rattle.desk_rules.specs.Desk.{at, call_of_desk, is_gone}
 use Rattle.desk_rules.specs.Steps.{Effect, what_of, begins_epoch, desk_after_effect, owes_when_gone, over_where, answers_pings, is_death, counts_after}
-use Rattle.desk_rules.specs.Replies.{reply_row, resign_where, repeated_thinking, replies_of, pongs}
+use Rattle.desk_rules.specs.Replies.{reply_row, given_up_where, repeated_thinking, replies_of, pongs}
 use Rattle.desk_rules.specs.Texts.{order_lines}
 use Rattle.desk_rules.proofs.Rooms.{two_lines}
 use Rattle.adapter_core.specs.declared.ends.Ends.{Ends}
@@ -53,17 +55,17 @@ closed_misses true true x e = refl
 closed_misses false true x e = refl
 closed_misses opens false x e = cc
 
--- the row, `resign` for an engine that is gone, the repeated thinking line, and the pongs
-pub all_shown : (room : ℕ) (closed owes wants gone repeats hits : Bool) (rows : List Reply) (d : Desk) (last : Option ThinkingLine) (pings : List ℕ) → (closed ≡ true → hits ≡ false)
-    → with (with (with (with (empty room) (reply_lines (cond closed [] rows))) (reply_lines (resign_where (wants && owes_when_gone closed gone d)))) (reply_lines (repeated_thinking (repeats && hits) last))) (reply_lines (pongs (answers_pings closed owes) pings))
-    ≡ with (empty room) (reply_lines (cond closed [] (rows ++ resign_where (wants && owes_when_gone closed gone d) ++ repeated_thinking (repeats && hits) last ++ cond owes [] (map cecp.Pong pings))))
-all_shown room true owes wants gone repeats hits rows d last pings m =
-    ap (λ (b : Bool). with (with (with (with (empty room) []) (reply_lines (resign_where b))) (reply_lines (repeated_thinking (repeats && hits) last))) [])
+-- the row, the game that an engine that is gone gives up, the repeated thinking line, and the pongs
+pub all_shown : (room : ℕ) (closed owes wants gone repeats hits : Bool) (rows : List Reply) (o : Settings) (g : Game) (d : Desk) (last : Option ThinkingLine) (pings : List ℕ) → (closed ≡ true → hits ≡ false)
+    → with (with (with (with (empty room) (reply_lines (cond closed [] rows))) (reply_lines (given_up_where (wants && owes_when_gone closed gone d) o g))) (reply_lines (repeated_thinking (repeats && hits) last))) (reply_lines (pongs (answers_pings closed owes) pings))
+    ≡ with (empty room) (reply_lines (cond closed [] (rows ++ given_up_where (wants && owes_when_gone closed gone d) o g ++ repeated_thinking (repeats && hits) last ++ cond owes [] (map cecp.Pong pings))))
+all_shown room true owes wants gone repeats hits rows o g d last pings m =
+    ap (λ (b : Bool). with (with (with (with (empty room) []) (reply_lines (given_up_where b o g))) (reply_lines (repeated_thinking (repeats && hits) last))) [])
     (none_resigns wants gone (is_move (call_of_desk true false d)) (closed_calls true false d refl))
     ∙ ap (λ (rs : List Reply). with (with (with (with (empty room) []) []) (reply_lines rs)) []) (none_repeats repeats hits last (m refl))
-all_shown room false true wants gone repeats hits rows d last pings m = four_lines room rows (resign_where (wants && owes_when_gone false gone d)) (repeated_thinking (repeats && hits) last) []
-all_shown room false false wants gone repeats hits rows d last pings m =
-    four_lines room rows (resign_where (wants && owes_when_gone false gone d)) (repeated_thinking (repeats && hits) last) (map cecp.Pong pings)
+all_shown room false true wants gone repeats hits rows o g d last pings m = four_lines room rows (given_up_where (wants && owes_when_gone false gone d) o g) (repeated_thinking (repeats && hits) last) []
+all_shown room false false wants gone repeats hits rows o g d last pings m =
+    four_lines room rows (given_up_where (wants && owes_when_gone false gone d) o g) (repeated_thinking (repeats && hits) last) (map cecp.Pong pings)
 
 -- THE CORE AFTER AN EVENT, PART BY PART
 
@@ -83,7 +85,7 @@ pub went_on : (context : Context) (v : CoreParts) (d : Effect) (e : Event) (ends
     → dialogue ≡ after_settled v.dialogue (cond (opens || ends.closed) chosen.None (settle v.dialogue call unsent (played_of (what_of d)) (is_move_now (what_of d))))
     → hits ≡ is_hit_order orders
     → clears ≡ (rose && not hits)
-    → resign_shown ≡ with row_shown (reply_lines (resign_where (context.settings.resign_when_gone && owes_when_gone ends.closed gone desk)))
+    → resign_shown ≡ with row_shown (reply_lines (given_up_where (context.settings.resign_when_gone && owes_when_gone ends.closed gone desk) context.settings desk.game))
     → given_up ≡ record desk { mode = over_where (context.settings.resign_when_gone && owes_when_gone ends.closed gone desk) desk.mode }
     → repeated ≡ with resign_shown (reply_lines (repeated_thinking (context.settings.repeat_thinking && hits) given_up.last_thinking))
     → iface ≡ with repeated (reply_lines (pongs (answers_pings ends.closed owes) given_up.pings))
@@ -104,5 +106,5 @@ went_on context v d e ends opens gone rose owes unsent hits clears scores desk g
     let chosen_now = settle v.dialogue call_now (is_step_unsent v.held d || (context.settings.fence_stops && is_unfenced v.dialogue call_now)) (played_of (what_of d)) (is_move_now (what_of d)) in
     let hits_now = is_hit_order (cond (is_open e || closed) chosen.None chosen_now) in
     rw (held_is, engine_is, desk_after_is, iface_is, repeated_is, given_is, resign_is, clears_is, hits_is, dialogue_is, orders_are, unsent_is, owes_is, call_is, row_is, desk_is, scores_are, rose_is, gone_is, ends_is, opens_is)
-    (ap (λ (t : Text). let p : CoreParts = record after { to_iface = t } in p) (all_shown ROOM closed owes_now context.settings.resign_when_gone gone_now context.settings.repeat_thinking hits_now (reply_row h d) (desk_after_effect h d) (desk_after_effect h d).last_thinking (desk_after_effect h d).pings (closed_misses (is_open e) closed chosen_now))
+    (ap (λ (t : Text). let p : CoreParts = record after { to_iface = t } in p) (all_shown ROOM closed owes_now context.settings.resign_when_gone gone_now context.settings.repeat_thinking hits_now (reply_row h d) context.settings (desk_after_effect h d).game (desk_after_effect h d) (desk_after_effect h d).last_thinking (desk_after_effect h d).pings (closed_misses (is_open e) closed chosen_now))
     ∙ ap (λ (n : ℕ). let p : CoreParts = record after { to_iface = with (empty n) (reply_lines (replies_of closed owes_now hits_now h d)) } in p) (sym room))

@@ -86,7 +86,7 @@ was_what v w k c = c
 
 no_answer : (v : dialogues.Dialogue) (d : Effect) (k : GoKind) → current (after_what v (what_of d)).state ≡ Some k → IsNoAnswer d
 no_answer v (Shows m hint) k c = no_best v.state k c
-no_answer v Forfeits k c = no_best v.state k c
+no_answer v (Forfeits answer) k c = no_best v.state k c
 no_answer v Answers k c = no_best v.state k c
 no_answer v Dies k c = no_end v.state k c
 no_answer v d k c = tt

@@ -16,6 +16,8 @@ use Rattle.cecp_lines.specs.Messages as says
 use Rattle.cecp_lines.specs.Reading.{message_or_fault}
 use Rattle.cecp_lines.specs.declared.reply.Spelling.{Spelling}
 use Rattle.cecp_lines.specs.Replies.{Reply}
+use Rattle.cecp_lines.specs.Losses.{Loss, quoted}
+use Rattle.cecp_lines.specs.Losses as losses
 use Rattle.cecp_lines.specs.Replies as reply
 use Rattle.cecp_lines.specs.declared.iface.IfaceFault.{IfaceFault}
 use Rattle.cecp_lines.specs.declared.iface.IfaceFault.TheVariants as faults
@@ -23,7 +25,7 @@ use Rattle.uci_lines.specs.Orders.{Order}
 use Rattle.uci_lines.specs.Info.{Info}
 use Rattle.uci_lines.specs.Messages.{EngineMsg}
 use Rattle.uci_lines.specs.Messages as hears
-use Rattle.uci_lines.specs.Engine.{engine_message}
+use Rattle.uci_lines.specs.Engine.{answer_text, engine_message}
 use Rattle.game_record.specs.declared.ending.GameEnd.{GameEnd}
 use Rattle.game_record.specs.Game.{Game, current_position}
 use Rattle.game_record.specs.Ending.{ended_of}
@@ -47,7 +49,7 @@ use Rattle.desk_rules.specs.declared.desk.Desk.{Desk}
 use Rattle.desk_rules.specs.Desk.{Situation, is_boot, is_getting, is_gone, current, table, on_move, game_played, plays}
 use Rattle.desk_rules.specs.Lines.{Verdict, Refused, Accepted, Early, line_verdict, change, refused_option, early_answer}
 use Rattle.desk_rules.specs.Steps.{Effect, Nothing, LongLine, Refuses, Accepts, Names, Declares, Boots, Readies, Thinks, Shows, Forfeits, Dies, classify, line_effect, engine_says, answers, shows, search_reports, searched_by, shows_thinking, named_hint, spelling_of, resigns_after, resigns_at_end, resigns_when_gone, desk_after_effect}
-use Rattle.desk_rules.specs.Replies.{refused, result_reply_by, result_reply_of, protover_row, offer_where, hint_row, row_accepted, list_where, resign_where, early_refusal, early_refusals, reply_row, repeated_thinking, replies_of}
+use Rattle.desk_rules.specs.Replies.{refused, result_reply_by, result_reply_of, protover_row, offer_where, hint_row, row_accepted, list_where, resign_where, giving_up, given_up_where, early_refusal, early_refusals, reply_row, repeated_thinking, replies_of}
 use Rattle.adapter_core.specs.Trace.{State, state, situation_of_state, effect, step_replies, owed_after, closed_after, step_hits}
 use Rattle.adapter_core.specs.Shown.{AnswersWithMove, MovesAreShownInTime, MovesAreShownOnce, moves_shown}
 
@@ -123,6 +125,14 @@ no_list false d = refl
 no_resign : (b : Bool) → moves_shown (resign_where b) ≡ []
 no_resign true = refl
 no_resign false = refl
+
+no_reason : (reasons : Bool) (side : Side) (loss : Loss) → moves_shown (giving_up reasons side loss ∷ []) ≡ []
+no_reason true side loss = refl
+no_reason false side loss = refl
+
+no_given_up : (b : Bool) (o : Settings) (g : Game) → moves_shown (given_up_where b o g) ≡ []
+no_given_up true o g = no_reason o.result_reasons (on_move g) losses.Ended
+no_given_up false o g = refl
 
 no_offer : (b : Bool) → moves_shown (offer_where b) ≡ []
 no_offer true = refl
@@ -205,18 +215,21 @@ row_shows h (Thinks k facts) =
     no_thinking (shows_thinking h k) (thinking_line s facts p hint) (no_line facts.depth facts.score (run_texts s p (legal_run p facts.pv)) facts s (hint_text s hint))
 row_shows h (Shows best hint) =
     ap (λ (l : List AnyMove). best ∷ l) (none_joined (result_reply_of (game_played h.desk.game best)) (resign_where (resigns_after h best)) (no_result (on_move (game_played h.desk.game best)) (ended_of (game_played h.desk.game best))) (no_resign (resigns_after h best)))
-row_shows h Dies = none_joined (list_where h.desk.due h.desk) (reply.TellError _ ∷ resign_where (resigns_at_end h)) (no_list h.desk.due h.desk) (no_resign (resigns_at_end h))
+row_shows h (Forfeits answer) = no_reason h.settings.result_reasons (on_move h.desk.game) (losses.IllegalMove (quoted answer))
+row_shows h Dies =
+    let gone = given_up_where (resigns_at_end h) h.settings h.desk.game in
+    none_joined (list_where h.desk.due h.desk) (reply.TellError _ ∷ gone) (no_list h.desk.due h.desk) (no_given_up (resigns_at_end h) h.settings h.desk.game)
 row_shows h d = refl
 
 -- the moves that are told in an open session
 pub open_shows : (owes hits : Bool) (h : Situation) (d : Effect) → moves_shown (replies_of false owes hits h d) ≡ shown_by d
 open_shows owes hits h d =
     let pongs = cond owes [] (map reply.Pong (desk_after_effect h d).pings) in
-    let resign = resign_where (resigns_when_gone false h d) in
+    let resign = given_up_where (resigns_when_gone false h d) h.settings (desk_after_effect h d).game in
     let again = repeated_thinking (h.settings.repeat_thinking && hits) (desk_after_effect h d).last_thinking in
     joined (reply_row h d ++ resign ++ again) pongs ∙ ap (λ (l : List AnyMove). moves_shown (reply_row h d ++ resign ++ again) ++ l) (no_pongs owes (desk_after_effect h d).pings) ∙ append_none (moves_shown (reply_row h d ++ resign ++ again))
     ∙ joined (reply_row h d ++ resign) again ∙ ap (λ (l : List AnyMove). moves_shown (reply_row h d ++ resign) ++ l) (no_repeated (h.settings.repeat_thinking && hits) (desk_after_effect h d).last_thinking) ∙ append_none (moves_shown (reply_row h d ++ resign))
-    ∙ joined (reply_row h d) resign ∙ ap (λ (l : List AnyMove). moves_shown (reply_row h d) ++ l) (no_resign (resigns_when_gone false h d)) ∙ append_none (moves_shown (reply_row h d)) ∙ row_shows h d where
+    ∙ joined (reply_row h d) resign ∙ ap (λ (l : List AnyMove). moves_shown (reply_row h d) ++ l) (no_given_up (resigns_when_gone false h d) h.settings (desk_after_effect h d).game) ∙ append_none (moves_shown (reply_row h d)) ∙ row_shows h d where
       append_none : (l : List AnyMove) → l ++ [] ≡ l
       append_none [] = refl
       append_none (m ∷ l) = ap (λ (xs : List AnyMove). m ∷ xs) (append_none l)
@@ -248,35 +261,35 @@ record SaysIt (h : Situation) (message : EngineMsg) (m : AnyMove) : Type 0 where
   engine : h.engine ≡ states.Search kinds.Move false stopped
   is_legal : legal (current_position h.desk.game) m ≡ true
 
-legal_back : (g : Game) (b : AnyMove) (hint : Option AnyMove) (m : AnyMove) (hint' : Option AnyMove) (x : Bool) → legal (current_position g) b ≡ x → cond x (Shows b hint) Forfeits ≡ Shows m hint'
+legal_back : (g : Game) (line : List ℕ) (b : AnyMove) (hint : Option AnyMove) (m : AnyMove) (hint' : Option AnyMove) (x : Bool) → legal (current_position g) b ≡ x → cond x (Shows b hint) (Forfeits (answer_text line)) ≡ Shows m hint'
     → (b ≡ m) × (legal (current_position g) m ≡ true)
-legal_back g b hint m hint' true l e = let same : b ≡ m = cc in (same, subst (λ (y : AnyMove). legal (current_position g) y ≡ true) same l)
-legal_back g b hint m hint' false l e = absurd (cc)
+legal_back g line b hint m hint' true l e = let same : b ≡ m = cc in (same, subst (λ (y : AnyMove). legal (current_position g) y ≡ true) same l)
+legal_back g line b hint m hint' false l e = absurd (cc)
 
-shows_back : (h : Situation) (message : EngineMsg) (stopped : Bool) (best hint : Option AnyMove) (m : AnyMove) (hint' : Option AnyMove) → message ≡ hears.Best best hint
-    → h.engine ≡ states.Search kinds.Move false stopped → shows h.desk.game best hint ≡ Shows m hint' → SaysIt h message m
-shows_back h message stopped None hint m hint' i n e = absurd (cc)
-shows_back h message stopped (Some b) hint m hint' i n e =
-    let back = legal_back h.desk.game b hint m hint' (legal (current_position h.desk.game) b) refl e in
+shows_back : (h : Situation) (line : List ℕ) (message : EngineMsg) (stopped : Bool) (best hint : Option AnyMove) (m : AnyMove) (hint' : Option AnyMove) → message ≡ hears.Best best hint
+    → h.engine ≡ states.Search kinds.Move false stopped → shows h.desk.game line best hint ≡ Shows m hint' → SaysIt h message m
+shows_back h line message stopped None hint m hint' i n e = absurd (cc)
+shows_back h line message stopped (Some b) hint m hint' i n e =
+    let back = legal_back h.desk.game line b hint m hint' (legal (current_position h.desk.game) b) refl e in
     record { hint = hint; stopped = stopped; best = i ∙ ap (λ (x : AnyMove). hears.Best (Some x) hint) back.0; engine = n; is_legal = back.1 }
 
-answers_back : (h : Situation) (message : EngineMsg) (x : EngineState) (best hint : Option AnyMove) (m : AnyMove) (hint' : Option AnyMove) → message ≡ hears.Best best hint
-    → h.engine ≡ x → answers x h.desk.game best hint ≡ Shows m hint' → SaysIt h message m
-answers_back h message (states.Search kinds.Move false stopped) best hint m hint' i n e = shows_back h message stopped best hint m hint' i n e
-answers_back h message x best hint m hint' i n e = absurd (cc)
+answers_back : (h : Situation) (line : List ℕ) (message : EngineMsg) (x : EngineState) (best hint : Option AnyMove) (m : AnyMove) (hint' : Option AnyMove) → message ≡ hears.Best best hint
+    → h.engine ≡ x → answers x h.desk.game line best hint ≡ Shows m hint' → SaysIt h message m
+answers_back h line message (states.Search kinds.Move false stopped) best hint m hint' i n e = shows_back h line message stopped best hint m hint' i n e
+answers_back h line message x best hint m hint' i n e = absurd (cc)
 
 thinks_not : (k : Option GoKind) (facts : Info) (m : AnyMove) (hint : Option AnyMove) → search_reports k facts ≡ Shows m hint → ⊥
 thinks_not None facts m hint e = cc
 thinks_not (Some k) facts m hint e = cc
 
-says_back : (h : Situation) (message : EngineMsg) (m : AnyMove) (hint : Option AnyMove) → engine_says h message ≡ Shows m hint → SaysIt h message m
-says_back h (hears.Best best hint) m hint' e = answers_back h (hears.Best best hint) h.engine best hint m hint' refl refl e
-says_back h (hears.Name text) m hint e = absurd (not_shown (is_boot h.engine) (Names text) m hint (λ x. cc) e)
-says_back h (hears.OptionLine name shape) m hint e = absurd (not_shown (is_boot h.engine) (Declares name shape) m hint (λ x. cc) e)
-says_back h hears.UciOk m hint e = absurd (not_shown (is_boot h.engine) Boots m hint (λ x. cc) e)
-says_back h hears.ReadyOk m hint e = absurd (not_shown (is_getting h.engine) Readies m hint (λ x. cc) e)
-says_back h (hears.Info facts) m hint e = absurd (thinks_not (current h.engine) facts m hint e)
-says_back h hears.Nothing m hint e = absurd (cc)
+says_back : (h : Situation) (line : List ℕ) (message : EngineMsg) (m : AnyMove) (hint : Option AnyMove) → engine_says h line message ≡ Shows m hint → SaysIt h message m
+says_back h line (hears.Best best hint) m hint' e = answers_back h line (hears.Best best hint) h.engine best hint m hint' refl refl e
+says_back h line (hears.Name text) m hint e = absurd (not_shown (is_boot h.engine) (Names text) m hint (λ x. cc) e)
+says_back h line (hears.OptionLine name shape) m hint e = absurd (not_shown (is_boot h.engine) (Declares name shape) m hint (λ x. cc) e)
+says_back h line hears.UciOk m hint e = absurd (not_shown (is_boot h.engine) Boots m hint (λ x. cc) e)
+says_back h line hears.ReadyOk m hint e = absurd (not_shown (is_getting h.engine) Readies m hint (λ x. cc) e)
+says_back h line (hears.Info facts) m hint e = absurd (thinks_not (current h.engine) facts m hint e)
+says_back h line hears.Nothing m hint e = absurd (cc)
 
 open_back : (b : Bool) (d : Effect) (m : AnyMove) (hint : Option AnyMove) → cond b Nothing d ≡ Shows m hint → (b ≡ false) × (d ≡ Shows m hint)
 open_back true d m hint e = absurd (cc)
@@ -305,8 +318,8 @@ engine_back epoch (Search k t s') s e =
 answer_back : (s : State) (e : Event) (m : AnyMove) (hint : Option AnyMove) → effect s e ≡ Shows m hint → AnswersWithMove s e m
 unfolding classify
 answer_back s (events.Engine line) m hint e =
-    let o = open_back s.ends.closed (engine_says (situation_of_state s) (engine_message line)) m hint e in
-    let said = says_back (situation_of_state s) (engine_message line) m hint o.1 in
+    let o = open_back s.ends.closed (engine_says (situation_of_state s) line (engine_message line)) m hint e in
+    let said = says_back (situation_of_state s) line (engine_message line) m hint o.1 in
     record {
       line = line;
       hint = said.hint;
@@ -345,9 +358,9 @@ shown_reply_by false owes hits h d m c = shown_is d m (subst (λ (l : List AnyMo
 ticket_now : (epoch : ℕ) → not (epoch == epoch) ≡ false
 ticket_now epoch = grind (arith, nat_tests)
 
-answer_shows : (g : Game) (m : AnyMove) (hint : Option AnyMove) (b : Bool) → b ≡ true → cond b (Shows m hint) Forfeits ≡ Shows m hint
-answer_shows g m hint true e = refl
-answer_shows g m hint false e = cc
+answer_shows : (line : List ℕ) (m : AnyMove) (hint : Option AnyMove) (b : Bool) → b ≡ true → cond b (Shows m hint) (Forfeits (answer_text line)) ≡ Shows m hint
+answer_shows line m hint true e = refl
+answer_shows line m hint false e = cc
 
 open_effect : (b : Bool) (d : Effect) → b ≡ false → cond b Nothing d ≡ d
 open_effect true d e = cc
@@ -357,11 +370,11 @@ event_shows : (s : State) (line : List ℕ) (m : AnyMove) (hint : Option AnyMove
     → s.dialogue.engine ≡ Search kinds.Move s.dialogue.epoch stopped → legal (current_position s.desk.game) m ≡ true → effect s (events.Engine line) ≡ Shows m hint
 unfolding classify
 event_shows s line m hint stopped b c n l =
-    open_effect s.ends.closed (engine_says (situation_of_state s) (engine_message line)) c
-    ∙ ap (λ (x : EngineMsg). engine_says (situation_of_state s) x) b
-    ∙ ap (λ (x : Engine). answers (forget s.dialogue.epoch x) s.desk.game (Some m) hint) n
-    ∙ ap (λ (x : Bool). answers (states.Search kinds.Move x stopped) s.desk.game (Some m) hint) (ticket_now s.dialogue.epoch)
-    ∙ answer_shows s.desk.game m hint (legal (current_position s.desk.game) m) l
+    open_effect s.ends.closed (engine_says (situation_of_state s) line (engine_message line)) c
+    ∙ ap (λ (x : EngineMsg). engine_says (situation_of_state s) line x) b
+    ∙ ap (λ (x : Engine). answers (forget s.dialogue.epoch x) s.desk.game line (Some m) hint) n
+    ∙ ap (λ (x : Bool). answers (states.Search kinds.Move x stopped) s.desk.game line (Some m) hint) (ticket_now s.dialogue.epoch)
+    ∙ answer_shows line m hint (legal (current_position s.desk.game) m) l
 
 effect_shows : (s : State) (e : Event) (m : AnyMove) (a : AnswersWithMove s e m) → effect s e ≡ Shows m a.hint
 effect_shows s e m a = ap (effect s) a.event ∙ event_shows s a.line m a.hint a.stopped a.best a.is_open a.current a.is_legal

@@ -15,7 +15,7 @@ use Rattle.uci_lines.specs.Orders.{Order}
 use Rattle.uci_lines.specs.Info.{Info}
 use Rattle.uci_lines.specs.Messages.{EngineMsg}
 use Rattle.uci_lines.specs.Messages as hears
-use Rattle.uci_lines.specs.Engine.{engine_message}
+use Rattle.uci_lines.specs.Engine.{answer_text, engine_message}
 use Rattle.game_record.specs.Game.{Game, current_position}
 use Rattle.policy_rules.specs.ScoreRules.Scores.{Score}
 use Rattle.search_epochs.specs.declared.words.EngineState.{EngineState}
@@ -64,7 +64,7 @@ no_death d i = refl
 
 pub no_answer : (d : Effect) → IsIfaceAction d → is_move_answer d ≡ false
 no_answer (Shows best hint) i = absurd i
-no_answer Forfeits i = absurd i
+no_answer (Forfeits answer) i = absurd i
 no_answer d i = refl
 
 -- WHAT STAYS WHERE NO MOVE IS SHOWN
@@ -112,7 +112,7 @@ still_unbooted h d i e = absurd i
 abbrev pub IsQuietAction : Effect → Type 0
 IsQuietAction (Accepts m) = ⊥
 IsQuietAction (Shows best hint) = ⊥
-IsQuietAction Forfeits = ⊥
+IsQuietAction (Forfeits answer) = ⊥
 IsQuietAction Dies = ⊥
 IsQuietAction d = Unit {0}
 
@@ -120,7 +120,7 @@ pub quiet_desk : (h : Situation) (d : Effect) → IsQuietAction d → commanded_
 unfolding desk_after_effect
 quiet_desk h (Accepts m) q = absurd q
 quiet_desk h (Shows best hint) q = absurd q
-quiet_desk h Forfeits q = absurd q
+quiet_desk h (Forfeits answer) q = absurd q
 quiet_desk h Dies q = absurd q
 quiet_desk h d q = refl
 
@@ -132,25 +132,25 @@ quiet_thinks : (k : Option GoKind) (facts : Info) → IsQuietAction (search_repo
 quiet_thinks None facts = tt
 quiet_thinks (Some k) facts = tt
 
-quiet_shows : (g : Game) (best hint : Option Move) → is_move_answer (shows g best hint) ≡ false → IsQuietAction (shows g best hint)
-quiet_shows g None hint n = cc
-quiet_shows g (Some m) hint n = by_legal (legal (current_position g) m) n where
-  by_legal : (b : Bool) → is_move_answer (cond b (Shows m hint) Forfeits) ≡ false → IsQuietAction (cond b (Shows m hint) Forfeits)
+quiet_shows : (g : Game) (line : List ℕ) (best hint : Option Move) → is_move_answer (shows g line best hint) ≡ false → IsQuietAction (shows g line best hint)
+quiet_shows g line None hint n = cc
+quiet_shows g line (Some m) hint n = by_legal (legal (current_position g) m) n where
+  by_legal : (b : Bool) → is_move_answer (cond b (Shows m hint) (Forfeits (answer_text line))) ≡ false → IsQuietAction (cond b (Shows m hint) (Forfeits (answer_text line)))
   by_legal true n = cc
   by_legal false n = cc
 
-quiet_answers : (x : EngineState) (g : Game) (best hint : Option Move) → is_move_answer (answers x g best hint) ≡ false → IsQuietAction (answers x g best hint)
-quiet_answers (states.Search kinds.Move false stopped) g best hint n = quiet_shows g best hint n
-quiet_answers x g best hint n = tt
+quiet_answers : (x : EngineState) (g : Game) (line : List ℕ) (best hint : Option Move) → is_move_answer (answers x g line best hint) ≡ false → IsQuietAction (answers x g line best hint)
+quiet_answers (states.Search kinds.Move false stopped) g line best hint n = quiet_shows g line best hint n
+quiet_answers x g line best hint n = tt
 
-quiet_says : (h : Situation) (m : EngineMsg) → is_move_answer (engine_says h m) ≡ false → IsQuietAction (engine_says h m)
-quiet_says h (hears.Best best hint) n = quiet_answers h.engine h.desk.game best hint n
-quiet_says h (hears.Name text) n = quiet_where (is_boot h.engine) (Names text) tt
-quiet_says h (hears.OptionLine name shape) n = quiet_where (is_boot h.engine) (Declares name shape) tt
-quiet_says h hears.UciOk n = quiet_where (is_boot h.engine) Boots tt
-quiet_says h hears.ReadyOk n = quiet_where (is_getting h.engine) Readies tt
-quiet_says h (hears.Info facts) n = quiet_thinks (current h.engine) facts
-quiet_says h hears.Nothing n = tt
+quiet_says : (h : Situation) (line : List ℕ) (m : EngineMsg) → is_move_answer (engine_says h line m) ≡ false → IsQuietAction (engine_says h line m)
+quiet_says h line (hears.Best best hint) n = quiet_answers h.engine h.desk.game line best hint n
+quiet_says h line (hears.Name text) n = quiet_where (is_boot h.engine) (Names text) tt
+quiet_says h line (hears.OptionLine name shape) n = quiet_where (is_boot h.engine) (Declares name shape) tt
+quiet_says h line hears.UciOk n = quiet_where (is_boot h.engine) Boots tt
+quiet_says h line hears.ReadyOk n = quiet_where (is_getting h.engine) Readies tt
+quiet_says h line (hears.Info facts) n = quiet_thinks (current h.engine) facts
+quiet_says h line hears.Nothing n = tt
 
 quiet_open : (b : Bool) (d : Effect) → (is_move_answer d ≡ false → IsQuietAction d) → is_move_answer (cond b Nothing d) ≡ false → IsQuietAction (cond b Nothing d)
 quiet_open true d f n = tt
@@ -164,7 +164,7 @@ quiet_dies false n = cc
 pub engine_effect : (h : Situation) (held : List Order) (e : Event) → is_of_iface e ≡ false → is_move_answer (classify h held e) ≡ false → is_death (classify h held e) ≡ false → IsQuietAction (classify h held e)
 unfolding classify
 engine_effect h held events.Open i n m = tt
-engine_effect h held (events.Engine line) i n m = quiet_open h.closed _ (quiet_says h (engine_message line)) n
+engine_effect h held (events.Engine line) i n m = quiet_open h.closed _ (quiet_says h line (engine_message line)) n
 engine_effect h held events.EngineLong i n m = tt
 engine_effect h held events.EngineEnd i n m = quiet_dies (is_gone h.engine) m
 engine_effect h held events.EngineLost i n m = quiet_dies (is_gone h.engine) m

@@ -169,9 +169,9 @@ owes_not true true owes x w g = x
 owes_not false gone owes x w g = cc
 owes_not true false owes x w g = cc
 
-forfeited : (h : Situation) → (desk_after_effect h Forfeits).mode ≡ modes.Over
+forfeited : (h : Situation) (answer : List ℕ) → (desk_after_effect h (Forfeits answer)).mode ≡ modes.Over
 unfolding desk_after_effect
-forfeited h = refl
+forfeited h answer = refl
 
 module _ (s : State) (step : Step) (lasts : Lasts s) (l : IsLawfulStep s step) where
   abbrev e : Event
@@ -224,7 +224,7 @@ module _ (s : State) (step : Step) (lasts : Lasts s) (l : IsLawfulStep s step) w
   by_effect : (x : Effect) → EffectFitsDesk h s.held x → closed_after s e ≡ false → begins_epoch h x ≡ false
       → is_some_equal (closed_ticket s.dialogue.engine (said_of_event (what_of x)) s.dialogue.last) s.dialogue.epoch ≡ true → is_move (call_after (closed_after s e) h x) ≡ false
   by_effect (Shows best hint) f c r n = cc
-  by_effect Forfeits f c r n = over_calls (closed_after s e) (is_gone h.engine || false) (desk_after_effect h Forfeits) (forfeited h)
+  by_effect (Forfeits answer) f c r n = over_calls (closed_after s e) (is_gone h.engine || false) (desk_after_effect h (Forfeits answer)) (forfeited h answer)
   by_effect Answers f c r n = quiet_situation Answers c r (other_quiet s.dialogue.epoch s.dialogue.engine s.dialogue.last (call_before h) f.1 (lasts.served f.0) n)
   by_effect (Accepts message) f c r n = quiet_situation (Accepts message) c r (spent_before (Accepts message) (line_no_best message) n)
   by_effect x f c r n = quiet_situation x c r (spent_before x refl n)

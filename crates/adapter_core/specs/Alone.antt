@@ -106,7 +106,7 @@ iface_events trace = filter is_of_iface (map event_of_step trace)
 -- an answer to a current search for a Move
 abbrev pub is_move_answer : Effect → Bool
 is_move_answer (Shows best hint) = true
-is_move_answer Forfeits = true
+is_move_answer (Forfeits answer) = true
 is_move_answer d = false
 
 -- a line that asks for more than may be held

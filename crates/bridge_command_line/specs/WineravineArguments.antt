@@ -84,8 +84,11 @@ pub record WineravineSettingsAreAsked (rows : List Row) (s : Settings) : Type 0 
   pub show_san : s.show_san ≡ is_true_text (first_of (codes "ShowSan") rows)
   pub strength_options : s.strength_options ≡ is_true_text (first_of (codes "StrengthOptions") rows)
   pub fence_stops : s.fence_stops ≡ is_true_text (first_of (codes "FenceStops") rows)
+  pub result_reasons : s.result_reasons ≡ is_true_text (first_of (codes "ResultReasons") rows)
   pub time_margin :
       AsksNumber 0 MOST_MARGIN USUAL_MARGIN (one_of (codes "TimeMargin") rows) s.time_margin
+  pub plain_texts : s.plain_texts ≡ is_true_text (first_of (codes "PlainTexts") rows)
+  pub path_options : s.path_options ≡ is_true_text (first_of (codes "PathOptions") rows)
   pub repeat_thinking : s.repeat_thinking ≡ is_true_text (first_of (codes "RepeatThinking") rows)
 
 -- the interface's line that sets an option of the engine, with its line feed

@@ -27,11 +27,20 @@ strength_options_rule = flag_rule (codes "StrengthOptions") (codes "true")
 abbrev pub fence_stops_rule : Rule
 fence_stops_rule = flag_rule (codes "FenceStops") (codes "true")
 
+abbrev pub result_reasons_rule : Rule
+result_reasons_rule = flag_rule (codes "ResultReasons") (codes "true")
+
 abbrev pub time_margin_rule : Rule
 time_margin_rule =
     record (option_rule (codes "TimeMargin") (codes "20")) {
       parser = Some (parsers.Unsigned 0 MOST_MARGIN);
     }
+
+abbrev pub plain_texts_rule : Rule
+plain_texts_rule = flag_rule (codes "PlainTexts") (codes "true")
+
+abbrev pub path_options_rule : Rule
+path_options_rule = flag_rule (codes "PathOptions") (codes "true")
 
 abbrev pub repeat_thinking_rule : Rule
 repeat_thinking_rule = flag_rule (codes "RepeatThinking") (codes "true")
@@ -71,10 +80,10 @@ bare_wineravine =
 
 abbrev pub with_new_settings : App → App
 with_new_settings a =
-    with_rule (with_rule (with_rule (with_rule (with_rule (with_rule
+    with_rule (with_rule (with_rule (with_rule (with_rule (with_rule (with_rule (with_rule (with_rule
     (with_rule (with_rule a early_settings_rule) resign_when_gone_rule)
-    handle_draws_rule) show_san_rule) strength_options_rule) fence_stops_rule) time_margin_rule)
-    repeat_thinking_rule
+    handle_draws_rule) show_san_rule) strength_options_rule) fence_stops_rule)
+    result_reasons_rule) time_margin_rule) plain_texts_rule) path_options_rule) repeat_thinking_rule
 
 abbrev pub with_names : App → App
 with_names a =

@@ -21,7 +21,10 @@ Settings:
       --ShowSan <true|false>          Whether thinking lines have Nf3 and not g1f3 [default: true]
       --StrengthOptions <true|false>  Whether the options that limit the engine's strength are shown [default: true]
       --FenceStops <true|false>       Whether a search waits until the engine has read the stop before it [default: true]
+      --ResultReasons <true|false>    Whether the result of a game that the engine loses by a fault says which [default: true]
       --TimeMargin <milliseconds>     What is kept back of a fixed time for a move, 0 to 10000 [default: 20]
+      --PlainTexts <true|false>       Whether options with control characters are left out, and the name has blanks for them [default: true]
+      --PathOptions <true|false>      Whether options for paths and files are shown as such [default: true]
       --RepeatThinking <true|false>   Whether the last thinking line is shown again once the expected move is played [default: true]
       --LogFile <file>                The log, made anew by each run [default: wineravine.log]
       --LogDir <folder>               The folder of the logs, in which each run makes a new one, in place of --LogFile

@@ -1,7 +1,7 @@
 // The command, and its arguments.
 ghost use Rattle.std.specs.Prelude.{◌≡◌, true, false, IfOk};
 ghost use Rattle.clap.specs.Words.{app_of, rule_of};
-ghost use Rattle.bridge_command_line.specs.WineravineCommand.{wineravine, bare_wineravine, with_new_settings, with_names, early_settings_rule, resign_when_gone_rule, handle_draws_rule, show_san_rule, strength_options_rule, fence_stops_rule, time_margin_rule, repeat_thinking_rule, log_dir_rule, set_option_rule, wineravine_engine_rule};
+ghost use Rattle.bridge_command_line.specs.WineravineCommand.{wineravine, bare_wineravine, with_new_settings, with_names, early_settings_rule, resign_when_gone_rule, handle_draws_rule, show_san_rule, strength_options_rule, fence_stops_rule, result_reasons_rule, time_margin_rule, plain_texts_rule, path_options_rule, repeat_thinking_rule, log_dir_rule, set_option_rule, wineravine_engine_rule};
 
 use crate::arguments::{and_arg, option};
 use crate::{flag_option, log_file, with_arg, with_policy};
@@ -59,6 +59,14 @@ fn fence_stops<'a>(alloc: Global) -> Arg<'a>
     flag_option(alloc, "FenceStops", "true", help)
 }
 
+fn result_reasons<'a>(alloc: Global) -> Arg<'a>
+    ensures rule { rule_of result ≡ result_reasons_rule }
+    ensures local { result.global ≡ false }
+{
+    let help = "Whether the result of a game that the engine loses by a fault says which";
+    flag_option(alloc, "ResultReasons", "true", help)
+}
+
 fn time_margin<'a>(alloc: Global) -> Arg<'a>
     ensures rule { rule_of result ≡ time_margin_rule }
     ensures local { result.global ≡ false }
@@ -68,6 +76,23 @@ fn time_margin<'a>(alloc: Global) -> Arg<'a>
         0,
         u64::from(MOST_MARGIN),
     ))
+}
+
+fn plain_texts<'a>(alloc: Global) -> Arg<'a>
+    ensures rule { rule_of result ≡ plain_texts_rule }
+    ensures local { result.global ≡ false }
+{
+    let help =
+        "Whether options with control characters are left out, and the name has blanks for them";
+    flag_option(alloc, "PlainTexts", "true", help)
+}
+
+fn path_options<'a>(alloc: Global) -> Arg<'a>
+    ensures rule { rule_of result ≡ path_options_rule }
+    ensures local { result.global ≡ false }
+{
+    let help = "Whether options for paths and files are shown as such";
+    flag_option(alloc, "PathOptions", "true", help)
 }
 
 fn repeat_thinking<'a>(alloc: Global) -> Arg<'a>
@@ -135,7 +160,10 @@ fn with_new<'a>(alloc: Global, command: Command<'a>) -> Result<Command<'a>, Allo
     let command = and_arg(command, show_san(alloc));
     let command = and_arg(command, strength_options(alloc));
     let command = and_arg(command, fence_stops(alloc));
+    let command = and_arg(command, result_reasons(alloc));
     let command = and_arg(command, time_margin(alloc));
+    let command = and_arg(command, plain_texts(alloc));
+    let command = and_arg(command, path_options(alloc));
     and_arg(command, repeat_thinking(alloc))
 }
 

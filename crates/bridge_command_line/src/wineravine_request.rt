@@ -119,7 +119,10 @@ fn settings_of(found: &ArgMatches) -> Settings
         show_san: flag(found, "ShowSan"),
         strength_options: flag(found, "StrengthOptions"),
         fence_stops: flag(found, "FenceStops"),
+        result_reasons: flag(found, "ResultReasons"),
         time_margin: number(found, "TimeMargin", 0, MOST_MARGIN, USUAL_MARGIN),
+        plain_texts: flag(found, "PlainTexts"),
+        path_options: flag(found, "PathOptions"),
         repeat_thinking: flag(found, "RepeatThinking"),
         ..policy_of(found)
     }

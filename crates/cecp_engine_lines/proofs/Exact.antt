@@ -1,8 +1,9 @@
 -- The text of a reply is read as this reply, so a line reads as a reply if and only if it is its text.
-use Rattle.std.proofs.Common.{◌≡◌, ℕ, ℤ, ◌+◌, ◌^◌, ◌<◌, List, [], ◌∷◌, ◌++◌, Bool, true, false, not, eqb, ltb, cond, length, take, drop, Option, Some, None, refl, sym, ap, ◌∙◌, arith, append_assoc}
+use Rattle.std.proofs.Common.{◌≡◌, ℕ, ℤ, ◌+◌, ◌^◌, ◌<◌, List, [], ◌∷◌, ◌++◌, Bool, true, false, not, ◌&&◌, eqb, leb, ltb, cond, length, take, drop, Option, Some, None, refl, sym, ap, ◌∙◌, arith, append_assoc}
 use Rattle.std.specs.Prelude.{codes, IfSome, ◌↔◌}
 use Rattle.std.specs.Option.{option_map, option_and_then}
 use Rattle.std.specs.List.{list_all, before_first, position_or_len}
+use Rattle.std.specs.Str.{bytes_eq}
 use Rattle.std.specs.Char.{is_ascii_digit}
 use Rattle.std.specs.Fmt.{decimal, signed_decimal}
 use Rattle.std.proofs.lemmas.Bool.Decides.{nat_tests}
@@ -13,6 +14,8 @@ use Rattle.std.proofs.lemmas.Bool.{and_parts}
 use mir.Val.{SFits}
 use mir.Syntax.{w64}
 use Rattle.chess_board.specs.declared.board.Move.{Move as AnyMove}
+use Rattle.chess_board.specs.declared.board.Side.{Side}
+use Rattle.chess_board.specs.declared.board.Side.TheVariants.{White, Black}
 use Rattle.protocol_tokens.specs.Tokens.{trimmed}
 use Rattle.protocol_tokens.proofs.Runs.{all_of, prefix_stops}
 use Rattle.protocol_tokens.proofs.Written.{decimal_digits}
@@ -24,9 +27,10 @@ use Rattle.cecp_lines.specs.declared.reply.Outcome.{Outcome}
 use Rattle.cecp_lines.specs.declared.reply.Outcome.TheVariants as outcomes
 use Rattle.cecp_lines.specs.declared.reply.Spelling.{Spelling}
 use Rattle.cecp_lines.specs.declared.reply.Reply.{Reply as CodeReply}
+use Rattle.cecp_lines.specs.Losses.{Loss, IllegalMove, Ended, lost_text, is_quotable, is_quotable_byte, IsQuoted}
 use Rattle.cecp_lines.specs.Replies as cecp
 use Rattle.cecp_lines.specs.Replies.{Reply, reply_of, reply_text, reason_text, user_error_text, outcome_text, hint_in_parentheses, current_text, is_name_byte, is_feature_name, IsWritable, IsMoveText, AreMoves, IsRepeated, IsReply, HasFieldRanges, SpellsReply}
-use Rattle.cecp_engine_lines.specs.ReplyReading.{rest_after_prefix, is_space, number_field, score_field, fixed_lines, fixed_of, reason_of, named_feature, feature_at, feature_in, is_repeated, error_of, error_at, error_in, short_pong, pong_reply_in, last_in, stat01_in, hint_in_reply, thinking_of, thinking_in, with_prefix, or_prefix, reply_in}
+use Rattle.cecp_engine_lines.specs.ReplyReading.{rest_after_prefix, is_space, number_field, score_field, fixed_lines, fixed_of, reason_of, named_feature, feature_at, feature_in, is_repeated, error_of, error_at, error_in, behind, lost_at, lost_in, with_score, short_pong, pong_reply_in, last_in, stat01_in, hint_in_reply, thinking_of, thinking_in, with_prefix, or_prefix, reply_in}
 use Rattle.cecp_engine_lines.proofs.Plain.{decimal_written, move_written}
 use Rattle.cecp_engine_lines.proofs.Rereads.{cut_position, after_cut, number_reads, score_reads}
 use Rattle.cecp_engine_lines.proofs.Lists.{spelling_read, hint_read, last_read}
@@ -113,10 +117,10 @@ digits_there ds more h =
 not_fixed : (line : List ℕ) (o : Option CodeReply) → fixed_of line ≡ o → digits_before line ≡ true → fixed_of line ≡ None
 not_fixed line None e h = e
 not_fixed line (Some r) e h =
-    let no_digits = look (λ u k. digits_before u ≡ false) fixed_lines (refl, (refl, (refl, (refl, (refl, (refl, (refl, (refl, (refl, (refl, (refl, tt))))))))))) line r e in
+    let no_digits = look (λ u k. digits_before u ≡ false) fixed_lines (refl, (refl, (refl, (refl, (refl, (refl, (refl, (refl, (refl, (refl, (refl, (refl, (refl, (refl, (refl, tt))))))))))))))) line r e in
     absurd (cc)
 
-prefix_digit : (c : ℕ) (more : List ℕ) → is_ascii_digit c ≡ true → with_prefix (c ∷ more) ≡ thinking_in (c ∷ more)
+prefix_digit : (c : ℕ) (more : List ℕ) → is_ascii_digit c ≡ true → with_prefix (c ∷ more) ≡ with_score (c ∷ more)
 prefix_digit c more h =
     let f : eqb 102 c ≡ false = grind (arith, nat_tests) in
     let m : eqb 109 c ≡ false = grind (arith, nat_tests) in
@@ -127,14 +131,38 @@ prefix_digit c more h =
     let s : eqb 115 c ≡ false = grind (arith, nat_tests) in
     rw (f, m, i, e, p, k, s) refl
 
-prefix_digits : (ds more : List ℕ) → 0 < length ds → list_all is_ascii_digit ds ≡ true → with_prefix (ds ++ more) ≡ thinking_in (ds ++ more)
+prefix_digits : (ds more : List ℕ) → 0 < length ds → list_all is_ascii_digit ds ≡ true → with_prefix (ds ++ more) ≡ with_score (ds ++ more)
 prefix_digits [] more some h = absurd (omega arith)
 prefix_digits (c ∷ cs) more some h = prefix_digit c (cs ++ more) (and_parts (is_ascii_digit c) (list_all is_ascii_digit cs) h).0
+
+-- Behind the first digit no score of a lost game goes on with a digit or a blank.
+score_digit : (c b : ℕ) (more : List ℕ) → eqb 45 b ≡ false → with_score (c ∷ b ∷ more) ≡ thinking_in (c ∷ b ∷ more)
+score_digit c b more e = by (eqb 48 c) (eqb 49 c) (eqb 45 b) e where
+  by : (x y z : Bool) → z ≡ false →
+      behind (cond x (cond z (rest_after_prefix (codes "1 {Illegal move by engine: ") more) None) None) (lost_in White)
+      (behind (cond y (cond z (rest_after_prefix (codes "0 {Illegal move by engine: ") more) None) None) (lost_in Black) (thinking_in (c ∷ b ∷ more)))
+      ≡ thinking_in (c ∷ b ∷ more)
+  by true true false n = refl
+  by true false false n = refl
+  by false true false n = refl
+  by false false false n = refl
+  by x y true n = absurd (cc)
+
+no_dash : (b : ℕ) → is_ascii_digit b ≡ true → eqb 45 b ≡ false
+no_dash b h = grind (arith, nat_tests)
+
+score_digits : (ds more : List ℕ) → 0 < length ds → list_all is_ascii_digit ds ≡ true → with_score (ds ++ (32 ∷ more)) ≡ thinking_in (ds ++ (32 ∷ more))
+score_digits [] more some h = absurd (omega arith)
+score_digits (c ∷ []) more some h = score_digit c 32 more refl
+score_digits (c ∷ d ∷ ds) more some h =
+    let later = (and_parts (is_ascii_digit c) (list_all is_ascii_digit (d ∷ ds)) h).1 in
+    score_digit c d (ds ++ (32 ∷ more)) (no_dash d (and_parts (is_ascii_digit d) (list_all is_ascii_digit ds) later).0)
 
 reported_digits : (n : ℕ) (more : List ℕ) → n < 2 ^ 64 → reply_in (decimal n ++ (32 ∷ more)) ≡ thinking_in (decimal n ++ (32 ∷ more))
 reported_digits n more h =
     ap (λ o. or_prefix o (decimal n ++ (32 ∷ more))) (not_fixed (decimal n ++ (32 ∷ more)) (fixed_of (decimal n ++ (32 ∷ more))) refl (digits_there (decimal n) more (decimal_digits n h)))
     ∙ prefix_digits (decimal n) (32 ∷ more) (decimal_is_IsNumeral n h).0.0 (decimal_digits n h)
+    ∙ score_digits (decimal n) more (decimal_is_IsNumeral n h).0.0 (decimal_digits n h)
 
 report_read : (user_error : UserError) → reply_in (user_error_text user_error) ≡ Some (cecp.TellError user_error)
 report_read user_errors.Position = refl
@@ -149,6 +177,29 @@ outcome_read outcomes.Dead = refl
 outcome_read outcomes.Repetition = refl
 outcome_read outcomes.Fifty = refl
 
+-- a quoted answer goes up to the first brace
+quotable_solid : (b : ℕ) → is_quotable_byte b ≡ true → not (eqb b 125) ≡ true
+quotable_solid b h = (and_parts (leb 33 b && leb b 126 && not (eqb b 123)) (not (eqb b 125)) h).1
+
+quoted_solid : (answer : List ℕ) → is_quotable answer ≡ true → list_all (λ b. not (eqb b 125)) answer ≡ true
+quoted_solid answer h =
+    all_of is_quotable_byte (λ b. not (eqb b 125)) quotable_solid answer (and_parts (ltb 0 (length answer) && leb (length answer) 16) (list_all is_quotable_byte answer) h).1
+
+lost_read : (side : Side) (answer : List ℕ) → is_quotable answer ≡ true → lost_in side (answer ++ (125 ∷ [])) ≡ Some (cecp.Lost side (IllegalMove (Some answer)))
+lost_read side answer h =
+    ap (λ o. lost_at side o (answer ++ (125 ∷ []))) (cut_position 125 answer [] (quoted_solid answer h))
+    ∙ ap (λ t. cond (bytes_eq (drop (length answer) (answer ++ (125 ∷ []))) (codes "}") && is_quotable t) (Some (cecp.Lost side (IllegalMove (Some t)))) None) (take-append_seam answer (125 ∷ []))
+    ∙ ap (λ r. cond (bytes_eq r (codes "}") && is_quotable answer) (Some (cecp.Lost side (IllegalMove (Some answer)))) None) (drop-append_seam answer (125 ∷ []))
+    ∙ ap (λ b. cond b (Some (cecp.Lost side (IllegalMove (Some answer)))) None) h
+
+lost_again : (side : Side) (loss : Loss) → IsQuoted loss → reply_in (lost_text side loss) ≡ Some (cecp.Lost side loss)
+lost_again White (IllegalMove (Some answer)) q = lost_read White answer q
+lost_again Black (IllegalMove (Some answer)) q = lost_read Black answer q
+lost_again White (IllegalMove None) q = refl
+lost_again Black (IllegalMove None) q = refl
+lost_again White Ended q = refl
+lost_again Black Ended q = refl
+
 pub reported_again : (t : Reply) → IsReply t → HasFieldRanges t → reply_in (reply_text t) ≡ Some t
 reported_again (cecp.Feature name value) h f = ap reply_in (feature_text name value) ∙ feature_read name value h
 reported_again (cecp.Move m) h f = ap (option_map (λ x. cecp.Move x)) (move_written m h)
@@ -157,6 +208,7 @@ reported_again (cecp.IllegalLong m) h f = ap (option_map (λ x. cecp.IllegalLong
 reported_again (cecp.Error r line) h f = ap reply_in (error_text (reason_text r) line) ∙ error_read r line h
 reported_again (cecp.TellError user_error) h f = report_read user_error
 reported_again (cecp.Pong n) h f = pong_read n f
+reported_again (cecp.Lost side loss) h f = lost_again side loss f
 reported_again (cecp.Hint m) h f = ap (option_map (λ x. cecp.Hint x)) (move_written m h)
 reported_again (cecp.Result outcome) h f = outcome_read outcome
 reported_again (cecp.Thinking depth score time nodes spelling hint pv) h f =

@@ -1,5 +1,5 @@
 -- A line that reads as a reply is the reply's text.
-use Rattle.std.proofs.Common.{◌≡◌, ℕ, ◌+◌, ◌^◌, ◌<◌, List, [], ◌∷◌, ◌++◌, Bool, true, false, ltb, cond, take, drop, Option, Some, None, refl, sym, ap, ◌∙◌, subst, arith, append_assoc}
+use Rattle.std.proofs.Common.{◌≡◌, ℕ, ◌+◌, ◌^◌, ◌<◌, List, [], ◌∷◌, ◌++◌, Bool, true, false, ◌&&◌, ltb, cond, take, drop, Option, Some, None, refl, sym, ap, ◌∙◌, subst, arith, append_assoc}
 use Rattle.std.specs.Prelude.{codes, position, is_some, IfSome}
 use Rattle.std.specs.Option.{option_map, option_and_then}
 use Rattle.std.specs.List.{list_all, slice_split, AllByRecursion}
@@ -13,6 +13,8 @@ use Rattle.std.proofs.lemmas.List.Splits.{join_with_byte-slice_split, length-sli
 use Rattle.std.proofs.lemmas.Slice.Eq.{bytes_eq-Decides}
 use Rattle.std.proofs.lemmas.Bool.{and_parts}
 use Rattle.chess_board.specs.declared.board.Move.{Move as AnyMove}
+use Rattle.chess_board.specs.declared.board.Side.{Side}
+use Rattle.chess_board.specs.declared.board.Side.TheVariants.{White, Black}
 use Rattle.chess_board.specs.Text.{text_of_move}
 use Rattle.protocol_tokens.specs.Tokens.{trimmed}
 use Rattle.cecp_lines.specs.declared.reply.Reason.{Reason}
@@ -20,9 +22,10 @@ use Rattle.cecp_lines.specs.declared.reply.Reason.TheVariants as reasons
 use Rattle.cecp_lines.specs.declared.reply.Spelling.{Spelling}
 use Rattle.cecp_lines.specs.declared.reply.Spelling.TheVariants.{Coordinates, San}
 use Rattle.cecp_lines.specs.declared.reply.Reply.{Reply as CodeReply}
+use Rattle.cecp_lines.specs.Losses.{IllegalMove, lost_text, is_quotable}
 use Rattle.cecp_lines.specs.Replies as cecp
 use Rattle.cecp_lines.specs.Replies.{Reply, reply_of, reason_text, field, hint_in_parentheses, current_text, is_feature_name, IsWritable, IsMoveText, AreMoves, IsRepeated, SpellsReply}
-use Rattle.cecp_engine_lines.specs.ReplyReading.{rest_after_prefix, number_in_64_bits, written_move, is_space, is_paren, is_move_text, are_moves, is_hint, have_spelling, spelling_of_moves, number_field, score_field, fixed_lines, fixed_of, reason_words, reason_of, feature_at, feature_in, is_repeated, error_of, error_at, error_in, short_pong, pong_reply_in, last_at, last_in, stat01_in, hint_at, hint_of, hint_in_reply, thinking_of, thinking_in, behind, of_move, with_prefix, or_prefix, reply_in}
+use Rattle.cecp_engine_lines.specs.ReplyReading.{rest_after_prefix, number_in_64_bits, written_move, is_space, is_paren, is_move_text, are_moves, is_hint, have_spelling, spelling_of_moves, number_field, score_field, fixed_lines, fixed_of, reason_words, reason_of, feature_at, feature_in, is_repeated, error_of, error_at, error_in, is_brace, lost_at, lost_in, with_score, short_pong, pong_reply_in, last_at, last_in, stat01_in, hint_at, hint_of, hint_in_reply, thinking_of, thinking_in, behind, of_move, with_prefix, or_prefix, reply_in}
 use Rattle.cecp_lines.specs.Reading.{is_equals}
 use Rattle.cecp_lines.proofs.Spellings.{bind_some}
 use Rattle.cecp_engine_lines.proofs.Prefixes.{stripped_is}
@@ -42,7 +45,7 @@ look P (row ∷ rows) all w c h = look_step P w row.0 row.1 c (bytes_eq w row.0)
 
 fixed_reports : (line : List ℕ) (r : CodeReply) → fixed_of line ≡ Some r → SpellsReply line (reply_of r)
 fixed_reports line r h = look (λ u k. SpellsReply u (reply_of k)) fixed_lines
-    (record { form = tt; fits = tt; text = refl }, (record { form = tt; fits = tt; text = refl }, (record { form = tt; fits = tt; text = refl }, (record { form = tt; fits = tt; text = refl }, (record { form = tt; fits = tt; text = refl }, (record { form = tt; fits = tt; text = refl }, (record { form = tt; fits = tt; text = refl }, (record { form = tt; fits = tt; text = refl }, (record { form = tt; fits = tt; text = refl }, (record { form = tt; fits = tt; text = refl }, (record { form = tt; fits = tt; text = refl }, tt))))))))))) line r h
+    (record { form = tt; fits = tt; text = refl }, (record { form = tt; fits = tt; text = refl }, (record { form = tt; fits = tt; text = refl }, (record { form = tt; fits = tt; text = refl }, (record { form = tt; fits = tt; text = refl }, (record { form = tt; fits = tt; text = refl }, (record { form = tt; fits = tt; text = refl }, (record { form = tt; fits = tt; text = refl }, (record { form = tt; fits = tt; text = refl }, (record { form = tt; fits = tt; text = refl }, (record { form = tt; fits = tt; text = refl }, (record { form = tt; fits = tt; text = refl }, (record { form = tt; fits = tt; text = refl }, (record { form = tt; fits = tt; text = refl }, (record { form = tt; fits = tt; text = refl }, tt))))))))))))))) line r h
 
 reason_is : (words : List ℕ) (r : Reason) → reason_of words ≡ Some r → words ≡ reason_text r
 reason_is words r h = look (λ u k. u ≡ reason_text k) reason_words (refl, (refl, (refl, (refl, (refl, (refl, (refl, (refl, (refl, (refl, tt)))))))))) words r h
@@ -209,6 +212,24 @@ thinking_reports text t h =
     ∙ thinking_text (decimal depth.0.0) (signed_decimal score.0.0) (decimal time.0.0) (decimal nodes.0.0) (hint_in_parentheses hint.0.0) hint.0.1 in
     subst (λ (u : Reply). SpellsReply text u) spelling.2 (record { form = form; fits = (a.1, b.1, c.1, d.1); text = whole })
 
+-- THE RESULT OF A LOST GAME
+
+lost_by : (side : Side) (prefix text : List ℕ) (o : Option ℕ) (t : Reply) → ((answer : List ℕ) → prefix ++ (answer ++ (125 ∷ [])) ≡ lost_text side (IllegalMove (Some answer))) → lost_at side o text ≡ Some t → SpellsReply (prefix ++ text) t
+lost_by side prefix text None t k h = absurd (cc)
+lost_by side prefix text (Some at) t k h =
+    let c = cond_some (bytes_eq (drop at text) (codes "}") && is_quotable (take at text)) (cecp.Lost side (IllegalMove (Some (take at text)))) t h in
+    let both = and_parts (bytes_eq (drop at text) (codes "}")) (is_quotable (take at text)) c.0 in
+    let whole : text ≡ take at text ++ codes "}" = sym (take-append-drop at text) ∙ ap (λ r. take at text ++ r) ((bytes_eq-Decides (drop at text) (codes "}")).0 both.0) in
+    subst (λ (u : Reply). SpellsReply (prefix ++ text) u) c.1 (record { form = tt; fits = both.1; text = ap (λ x. prefix ++ x) whole ∙ k (take at text) })
+
+score_reports : (line : List ℕ) (t : Reply) → with_score line ≡ Some t → SpellsReply line t
+score_reports line t h =
+    behind_by line (codes "0-1 {Illegal move by engine: ") (rest_after_prefix (codes "0-1 {Illegal move by engine: ") line) (lost_in White) _ t refl
+    (λ text k. lost_by White (codes "0-1 {Illegal move by engine: ") text (position is_brace text) t (λ answer. refl) k)
+    (behind_by line (codes "1-0 {Illegal move by engine: ") (rest_after_prefix (codes "1-0 {Illegal move by engine: ") line) (lost_in Black) (thinking_in line) t refl
+    (λ text k. lost_by Black (codes "1-0 {Illegal move by engine: ") text (position is_brace text) t (λ answer. refl) k)
+    (λ k. thinking_reports line t k)) h
+
 -- ALL
 
 prefix_reports : (line : List ℕ) (t : Reply) → with_prefix line ≡ Some t → SpellsReply line t
@@ -220,8 +241,8 @@ prefix_reports line t h =
     (behind_by line (codes "Error (") (rest_after_prefix (codes "Error (") line) error_in _ t refl (λ text k. error_by text (position is_paren text) t k)
     (behind_by line (codes "pong ") (rest_after_prefix (codes "pong ") line) pong_reply_in _ t refl (λ text k. pong_reports text t k)
     (behind_by line (codes "Hint: ") (rest_after_prefix (codes "Hint: ") line) (of_move (λ m. cecp.Hint m)) _ t refl (λ text k. move_reports (codes "Hint: ") text (λ m. cecp.Hint m) t (λ m w. record { form = w; fits = tt; text = refl }) k)
-    (behind_by line (codes "stat01: ") (rest_after_prefix (codes "stat01: ") line) stat01_in (thinking_in line) t refl (λ text k. stat01_reports text t k)
-    (λ k. thinking_reports line t k)))))))) h
+    (behind_by line (codes "stat01: ") (rest_after_prefix (codes "stat01: ") line) stat01_in (with_score line) t refl (λ text k. stat01_reports text t k)
+    (λ k. score_reports line t k)))))))) h
 
 reported_by : (line : List ℕ) (o : Option CodeReply) (t : Reply) → fixed_of line ≡ o → or_prefix o line ≡ Some t → SpellsReply line t
 reported_by line None t e h = prefix_reports line t h

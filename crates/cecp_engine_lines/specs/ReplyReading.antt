@@ -9,6 +9,8 @@ use Rattle.std.specs.Str.Parse.{digits_value, starts_with_minus}
 use Rattle.std.specs.Char.{is_ascii_digit}
 use Rattle.std.specs.Map.{lookup}
 use Rattle.chess_board.specs.declared.board.Move.{Move as AnyMove}
+use Rattle.chess_board.specs.declared.board.Side.{Side}
+use Rattle.chess_board.specs.declared.board.Side.TheVariants.{White, Black}
 use Rattle.chess_board.specs.Text.{text_of_move}
 use Rattle.protocol_tokens.specs.Tokens.{trimmed}
 use Rattle.chess_board.specs.Spelling.{move_spelled_by}
@@ -17,6 +19,9 @@ use Rattle.cecp_lines.specs.declared.reply.Reason.{Reason}
 use Rattle.cecp_lines.specs.declared.reply.Reason.TheVariants as reasons
 use Rattle.cecp_lines.specs.declared.reply.UserError.TheVariants as user_errors
 use Rattle.cecp_lines.specs.declared.reply.Outcome.TheVariants as outcomes
+use Rattle.cecp_lines.specs.declared.reply.Loss.TheVariants as losses
+use Rattle.cecp_lines.specs.Losses as cecp_losses
+use Rattle.cecp_lines.specs.Losses.{is_quotable, right_brace}
 use Rattle.cecp_lines.specs.San.{is_san}
 use Rattle.cecp_lines.specs.declared.reply.Spelling.{Spelling}
 use Rattle.cecp_lines.specs.declared.reply.Spelling.TheVariants.{Coordinates, San}
@@ -117,7 +122,11 @@ fixed_lines =
     ∷ (codes "1/2-1/2 {Stalemate}", replies.Result outcomes.Stalemate)
     ∷ (codes "1/2-1/2 {Draw by insufficient material}", replies.Result outcomes.Dead)
     ∷ (codes "1/2-1/2 {Draw by repetition}", replies.Result outcomes.Repetition)
-    ∷ (codes "1/2-1/2 {Draw by fifty-move rule}", replies.Result outcomes.Fifty) ∷ []
+    ∷ (codes "1/2-1/2 {Draw by fifty-move rule}", replies.Result outcomes.Fifty)
+    ∷ (codes "0-1 {Illegal move by engine}", replies.Lost White (losses.IllegalMove None))
+    ∷ (codes "1-0 {Illegal move by engine}", replies.Lost Black (losses.IllegalMove None))
+    ∷ (codes "0-1 {Engine ended}", replies.Lost White losses.Ended)
+    ∷ (codes "1-0 {Engine ended}", replies.Lost Black losses.Ended) ∷ []
 
 abbrev pub fixed_of : List ℕ → Option CodeReply
 fixed_of line = lookup (bytes_eq line) fixed_lines
@@ -167,6 +176,19 @@ error_at (Some at) text =
 
 abbrev pub error_in : List ℕ → Option Reply
 error_in text = error_at (position is_paren text) text
+
+abbrev pub is_brace : ℕ → Bool
+is_brace b = b == right_brace
+
+-- an answer that is quoted up to a brace, with which the line ends
+abbrev pub lost_at : Side → Option ℕ → List ℕ → Option Reply
+lost_at side None text = None
+lost_at side (Some at) text =
+    if bytes_eq (drop at text) (codes "}") && is_quotable (take at text)
+    then Some (cecp.Lost side (cecp_losses.IllegalMove (Some (take at text)))) else None
+
+abbrev pub lost_in : Side → List ℕ → Option Reply
+lost_in side text = lost_at side (position is_brace text) text
 
 abbrev pub short_pong : ℕ → Option Reply
 short_pong n = if nat_lt n (2 ^ 32) then Some (cecp.Pong n) else None
@@ -238,6 +260,13 @@ behind (Some text) read other = read text
 abbrev pub of_move : (AnyMove → Reply) → List ℕ → Option Reply
 of_move says text = option_map says (written_move text)
 
+-- a reply that begins with a number
+abbrev pub with_score : List ℕ → Option Reply
+with_score line =
+    behind (rest_after_prefix (codes "0-1 {Illegal move by engine: ") line) (lost_in White)
+    (behind (rest_after_prefix (codes "1-0 {Illegal move by engine: ") line) (lost_in Black)
+    (thinking_in line))
+
 abbrev pub with_prefix : List ℕ → Option Reply
 with_prefix line =
     behind (rest_after_prefix (codes "feature ") line) feature_in
@@ -249,7 +278,7 @@ with_prefix line =
     (behind (rest_after_prefix (codes "pong ") line) pong_reply_in
     (behind (rest_after_prefix (codes "Hint: ") line) (of_move (λ m. cecp.Hint m))
     (behind (rest_after_prefix (codes "stat01: ") line) stat01_in
-    (thinking_in line))))))))
+    (with_score line))))))))
 
 abbrev pub or_prefix : Option CodeReply → List ℕ → Option Reply
 or_prefix (Some reply) line = Some (reply_of reply)

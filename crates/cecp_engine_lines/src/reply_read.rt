@@ -5,17 +5,17 @@ ghost use Rattle.std.specs.List.{list_all};
 ghost use Rattle.cecp_lines.specs.Replies.{Reply as AnyReply, reply_of, SpellsReply, is_feature_name, is_name_byte};
 ghost use Rattle.cecp_lines.specs.Reading.{is_equals};
 ghost use Rattle.cecp_engine_lines.specs.ReplyReading.{rest_after_prefix, is_paren, fixed_of, reason_of, feature_in, is_repeated, error_in, pong_reply_in};
-ghost use Rattle.cecp_engine_lines.specs.ReplyReading.{last_in, stat01_in, hint_in_reply, thinking_in, with_prefix, reply_in};
+ghost use Rattle.cecp_engine_lines.specs.ReplyReading.{is_brace, lost_in, last_in, stat01_in, hint_in_reply, thinking_in, with_score, with_prefix, reply_in};
 
 use crate::move_texts::{read_written_move, spelling_of};
 use crate::written_numbers::{
     position_of, read_number_field, read_score_field, read_written, space_at,
 };
-use cecp_lines::{Outcome, Reason, Reply, UserError};
-use chess_board::Move;
+use cecp_lines::{Loss, Outcome, Reason, Reply, UserError, is_quotable};
+use chess_board::{Move, Side};
 use protocol_tokens::{is_white, named, trim};
 
-const FIXED: [(&[u8], Reply<'static>); 11] = [
+const FIXED: [(&[u8], Reply<'static>); 15] = [
     (b"offer draw", Reply::OfferDraw),
     (b"resign", Reply::Resign),
     (
@@ -44,6 +44,34 @@ const FIXED: [(&[u8], Reply<'static>); 11] = [
     (
         b"1/2-1/2 {Draw by fifty-move rule}",
         Reply::Result(Outcome::Fifty),
+    ),
+    (
+        b"0-1 {Illegal move by engine}",
+        Reply::Lost {
+            side: Side::White,
+            loss: Loss::IllegalMove(None),
+        },
+    ),
+    (
+        b"1-0 {Illegal move by engine}",
+        Reply::Lost {
+            side: Side::Black,
+            loss: Loss::IllegalMove(None),
+        },
+    ),
+    (
+        b"0-1 {Engine ended}",
+        Reply::Lost {
+            side: Side::White,
+            loss: Loss::Ended,
+        },
+    ),
+    (
+        b"1-0 {Engine ended}",
+        Reply::Lost {
+            side: Side::Black,
+            loss: Loss::Ended,
+        },
     ),
 ];
 
@@ -140,6 +168,26 @@ fn read_error(text: &[u8]) -> Option<Reply<'_>>
     let line = behind_prefix(b"): ", rest)?;
     if is_repeated_line(reason, line) {
         Some(Reply::Error { reason, line })
+    } else {
+        None
+    }
+}
+
+fn brace_at(text: &[u8]) -> Option<usize>
+    ensures { result ≡ position is_brace text.now }
+{
+    position_of(b'}', text)
+}
+
+/// The result of a game that this side has lost by an answer which is quoted up to a brace.
+fn read_lost(side: Side, text: &[u8]) -> Option<Reply<'_>>
+    ensures { option_map reply_of result ≡ lost_in side text.now }
+{
+    let at = brace_at(text)?;
+    let (answer, rest) = text.split_at(at);
+    if rest == b"}".as_slice() && is_quotable(answer) {
+        let loss = Loss::IllegalMove(Some(answer));
+        Some(Reply::Lost { side, loss })
     } else {
         None
     }
@@ -249,6 +297,19 @@ fn read_with_prefix(line: &[u8]) -> Option<Reply<'_>>
     }
     if let Some(text) = behind_prefix(b"stat01: ", line) {
         return read_stat01(text);
+    }
+    read_with_score(line)
+}
+
+/// A reply that begins with a number.
+fn read_with_score(line: &[u8]) -> Option<Reply<'_>>
+    ensures { option_map reply_of result ≡ with_score line.now }
+{
+    if let Some(text) = behind_prefix(b"0-1 {Illegal move by engine: ", line) {
+        return read_lost(Side::White, text);
+    }
+    if let Some(text) = behind_prefix(b"1-0 {Illegal move by engine: ", line) {
+        return read_lost(Side::Black, text);
     }
     read_thinking(line)
 }

@@ -1,13 +1,18 @@
 -- No reply's text is longer than its borrowed bytes and 128 more.
-use Rattle.std.proofs.Common.{◌≡◌, ℕ, ℤ, suc, ◌+◌, ◌^◌, ◌<◌, ◌≤◌, List, [], ◌∷◌, ◌++◌, length, Option, Some, None, arith}
+use Rattle.std.proofs.Common.{◌≡◌, ℕ, ℤ, suc, ◌+◌, ◌^◌, ◌<◌, ◌≤◌, List, [], ◌∷◌, ◌++◌, length, Bool, true, ltb, leb, ◌&&◌, Option, Some, None, arith}
 use Rattle.std.specs.Prelude.{codes}
 use Rattle.std.specs.Fmt.{decimal, signed_decimal}
+use Rattle.std.specs.List.{list_all}
+use Rattle.std.proofs.lemmas.Bool.{and_parts}
+use Rattle.std.proofs.lemmas.Bool.Decides.{nat_tests}
 use Rattle.std.proofs.lemmas.List.{length-append}
 use Rattle.std.proofs.lemmas.Fmt.{length-decimal-le}
 use lib.IntN.{pos, negsuc}
 use mir.Val.{SFits}
 use mir.Syntax.{w64}
 use Rattle.chess_board.specs.declared.board.Move.{Move as AnyMove}
+use Rattle.chess_board.specs.declared.board.Side.{Side}
+use Rattle.chess_board.specs.declared.board.Side.TheVariants.{White, Black}
 use Rattle.chess_board.specs.Text.{text_of_move}
 use Rattle.chess_board.proofs.TextLengths.{move_length}
 use Rattle.cecp_lines.specs.declared.reply.Reason.{Reason}
@@ -17,6 +22,7 @@ use Rattle.cecp_lines.specs.declared.reply.UserError.TheVariants as user_errors
 use Rattle.cecp_lines.specs.declared.reply.Outcome.{Outcome}
 use Rattle.cecp_lines.specs.declared.reply.Outcome.TheVariants as outcomes
 use Rattle.cecp_lines.specs.declared.reply.Spelling.{Spelling}
+use Rattle.cecp_lines.specs.Losses.{Loss, IllegalMove, Ended, loss_text, quoted_text, score_text, lost_text, is_quotable, is_quotable_byte, IsQuoted}
 use Rattle.cecp_lines.specs.Replies as cecp
 use Rattle.cecp_lines.specs.Replies.{Reply, reply_text, reason_text, user_error_text, outcome_text, field, hint_in_parentheses, hint_size, current_text, HasFieldRanges, borrowed_length}
 
@@ -76,6 +82,25 @@ thinking_short depth score time nodes spelling hint pv f =
     let e = hint_short hint in
     omega (arith, thinking_parts (decimal depth) (signed_decimal score) (decimal time) (decimal nodes) (hint_in_parentheses hint) pv)
 
+quoted_short : (answer : Option (List ℕ)) → IsQuoted (IllegalMove answer) → length (quoted_text answer) ≤ 18
+quoted_short None f = omega arith
+quoted_short (Some answer) f =
+    let both = and_parts (ltb 0 (length answer) && leb (length answer) 16) (list_all is_quotable_byte answer) f in
+    let few = and_parts (ltb 0 (length answer)) (leb (length answer) 16) both.0 in
+    let short : length answer ≤ 16 = grind (arith, nat_tests, few.1) in
+    omega (arith, two_parts (codes ": ") answer, short)
+
+loss_short : (loss : Loss) → IsQuoted loss → length (loss_text loss) ≤ 40
+loss_short (IllegalMove answer) f = omega (arith, two_parts (codes "Illegal move by engine") (quoted_text answer), quoted_short answer f)
+loss_short Ended f = omega arith
+
+score_short : (side : Side) → length (score_text side) ≤ 3
+score_short White = omega arith
+score_short Black = omega arith
+
+lost_short : (side : Side) (loss : Loss) → IsQuoted loss → length (lost_text side loss) ≤ 46
+lost_short side loss f = omega (arith, four_parts (score_text side) (codes " {") (loss_text loss) (codes "}"), score_short side, loss_short loss f)
+
 pub reported_short : (t : Reply) → HasFieldRanges t → length (reply_text t) ≤ 128 + borrowed_length t
 reported_short (cecp.Feature name value) f = omega (arith, four_parts (codes "feature ") name (codes "=") value)
 reported_short (cecp.Move m) f = omega (arith, two_parts (codes "move ") (text_of_move m), move_length m)
@@ -84,6 +109,7 @@ reported_short (cecp.IllegalLong m) f = omega (arith, two_parts (codes "Illegal 
 reported_short (cecp.Error r line) f = omega (arith, four_parts (codes "Error (") (reason_text r) (codes "): ") line, reason_short r)
 reported_short (cecp.TellError user_error) f = omega (arith, report_short user_error)
 reported_short (cecp.Pong n) f = omega (arith, two_parts (codes "pong ") (decimal n), decimal_short n (omega arith))
+reported_short (cecp.Lost side loss) f = omega (arith, lost_short side loss f)
 reported_short (cecp.Hint m) f = omega (arith, two_parts (codes "Hint: ") (text_of_move m), move_length m)
 reported_short (cecp.Result outcome) f = omega (arith, outcome_short outcome)
 reported_short (cecp.Thinking depth score time nodes spelling hint pv) f = omega (arith, thinking_short depth score time nodes spelling hint pv f)

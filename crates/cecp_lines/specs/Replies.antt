@@ -8,6 +8,7 @@ use Rattle.std.specs.Option.{option_map}
 use mir.Syntax.{w64}
 use Rattle.std.specs.List.{list_all, join_with_byte, AllByRecursion}
 use Rattle.chess_board.specs.declared.board.Move.{Move as AnyMove}
+use Rattle.chess_board.specs.declared.board.Side.{Side}
 use Rattle.chess_board.specs.Text.{text_of_move, IsOfficer}
 use Rattle.protocol_tokens.specs.Tokens.{is_white, trimmed}
 use Rattle.cecp_lines.specs.declared.reply.Reason.{Reason}
@@ -16,6 +17,7 @@ use Rattle.cecp_lines.specs.declared.reply.UserError.{UserError}
 use Rattle.cecp_lines.specs.declared.reply.UserError.TheVariants as user_errors
 use Rattle.cecp_lines.specs.declared.reply.Outcome.{Outcome}
 use Rattle.cecp_lines.specs.declared.reply.Outcome.TheVariants as outcomes
+use Rattle.cecp_lines.specs.Losses.{Loss, loss_of, lost_text, IsQuoted}
 use Rattle.cecp_lines.specs.San.{is_san}
 use Rattle.cecp_lines.specs.declared.reply.Spelling.{Spelling}
 use Rattle.cecp_lines.specs.declared.reply.Spelling.TheVariants as spellings
@@ -33,6 +35,7 @@ pub data Reply : Type 0 where
   Pong : (n : ℕ) → Reply
   OfferDraw : Reply
   Resign : Reply
+  Lost : (side : Side) (loss : Loss) → Reply
   Hint : (hint : AnyMove) → Reply
   Result : (outcome : Outcome) → Reply
   Thinking : (depth : ℕ) (score : ℤ) (time nodes : ℕ) (spelling : Spelling) (hint : Option (List ℕ))
@@ -49,6 +52,7 @@ reply_of (replies.TellError user_error) = TellError user_error
 reply_of (replies.Pong n) = Pong n
 reply_of replies.OfferDraw = OfferDraw
 reply_of replies.Resign = Resign
+reply_of (replies.Lost side loss) = Lost side (loss_of loss)
 reply_of (replies.Hint m) = Hint m
 reply_of (replies.Result outcome) = Result outcome
 reply_of (replies.Thinking depth score time nodes spelling hint pv) =
@@ -105,6 +109,7 @@ reply_text (TellError user_error) = user_error_text user_error
 reply_text (Pong n) = codes "pong " ++ decimal n
 reply_text OfferDraw = codes "offer draw"
 reply_text Resign = codes "resign"
+reply_text (Lost side loss) = lost_text side loss
 reply_text (Hint m) = codes "Hint: " ++ text_of_move m
 reply_text (Result outcome) = outcome_text outcome
 reply_text (Thinking depth score time nodes spelling hint pv) =
@@ -175,9 +180,10 @@ HasWritableMoves (Hint m) = IsWritable m
 HasWritableMoves (Stat01 time nodes depth left all current) = IfSome current IsWritable
 HasWritableMoves _ = Unit {0}
 
--- the numbers are those of the fields' types
+-- the numbers are those of the fields' types, and what is quoted can be
 abbrev pub HasFieldRanges : Reply → Type 0
 HasFieldRanges (Pong n) = n < 2 ^ 32
+HasFieldRanges (Lost side loss) = IsQuoted loss
 HasFieldRanges (Thinking depth score time nodes spelling hint pv) =
     (depth < 2 ^ 64) × FitsSigned w64 score × (time < 2 ^ 64) × (nodes < 2 ^ 64)
 HasFieldRanges (Stat01 time nodes depth left all current) =

@@ -22,6 +22,7 @@
 
 mod iface;
 mod laws;
+mod losses;
 mod read;
 mod reply;
 mod reply_write;
@@ -29,6 +30,7 @@ mod words;
 
 pub use iface::{IfaceFault, IfaceMsg};
 pub use laws::{lines_are_unambiguous, replies_are_short};
+pub use losses::{is_quotable, quoted};
 pub use read::read_iface;
-pub use reply::{Outcome, Reason, Reply, Spelling, UserError};
+pub use reply::{Loss, Outcome, Reason, Reply, Spelling, UserError};
 pub use reply_write::write_reply;

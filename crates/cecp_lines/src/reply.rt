@@ -1,6 +1,6 @@
 // The replies to the interface.
 
-use chess_board::Move;
+use chess_board::{Move, Side};
 
 /// Why a line was refused.
 #[derive(Clone, Copy, PartialEq, Eq)]
@@ -39,6 +39,15 @@ pub enum Outcome {
     Fifty,
 }
 
+/// How the engine has lost a game, if not on the board and not by resigning.
+#[derive(Clone, Copy, PartialEq, Eq)]
+pub enum Loss<'a> {
+    /// Its answer is no legal move. The answer is quoted if it can be.
+    IllegalMove(Option<&'a [u8]>),
+    /// It ended.
+    Ended,
+}
+
 /// The spelling of the moves of a thinking line.
 #[derive(Clone, Copy, Debug, PartialEq, Eq)]
 pub enum Spelling {
@@ -71,6 +80,11 @@ pub enum Reply<'a> {
     Pong(u32),
     OfferDraw,
     Resign,
+    /// The engine, which plays this side, has lost.
+    Lost {
+        side: Side,
+        loss: Loss<'a>,
+    },
     Hint(Move),
     Result(Outcome),
     /// Depth in plies, score in hundredths of a pawn, time in hundredths of a second, nodes, the

@@ -6,6 +6,7 @@ ghost use Rattle.line_io.specs.Out.{with};
 ghost use Rattle.chess_board.specs.Text.{text_of_move};
 ghost use Rattle.cecp_lines.specs.Replies.{Feature, Error, Pong, Stat01, is_search_report, reply_of, reply_text, reason_text, user_error_text, outcome_text, hint_in_parentheses, current_text, field, HasWritableMoves, IsWritable};
 
+use crate::losses::put_lost;
 use crate::reply::{Outcome, Reason, Reply, UserError};
 use chess_board::{Move, write_move};
 use itoa::Buffer;
@@ -297,6 +298,7 @@ pub fn write_reply(reply: &Reply, out: &mut Out)
         Reply::Pong(n) => put_pong(*n, out),
         Reply::OfferDraw => out.put(b"offer draw"),
         Reply::Resign => out.put(b"resign"),
+        Reply::Lost { side, loss } => put_lost(*side, *loss, out),
         Reply::Hint(m) => put_text_and_move(b"Hint: ", *m, out),
         Reply::Result(outcome) => out.put(result_line(*outcome)),
         Reply::Thinking { .. } => put_search_report(reply, out),

@@ -23,7 +23,7 @@ use Rattle.uci_lines.specs.Orders.{Order}
 use Rattle.uci_lines.specs.Info.{Info}
 use Rattle.uci_lines.specs.Messages.{EngineMsg}
 use Rattle.uci_lines.specs.Messages as hears
-use Rattle.uci_lines.specs.Engine.{engine_message}
+use Rattle.uci_lines.specs.Engine.{answer_text, engine_message}
 use Rattle.option_map.specs.declared.declared_options.fault.OptionFault.{OptionFault}
 use Rattle.option_map.specs.declared.declared_options.fault.OptionFault.TheVariants.{UnknownOption, BadValue}
 use Rattle.option_map.specs.WaitingOrders.Asked.{asked}
@@ -139,30 +139,30 @@ thinks_fits : (h : Situation) (held : List Order) (facts : Info) (k : Option GoK
 thinks_fits h held facts None c e s = tt
 thinks_fits h held facts (Some k) c e s = (c, e, s)
 
-shown_fits : (h : Situation) (held : List Order) (m : Move) (hint : Option Move) (b : Bool) → h.closed ≡ false → IsCurrentMove h.engine → legal (current_position h.desk.game) m ≡ b
-    → EffectFitsDesk h held (cond b (Shows m hint) Forfeits)
-shown_fits h held m hint true c e l = (c, e, l)
-shown_fits h held m hint false c e l = (c, e)
+shown_fits : (h : Situation) (held : List Order) (line : List ℕ) (m : Move) (hint : Option Move) (b : Bool) → h.closed ≡ false → IsCurrentMove h.engine → legal (current_position h.desk.game) m ≡ b
+    → EffectFitsDesk h held (cond b (Shows m hint) (Forfeits (answer_text line)))
+shown_fits h held line m hint true c e l = (c, e, l)
+shown_fits h held line m hint false c e l = (c, e)
 
-shows_fits : (h : Situation) (held : List Order) (best hint : Option Move) → h.closed ≡ false → IsCurrentMove h.engine → EffectFitsDesk h held (shows h.desk.game best hint)
-shows_fits h held None hint c e = (c, e)
-shows_fits h held (Some m) hint c e = shown_fits h held m hint (legal (current_position h.desk.game) m) c e refl
+shows_fits : (h : Situation) (held : List Order) (line : List ℕ) (best hint : Option Move) → h.closed ≡ false → IsCurrentMove h.engine → EffectFitsDesk h held (shows h.desk.game line best hint)
+shows_fits h held line None hint c e = (c, e)
+shows_fits h held line (Some m) hint c e = shown_fits h held line m hint (legal (current_position h.desk.game) m) c e refl
 
 other_search : (e f : EngineState) → e ≡ f → IsOther f → IsOther e
 other_search e f p i = subst IsOther (sym p) i
 
-answers_fits : (h : Situation) (held : List Order) (e : EngineState) (best hint : Option Move) → h.closed ≡ false → h.engine ≡ e → EffectFitsDesk h held (answers e h.desk.game best hint)
-answers_fits h held (states.Search kinds.Move false stopped) best hint c e = shows_fits h held best hint c (ap current e)
-answers_fits h held (states.Search x true stopped) best hint c e = (c, other_search h.engine _ e tt)
-answers_fits h held (states.Search x y stopped) best hint c e = (c, other_search h.engine _ e tt)
-answers_fits h held x best hint c e = tt
+answers_fits : (h : Situation) (held : List Order) (line : List ℕ) (e : EngineState) (best hint : Option Move) → h.closed ≡ false → h.engine ≡ e → EffectFitsDesk h held (answers e h.desk.game line best hint)
+answers_fits h held line (states.Search kinds.Move false stopped) best hint c e = shows_fits h held line best hint c (ap current e)
+answers_fits h held line (states.Search x true stopped) best hint c e = (c, other_search h.engine _ e tt)
+answers_fits h held line (states.Search x y stopped) best hint c e = (c, other_search h.engine _ e tt)
+answers_fits h held line x best hint c e = tt
 
 -- an effect that comes only in one state
 only_in : (h : Situation) (held : List Order) (b : Bool) (d : Effect) (x : Bool) → x ≡ b → (x ≡ true → EffectFitsDesk h held d) → EffectFitsDesk h held (cond b d Nothing)
 only_in h held true d x e f = f e
 only_in h held false d x e f = tt
 
-says_fits : (h : Situation) (held : List Order) (line : List ℕ) (m : EngineMsg) → h.closed ≡ false → is_line line ≡ true → engine_message line ≡ m → EffectFitsDesk h held (engine_says h m)
+says_fits : (h : Situation) (held : List Order) (line : List ℕ) (m : EngineMsg) → h.closed ≡ false → is_line line ≡ true → engine_message line ≡ m → EffectFitsDesk h held (engine_says h line m)
 says_fits h held line hears.Nothing c l e = tt
 says_fits h held line (hears.Name text) c l e = only_in h held (is_boot h.engine) (Names text) (is_boot h.engine) refl (λ b. (c, b))
 says_fits h held line (hears.OptionLine name shape) c l e =
@@ -170,7 +170,7 @@ says_fits h held line (hears.OptionLine name shape) c l e =
 says_fits h held line hears.UciOk c l e = only_in h held (is_boot h.engine) Boots (is_boot h.engine) refl (λ b. (c, b))
 says_fits h held line hears.ReadyOk c l e = only_in h held (is_getting h.engine) Readies (is_getting h.engine) refl (λ b. (c, b))
 says_fits h held line (hears.Info facts) c l e = thinks_fits h held facts (current h.engine) c refl (record { line = line; is_line = l; says = e })
-says_fits h held line (hears.Best best hint) c l e = answers_fits h held h.engine best hint c refl
+says_fits h held line (hears.Best best hint) c l e = answers_fits h held line h.engine best hint c refl
 
 -- EVENTS
 
@@ -188,7 +188,7 @@ comes_fits h held (events.Iface line) l =
     unless_closed h held h.closed (line_effect (line_verdict h held line (message_or_fault line)) line) refl (λ c. line_fits h held line (message_or_fault line) c l refl)
 comes_fits h held events.IfaceLong l = unless_closed h held h.closed LongLine refl (λ c. tt)
 comes_fits h held (events.Engine line) l =
-    unless_closed h held h.closed (engine_says h (engine_message line)) refl (λ c. says_fits h held line (engine_message line) c l refl)
+    unless_closed h held h.closed (engine_says h line (engine_message line)) refl (λ c. says_fits h held line (engine_message line) c l refl)
 comes_fits h held events.EngineEnd l = dies_fits h held (is_gone h.engine) refl
 comes_fits h held events.EngineLost l = dies_fits h held (is_gone h.engine) refl
 comes_fits h held e l = tt

@@ -28,7 +28,7 @@ use Rattle.desk_rules.specs.Fits.{EffectFitsDesk}
 -- an effect that leaves an open search open
 abbrev pub IsNoAnswer : Effect → Type 0
 IsNoAnswer (Shows m hint) = ⊥
-IsNoAnswer Forfeits = ⊥
+IsNoAnswer (Forfeits answer) = ⊥
 IsNoAnswer Answers = ⊥
 IsNoAnswer Dies = ⊥
 IsNoAnswer d = Unit {0}
@@ -145,7 +145,7 @@ still_serves h held Boots k f n r c s = absurd (not_boot h.engine k c f.1)
 still_serves h held Readies k f n r c s = absurd (not_getting h.engine k c f.1)
 still_serves h held (Thinks g i) k f n r c s = as_gone k h.closed (is_gone h.engine) (desk_after_effect h (Thinks g i)) (unfold call_of_desk in s)
 still_serves h held (Shows m hint) k f n r c s = absurd n
-still_serves h held Forfeits k f n r c s = absurd n
+still_serves h held (Forfeits answer) k f n r c s = absurd n
 still_serves h held Answers k f n r c s = absurd n
 still_serves h held Dies k f n r c s = absurd n
 still_serves h held d k f n r c s = as_gone k h.closed (is_gone h.engine) h.desk s

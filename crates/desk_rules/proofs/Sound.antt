@@ -24,7 +24,7 @@ use Rattle.option_map.proofs.DeclaredOptions.Usable.{stay_declared}
 use Rattle.desk_rules.specs.declared.desk.Desk.{Desk}
 use Rattle.desk_rules.specs.Desk.{Situation, is_boot, game_played}
 use Rattle.desk_rules.specs.Lines.{change, desk_at_position}
-use Rattle.desk_rules.specs.Steps.{Effect, Accepts, Defers, Declares, Boots, Dies, Thinks, Shows, hint_after, searched_by, desk_after_effect, desk_after, clears_seen, begins_epoch}
+use Rattle.desk_rules.specs.Steps.{Effect, Accepts, Defers, Declares, Boots, Dies, Thinks, Shows, hint_after, searched_by, feature_style, desk_after_effect, desk_after, clears_seen, begins_epoch}
 use Rattle.desk_rules.specs.Fits.{EffectFitsDesk, DeskInvariant}
 use Rattle.desk_rules.proofs.EarlyLines.{early_more, none_early, early_left}
 
@@ -68,7 +68,7 @@ stays_sound h held (Defers line) s f =
 stays_sound h held Boots s f = record { hint = s.hint; clocks = s.clocks; current = s.current; options = s.options; early = none_early }
 stays_sound h held Dies s f = record { hint = s.hint; clocks = s.clocks; current = s.current; options = s.options; early = none_early }
 stays_sound h held (Declares name shape) s f =
-    record { hint = s.hint; clocks = s.clocks; current = s.current; options = stay_declared h.settings.strength_options h.desk.options f.2.line name shape s.options f.2.is_line f.2.says; early = s.early }
+    record { hint = s.hint; clocks = s.clocks; current = s.current; options = stay_declared (feature_style h.settings) h.desk.options f.2.line name shape s.options f.2.is_line f.2.says; early = s.early }
 stays_sound h held (Thinks k facts) s f =
     record { hint = s.hint; clocks = s.clocks; current = stays_writable h.desk.search_info facts (current_position (searched_by k h.desk.game h.desk.hint)) s.current; options = s.options; early = s.early }
 stays_sound h held (Shows best hint) s f = record { hint = hint_sound (game_played h.desk.game best) hint; clocks = s.clocks; current = s.current; options = s.options; early = s.early }

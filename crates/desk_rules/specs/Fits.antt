@@ -129,7 +129,7 @@ EffectFitsDesk h held (Thinks k facts) =
     (h.closed ≡ false) × (current h.engine ≡ Some k) × IsSaid (hears.Info facts)
 EffectFitsDesk h held (Shows best hint) =
     (h.closed ≡ false) × IsCurrentMove h.engine × (legal (current_position h.desk.game) best ≡ true)
-EffectFitsDesk h held Forfeits = (h.closed ≡ false) × IsCurrentMove h.engine
+EffectFitsDesk h held (Forfeits answer) = (h.closed ≡ false) × IsCurrentMove h.engine
 EffectFitsDesk h held Answers = (h.closed ≡ false) × IsOther h.engine
 EffectFitsDesk h held Dies = is_gone h.engine ≡ false
 EffectFitsDesk h held d = Unit {0}

@@ -11,6 +11,8 @@ use Rattle.protocol_tokens.specs.declared.kinds.GoKind.TheVariants as kinds
 use Rattle.protocol_tokens.specs.Tokens.{trimmed}
 use Rattle.cecp_lines.specs.Messages.{IfaceMsg}
 use Rattle.cecp_lines.specs.Messages as says
+use Rattle.cecp_lines.specs.Losses.{Loss, quoted}
+use Rattle.cecp_lines.specs.Losses as losses
 use Rattle.cecp_lines.specs.Replies.{Reply}
 use Rattle.cecp_lines.specs.Replies as cecp
 use Rattle.cecp_lines.specs.declared.reply.Reason.TheVariants as reasons
@@ -33,6 +35,7 @@ use Rattle.desk_rules.specs.declared.effect.Refusal.TheVariants as refusals
 use Rattle.desk_rules.specs.declared.desk.Desk.{Desk}
 use Rattle.desk_rules.specs.Desk.{Situation, table, plays, is_boot, on_move, game_played, has_ended}
 use Rattle.option_map.specs.DeclaredOptions.Settings.{OptionSetting}
+use Rattle.policy_rules.specs.declared.setting_rules.settings.Settings.{Settings}
 use Rattle.desk_rules.specs.Lines.{change, refused_option, early_answer}
 use Rattle.desk_rules.specs.Steps.{Effect, LongLine, Refuses, Accepts, Boots, Thinks}
 use Rattle.desk_rules.specs.Steps.{Shows, Forfeits, Dies, desk_after_effect, shown_thinking}
@@ -122,6 +125,23 @@ list_where b d = if b then feature_list (table d) d.name else []
 abbrev pub resign_where : Bool → List Reply
 resign_where b = if b then cecp.Resign ∷ [] else []
 
+-- How the engine gives a game up that it has lost: by `resign`, or by the result and its reason if
+-- the settings say so. The engine owes a move then, so that it plays the side on move.
+abbrev pub giving_up : Bool → Side → Loss → Reply
+giving_up reasons side loss = if reasons then cecp.Lost side loss else cecp.Resign
+
+abbrev pub given_up : Settings → Game → Loss → Reply
+given_up o g loss = giving_up o.result_reasons (on_move g) loss
+
+-- the game of an engine that has ended, if it gives the game up
+abbrev pub given_up_where : Bool → Settings → Game → List Reply
+given_up_where b o g = if b then given_up o g losses.Ended ∷ [] else []
+
+-- the engine has lost by its answer
+abbrev pub forfeited : Settings → Game → List ℕ → List Reply
+forfeited o g answer =
+    cecp.TellError user_error.Move ∷ given_up o g (losses.IllegalMove (quoted answer)) ∷ []
+
 -- a thinking line, if it is shown
 abbrev pub thinking_replies : Situation → GoKind → Info → List Reply
 thinking_replies h k facts = option_to_list (shown_thinking h k facts)
@@ -134,7 +154,8 @@ shown_row h best =
 -- the end of the engine
 abbrev pub end_row : Situation → List Reply
 end_row h =
-    list_where h.desk.due h.desk ++ (cecp.TellError user_error.Ended ∷ resign_where (resigns_at_end h))
+    list_where h.desk.due h.desk ++ (cecp.TellError user_error.Ended
+    ∷ given_up_where (resigns_at_end h) h.settings h.desk.game)
 
 -- what an early line is refused by, if it is
 abbrev pub early_refusal : Option Refusal → List ℕ → List Reply
@@ -158,7 +179,7 @@ reply_row h (Accepts m) = row_accepted h m
 reply_row h Boots = boot_row h.desk
 reply_row h (Thinks k facts) = thinking_replies h k facts
 reply_row h (Shows best hint) = shown_row h best
-reply_row h Forfeits = cecp.TellError user_error.Move ∷ cecp.Resign ∷ []
+reply_row h (Forfeits answer) = forfeited h.settings h.desk.game answer
 reply_row h Dies = end_row h
 reply_row h d = []
 
@@ -168,12 +189,12 @@ abbrev pub repeated_thinking : Bool → Option ThinkingLine → List Reply
 repeated_thinking repeats last =
     if repeats then option_to_list (option_map (with_hint None) last) else []
 
--- all lines of a step: its row, `resign` for an engine that is gone, the repeated thinking line,
--- then the pongs
+-- all lines of a step: its row, the game that an engine that is gone gives up, the repeated
+-- thinking line, then the pongs
 abbrev pub replies_of : Bool → Bool → Bool → Situation → Effect → List Reply
 replies_of closed owes hits h d =
     if closed then []
-    else reply_row h d ++ resign_where (resigns_when_gone closed h d)
+    else reply_row h d ++ given_up_where (resigns_when_gone closed h d) h.settings (desk_after_effect h d).game
     ++ repeated_thinking (h.settings.repeat_thinking && hits) (desk_after_effect h d).last_thinking
     ++ (if owes then [] else map cecp.Pong (desk_after_effect h d).pings)
 

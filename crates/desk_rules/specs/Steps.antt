@@ -16,7 +16,7 @@ use Rattle.uci_lines.specs.Orders.{Order}
 use Rattle.uci_lines.specs.Info.{Info, info_of}
 use Rattle.uci_lines.specs.Messages.{EngineMsg, OptionKind, option_kind_of}
 use Rattle.uci_lines.specs.Messages as hears
-use Rattle.uci_lines.specs.Engine.{engine_message}
+use Rattle.uci_lines.specs.Engine.{answer_text, engine_message}
 use Rattle.game_record.specs.Game.{Game, current_position}
 use Rattle.cecp_lines.specs.Replies.{Reply}
 use Rattle.cecp_lines.specs.declared.reply.Spelling.{Spelling}
@@ -26,7 +26,9 @@ use Rattle.think_text.specs.declared.line.Pondered.{Pondered}
 use Rattle.think_text.specs.Line.{thinking_line}
 use Rattle.think_text.specs.Kept.{nothing_seen, after_info}
 use Rattle.think_text.specs.Last.{last_after}
+use Rattle.option_map.specs.declared.declared_options.style.FeatureStyle.{FeatureStyle}
 use Rattle.option_map.specs.DeclaredOptions.Settings.{after_declared}
+use Rattle.option_map.specs.DeclaredOptions.Styles.{name_in_style}
 use Rattle.option_map.specs.FeatureLists.Features.{shown_name}
 use Rattle.policy_rules.specs.declared.score_rules.scores.Scores.{Scores}
 use Rattle.policy_rules.specs.ScoreRules.Scores.{Score, no_scores, after_shown}
@@ -61,7 +63,7 @@ pub data Effect : Type 0 where
   Readies : Effect
   Thinks : (kind : GoKind) (facts : Info) → Effect
   Shows : (best : Move) (hint : Option Move) → Effect
-  Forfeits : Effect
+  Forfeits : (answer : List ℕ) → Effect
   Answers : Effect
   Dies : Effect
 
@@ -78,7 +80,7 @@ effect_of effects.Boots = Boots
 effect_of effects.Readies = Readies
 effect_of (effects.Thinks kind info) = Thinks kind (info_of info)
 effect_of (effects.Shows best hint) = Shows best hint
-effect_of effects.Forfeits = Forfeits
+effect_of (effects.Forfeits answer) = Forfeits answer.now
 effect_of effects.Answers = Answers
 effect_of effects.Dies = Dies
 
@@ -94,25 +96,27 @@ abbrev pub search_reports : Option GoKind → Info → Effect
 search_reports (Some k) facts = Thinks k facts
 search_reports None facts = Nothing
 
--- a current search for a Move is answered
-abbrev pub shows : Game → Option Move → Option Move → Effect
-shows g None hint = Forfeits
-shows g (Some m) hint = if legal (current_position g) m then Shows m hint else Forfeits
+-- a current search for a Move is answered by a line
+abbrev pub shows : Game → List ℕ → Option Move → Option Move → Effect
+shows g line None hint = Forfeits (answer_text line)
+shows g line (Some m) hint =
+    if legal (current_position g) m then Shows m hint else Forfeits (answer_text line)
 
-abbrev pub answers : EngineState → Game → Option Move → Option Move → Effect
-answers (states.Search kinds.Move false stopped) g best hint = shows g best hint
-answers (states.Search k stale stopped) g best hint = Answers
-answers e g best hint = Nothing
+abbrev pub answers : EngineState → Game → List ℕ → Option Move → Option Move → Effect
+answers (states.Search kinds.Move false stopped) g line best hint = shows g line best hint
+answers (states.Search k stale stopped) g line best hint = Answers
+answers e g line best hint = Nothing
 
-abbrev pub engine_says : Situation → EngineMsg → Effect
-engine_says h (hears.Name text) = if is_boot h.engine then Names text else Nothing
-engine_says h (hears.OptionLine name shape) =
+-- by a line of the engine, and the message that it spells
+abbrev pub engine_says : Situation → List ℕ → EngineMsg → Effect
+engine_says h line (hears.Name text) = if is_boot h.engine then Names text else Nothing
+engine_says h line (hears.OptionLine name shape) =
     if is_boot h.engine then Declares name shape else Nothing
-engine_says h hears.UciOk = if is_boot h.engine then Boots else Nothing
-engine_says h hears.ReadyOk = if is_getting h.engine then Readies else Nothing
-engine_says h (hears.Info facts) = search_reports (current h.engine) facts
-engine_says h (hears.Best best hint) = answers h.engine h.desk.game best hint
-engine_says h hears.Nothing = Nothing
+engine_says h line hears.UciOk = if is_boot h.engine then Boots else Nothing
+engine_says h line hears.ReadyOk = if is_getting h.engine then Readies else Nothing
+engine_says h line (hears.Info facts) = search_reports (current h.engine) facts
+engine_says h line (hears.Best best hint) = answers h.engine h.desk.game line best hint
+engine_says h line hears.Nothing = Nothing
 
 abbrev pub dies : EngineState → Effect
 dies e = if is_gone e then Nothing else Dies
@@ -126,7 +130,7 @@ classify h held events.IfaceLong = if h.closed then Nothing else LongLine
 classify h held events.IfaceEnd = Nothing
 classify h held events.IfaceLost = Nothing
 classify h held (events.Engine line) =
-    if h.closed then Nothing else engine_says h (engine_message line)
+    if h.closed then Nothing else engine_says h line (engine_message line)
 classify h held events.EngineLong = Nothing
 classify h held events.EngineEnd = dies h.engine
 classify h held events.EngineLost = dies h.engine
@@ -148,7 +152,7 @@ what_of (Accepts m) = what_accepted m
 what_of Boots = word.Says said.UciOk
 what_of Readies = word.Says said.ReadyOk
 what_of (Shows best hint) = word.Says said.Best
-what_of Forfeits = word.Says said.Best
+what_of (Forfeits answer) = word.Says said.Best
 what_of Answers = word.Says said.Best
 what_of Dies = word.Says said.Ended
 what_of d = Quiet
@@ -203,7 +207,7 @@ shown_thinking h k facts =
 abbrev pub resigns_after : Situation → Move → Bool
 resigns_after h m = h.resigns && not (has_ended (game_played h.desk.game m))
 
--- `resign` is written when the engine ends
+-- the game is given up when the engine ends
 abbrev pub resigns_at_end : Situation → Bool
 resigns_at_end h = owes_move h && not h.closed
 
@@ -217,13 +221,23 @@ desk_with_move h m hint = record h.desk {
   mode = over_where (resigns_after h m) h.desk.mode;
 }
 
+-- how the options and the name of the engine are shown
+abbrev pub feature_style : Settings → FeatureStyle
+feature_style o = record {
+  strength = o.strength_options;
+  plain = o.plain_texts;
+  paths = o.path_options;
+}
+
 -- the desk after an effect, before pings are answered and kept values cleared
 unfoldable pub desk_after_effect : Situation → Effect → Desk
 desk_after_effect h (Accepts m) = change (is_boot h.engine) h.desk m
 desk_after_effect h (Defers line) = record h.desk { early = h.desk.early ++ line ∷ [] }
-desk_after_effect h (Names text) = record h.desk { name = shown_name text }
+desk_after_effect h (Names text) = record h.desk {
+  name = shown_name (name_in_style (feature_style h.settings) text);
+}
 desk_after_effect h (Declares name shape) = record h.desk {
-  options = after_declared h.settings.strength_options h.desk.options name shape;
+  options = after_declared (feature_style h.settings) h.desk.options name shape;
 }
 desk_after_effect h Boots = record h.desk { booted = true; due = false; early = [] }
 desk_after_effect h (Thinks k facts) = record h.desk {
@@ -231,7 +245,7 @@ desk_after_effect h (Thinks k facts) = record h.desk {
   last_thinking = last_after h.desk.last_thinking (shown_thinking h k facts);
 }
 desk_after_effect h (Shows best hint) = desk_with_move h best hint
-desk_after_effect h Forfeits = record h.desk { mode = modes.Over }
+desk_after_effect h (Forfeits answer) = record h.desk { mode = modes.Over }
 desk_after_effect h Dies = record h.desk {
   mode = over_where (resigns_at_end h) h.desk.mode;
   due = h.desk.due && h.closed;
@@ -255,7 +269,7 @@ call_after closed h d = call_of_desk closed (is_gone h.engine || is_death d) (de
 abbrev pub owes_when_gone : Bool → Bool → Desk → Bool
 owes_when_gone closed gone d = gone && is_move (call_of_desk closed false d)
 
--- An engine that is gone resigns the game in which it owes a move, if the settings say so: by the
+-- An engine that is gone gives up the game in which it owes a move, if the settings say so: by the
 -- desk that the event leaves.
 abbrev pub resigns_when_gone : Bool → Situation → Effect → Bool
 resigns_when_gone closed h d =

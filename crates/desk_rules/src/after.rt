@@ -13,16 +13,16 @@ ghost use Rattle.think_text.specs.Last.{last_after};
 ghost use Rattle.option_map.specs.FeatureLists.Features.{reply_lines};
 ghost use Rattle.desk_rules.specs.Desk.{at, is_boot};
 ghost use Rattle.desk_rules.specs.Lines.{position_set_up, change};
-ghost use Rattle.desk_rules.specs.Steps.{effect_of, starts_from, hint_after, searched_by, resigns_at_end, shown_thinking, owes_when_gone, over_where, desk_with_move, desk_after_effect, answers_pings};
-ghost use Rattle.desk_rules.specs.Replies.{row_accepted, resign_where, thinking_replies, repeated_thinking, shown_row, boot_row, end_row, reply_row, pongs};
+ghost use Rattle.desk_rules.specs.Steps.{effect_of, starts_from, hint_after, searched_by, resigns_at_end, shown_thinking, feature_style, owes_when_gone, over_where, desk_with_move, desk_after_effect, answers_pings};
+ghost use Rattle.desk_rules.specs.Replies.{row_accepted, given_up_where, thinking_replies, repeated_thinking, shown_row, boot_row, end_row, reply_row, pongs};
 ghost use Rattle.desk_rules.specs.Early.{EarlyLinesAreFew};
 ghost use Rattle.desk_rules.specs.Fits.{IsHintPlayable, DeskInvariant, IsFit, IsServed, IsSaid, CanChange};
 ghost use Rattle.desk_rules.specs.declared.sizes.TheConstants.{BOOT_REPLIES, ENGINE_END, FEATURE_LIST, OBEYED, SHORT_REPLY, STEP_REPLIES, SHOWN_MOVE, THINKING_LINE};
 ghost use Rattle.desk_rules.specs.declared.pings.TheConstants.{MOST_PINGS};
 
 use crate::answers::{
-    named_hint, put_again, put_error, put_forfeit, put_pongs, put_refused, put_resign, put_shown,
-    put_thinking, spelling_of,
+    named_hint, put_again, put_error, put_forfeit, put_given_up_where, put_pongs, put_refused,
+    put_shown, put_thinking, spelling_of,
 };
 use crate::call::{has_ended, is_boot};
 use crate::{Context, Desk, Effect, EventEffect, Mode};
@@ -30,7 +30,7 @@ use cecp_lines::{IfaceMsg, Reason};
 use chess_board::{Move, Position};
 use game_record::Game;
 use line_io::Out;
-use option_map::FeatureNegotiation;
+use option_map::{FeatureNegotiation, FeatureStyle};
 use policy_rules::Settings;
 use protocol_tokens::GoKind;
 use think_text::SearchInfo;
@@ -43,6 +43,17 @@ fn hint_after(game: &Game, hint: Option<Move>) -> Option<Move>
     match hint {
         Some(m) => { if game.now().legal(m) { Some(m) } else { None } }
         None => None,
+    }
+}
+
+// How the options and the name of the engine are shown.
+fn feature_style(settings: Settings) -> FeatureStyle
+    ensures { result ≡ feature_style settings }
+{
+    FeatureStyle {
+        strength: settings.strength_options,
+        plain: settings.plain_texts,
+        paths: settings.path_options,
     }
 }
 
@@ -81,7 +92,7 @@ impl Desk {
         }
     }
 
-    // True if `resign` is written when the engine ends.
+    // True if the game is given up when the engine ends.
     pub(crate) fn resigns_at_end(&self, context: Context) -> bool
         ensures { result ≡ resigns_at_end (at context self.now) }
     {
@@ -188,7 +199,7 @@ impl Desk {
         ensures short { length (reply_lines (end_row (at context self.old))) ≤ ENGINE_END }
     {
         let resigns = self.resigns_at_end(context);
-        self.put_end(resigns, out);
+        self.put_end(resigns, context.settings, out);
         self.mode = over_where(resigns, self.mode);
         leave_boot(&mut self.due, context.closed);
         self.early.clear();
@@ -215,16 +226,16 @@ impl Desk {
             Effect::LongLine => put_error(Reason::LineTooLong, b"...", out),
             Effect::Accepts(message) => self.obey(context, message, start, out),
             Effect::Defers(line) => self.early.add(line),
-            Effect::Names(text) => self.name.set(text),
+            Effect::Names(text) => self.name.set(feature_style(context.settings), text),
             Effect::Declares(option) => {
                 self.options
-                    .declare(option, context.settings.strength_options);
+                    .declare(option, feature_style(context.settings));
             }
             Effect::Boots => self.boot(out),
             Effect::Thinks { kind, info } => self.think(context, *kind, info, out),
             Effect::Shows { best, hint } => self.show(context, *best, *hint, out),
-            Effect::Forfeits => {
-                put_forfeit(out);
+            Effect::Forfeits(answer) => {
+                put_forfeit(context.settings, &self.game, answer, out);
                 self.mode = Mode::Over;
             }
             Effect::Dies => self.lose_engine(context, out),
@@ -262,13 +273,14 @@ impl Desk {
         }
     }
 
-    /// Resigns for an engine that is gone and owes a move, if the settings say so.
+    /// Gives up for an engine that is gone and owes a move, if the settings say so.
     pub fn resign_when_gone(&mut self, settings: Settings, closed: bool, gone: bool, out: &mut Out)
         requires room { length out.old.text + SHORT_REPLY ≤ out.old.room }
         ensures lines { out.new
             ≡ with out.old
-            (reply_lines (resign_where
-            (settings.resign_when_gone && owes_when_gone closed gone self.old))) }
+            (reply_lines (given_up_where
+            (settings.resign_when_gone && owes_when_gone closed gone self.old)
+            settings self.old.game)) }
         ensures room { length out.new.text ≤ length out.old.text + SHORT_REPLY }
         ensures desk { self.new
             ≡ record self.old {
@@ -277,7 +289,7 @@ impl Desk {
             } }
     {
         let resigns = settings.resign_when_gone && gone && self.calls_move(closed, false);
-        put_resign(resigns, out);
+        put_given_up_where(resigns, settings, &self.game, out);
         self.mode = over_where(resigns, self.mode);
     }
 

@@ -4,6 +4,7 @@ ghost use Rattle.std.specs.Option.{option_map, option_to_list};
 ghost use Rattle.line_io.specs.Out.{with};
 ghost use Rattle.cecp_lines.specs.Messages.{message_of};
 ghost use Rattle.cecp_lines.specs.Replies.{reply_of, HasWritableMoves, IsWritable, borrowed_length, HasFieldRanges as HasNumbers};
+ghost use Rattle.cecp_lines.specs.Losses.{loss_of, IsQuoted};
 ghost use Rattle.cecp_lines.specs.Replies as cecp;
 ghost use Rattle.cecp_lines.specs.declared.reply.UserError.TheVariants as user_error;
 ghost use Rattle.uci_lines.specs.Info.{info_of};
@@ -15,14 +16,16 @@ ghost use Rattle.option_map.specs.WaitingOrders.Due.{protover_answer};
 ghost use Rattle.option_map.specs.FeatureLists.Features.{feature_list, reply_line, reply_lines};
 ghost use Rattle.desk_rules.specs.Desk.{at, table};
 ghost use Rattle.desk_rules.specs.Steps.{shows_thinking, named_hint, spelling_of};
-ghost use Rattle.desk_rules.specs.Replies.{refused, outcome_of, result_reply_by, result_reply_of, protover_row, offer_where, draw_row, hint_row, row_before, row_after, list_where, resign_where, repeated_thinking};
+ghost use Rattle.desk_rules.specs.Replies.{refused, outcome_of, result_reply_by, result_reply_of, protover_row, offer_where, draw_row, hint_row, row_before, row_after, list_where, resign_where, given_up, given_up_where, forfeited, repeated_thinking};
 ghost use Rattle.desk_rules.specs.Fits.{DeskInvariant, IsSaid, IsMoveWritable};
 ghost use Rattle.line_io.specs.declared.limits.TheConstants.{PEER_LINE};
 ghost use Rattle.desk_rules.specs.declared.sizes.TheConstants.{ENGINE_END, ERROR_REPLY, FEATURE_LIST, SHORT_REPLY, SHOWN_MOVE, THINKING_LINE};
 
 use crate::call::{has_ended, is_boot, on_move, plays};
 use crate::{Context, Desk, Refusal};
-use cecp_lines::{IfaceMsg, Outcome, Reason, Reply, Spelling, UserError, write_reply};
+use cecp_lines::{
+    IfaceMsg, Loss, Outcome, Reason, Reply, Spelling, UserError, quoted, write_reply,
+};
 use chess_board::{Move, Position, Side};
 use game_record::{Game, GameEnd};
 use line_io::Out;
@@ -120,13 +123,42 @@ pub(crate) fn put_result_of(game: &Game, out: &mut Out)
     put_result(on_move(game), game.ended(), out);
 }
 
-pub(crate) fn put_resign(resigns: bool, out: &mut Out)
+fn put_resign(resigns: bool, out: &mut Out)
     requires { length out.old.text + SHORT_REPLY ≤ out.old.room }
     ensures line { out.new ≡ with out.old (reply_lines (resign_where resigns)) }
     ensures short { length (reply_lines (resign_where resigns)) ≤ SHORT_REPLY }
 {
     if resigns {
         put_short(&Reply::Resign, out);
+    }
+}
+
+// Gives up a game that the engine has lost: by `resign`, or by the result and its reason.
+fn put_given_up(settings: Settings, game: &Game, loss: Loss, out: &mut Out)
+    requires quoted { IsQuoted (loss_of loss) }
+    requires room { length out.old.text + SHORT_REPLY ≤ out.old.room }
+    ensures line { out.new
+        ≡ with out.old (reply_lines (given_up settings game.now (loss_of loss.entry) ∷ [])) }
+    ensures short { length (reply_lines (given_up settings game.now (loss_of loss.entry) ∷ []))
+        ≤ SHORT_REPLY }
+{
+    if settings.result_reasons {
+        let side = on_move(game);
+        put_short(&Reply::Lost { side, loss }, out);
+    } else {
+        put_short(&Reply::Resign, out);
+    }
+}
+
+// Gives up the game of an engine that has ended.
+pub(crate) fn put_given_up_where(gives_up: bool, settings: Settings, game: &Game, out: &mut Out)
+    requires { length out.old.text + SHORT_REPLY ≤ out.old.room }
+    ensures line { out.new ≡ with out.old (reply_lines (given_up_where gives_up settings game.now)) }
+    ensures short { length (reply_lines (given_up_where gives_up settings game.now))
+        ≤ SHORT_REPLY }
+{
+    if gives_up {
+        put_given_up(settings, game, Loss::Ended, out);
     }
 }
 
@@ -348,18 +380,20 @@ impl Desk {
     }
 
     // Writes that the engine ended.
-    pub(crate) fn put_end(&self, resigns: bool, out: &mut Out)
+    pub(crate) fn put_end(&self, resigns: bool, settings: Settings, out: &mut Out)
         requires { length out.old.text + ENGINE_END ≤ out.old.room }
         ensures lines { out.new
             ≡ with out.old
             (reply_lines (list_where self.now.due self.now
-            ++ (cecp.TellError user_error.Ended ∷ resign_where resigns))) }
+            ++ (cecp.TellError user_error.Ended
+            ∷ given_up_where resigns settings self.now.game))) }
         ensures short { length (reply_lines (list_where self.now.due self.now
-            ++ (cecp.TellError user_error.Ended ∷ resign_where resigns))) ≤ ENGINE_END }
+            ++ (cecp.TellError user_error.Ended
+            ∷ given_up_where resigns settings self.now.game))) ≤ ENGINE_END }
     {
         self.put_due_list(self.booted, out);
         put_short(&Reply::TellError(UserError::Ended), out);
-        put_resign(resigns, out);
+        put_given_up_where(resigns, settings, &self.game, out);
     }
 }
 
@@ -379,15 +413,14 @@ pub(crate) fn put_shown(best: Move, game: &Game, resigns: bool, out: &mut Out)
 }
 
 // Writes that the engine has lost by its answer.
-pub(crate) fn put_forfeit(out: &mut Out)
+pub(crate) fn put_forfeit(settings: Settings, game: &Game, answer: &[u8], out: &mut Out)
     requires { length out.old.text + SHOWN_MOVE ≤ out.old.room }
     ensures lines { out.new
-        ≡ with out.old (reply_lines (cecp.TellError user_error.Move ∷ cecp.Resign ∷ [])) }
-    ensures short { length (reply_lines (cecp.TellError user_error.Move ∷ cecp.Resign ∷ []))
-        ≤ SHOWN_MOVE }
+        ≡ with out.old (reply_lines (forfeited settings game.now answer.now)) }
+    ensures short { length (reply_lines (forfeited settings game.now answer.now)) ≤ SHOWN_MOVE }
 {
     put_short(&Reply::TellError(UserError::Move), out);
-    put_short(&Reply::Resign, out);
+    put_given_up(settings, game, Loss::IllegalMove(quoted(answer)), out);
 }
 
 fn put_pong(number: u32, out: &mut Out)

@@ -62,8 +62,8 @@ pub enum Effect<'a> {
     Thinks { kind: GoKind, info: Info<'a> },
     /// A current search for a move is answered by a legal move, perhaps with a hint.
     Shows { best: Move, hint: Option<Move> },
-    /// A current search for a move is answered by no legal move.
-    Forfeits,
+    /// A current search for a move is answered by no legal move, but by this token.
+    Forfeits(&'a [u8]),
     /// Another search is answered.
     Answers,
     /// The engine becomes Gone.
@@ -158,7 +158,7 @@ impl EventEffect<'_> {
             Effect::Readies => {
                 dialogue.heard(Said::ReadyOk);
             }
-            Effect::Shows { best: _, hint: _ } | Effect::Forfeits | Effect::Answers => {
+            Effect::Shows { best: _, hint: _ } | Effect::Forfeits(_) | Effect::Answers => {
                 dialogue.heard(Said::Best);
             }
             Effect::Dies => {

@@ -27,7 +27,7 @@ use line_io::Event;
 use option_map::{HeldOrders, SetupOrder};
 use protocol_tokens::{GoKind, is_quit};
 use search_epochs::EngineState;
-use uci_lines::{EngineMsg, read_engine};
+use uci_lines::{EngineMsg, answer_text, read_engine};
 
 fn is_getting(engine: EngineState) -> bool
     ensures { result ≡ is_getting engine }
@@ -82,28 +82,29 @@ fn refused(reason: Reason, line: &[u8]) -> Effect<'_>
     }
 }
 
-// A current search for a Move is answered.
-fn shows(game: &Game, best: Option<Move>, hint: Option<Move>) -> Effect<'static>
-    ensures effect { effect_of result ≡ shows game.now best hint }
+// A current search for a Move is answered by a line.
+fn shows<'a>(game: &Game, line: &'a [u8], best: Option<Move>, hint: Option<Move>) -> Effect<'a>
+    ensures effect { effect_of result ≡ shows game.now line.now best hint }
     ensures kind { IsNoLine (effect_of result) }
 {
     let Some(best) = best else {
-        return Effect::Forfeits;
+        return Effect::Forfeits(answer_text(line));
     };
     if game.now().legal(best) {
         Effect::Shows { best, hint }
     } else {
-        Effect::Forfeits
+        Effect::Forfeits(answer_text(line))
     }
 }
 
-fn answers(
+fn answers<'a>(
     engine: EngineState,
     game: &Game,
+    line: &'a [u8],
     best: Option<Move>,
     hint: Option<Move>,
-) -> Effect<'static>
-    ensures effect { effect_of result ≡ answers engine game.now best hint }
+) -> Effect<'a>
+    ensures effect { effect_of result ≡ answers engine game.now line.now best hint }
     ensures kind { IsNoLine (effect_of result) }
 {
     match engine {
@@ -111,7 +112,7 @@ fn answers(
             kind: GoKind::Move,
             stale: false,
             stopped: _,
-        } => shows(game, best, hint),
+        } => shows(game, line, best, hint),
         EngineState::Search {
             kind: _,
             stale: _,
@@ -125,7 +126,7 @@ impl Desk {
     // The effect of a message of the engine in an open session.
     fn engine_says<'a>(&self, context: Context, line: &'a [u8]) -> Effect<'a>
         ensures effect { effect_of result
-            ≡ engine_says (at context self.now) (engine_message line.now) }
+            ≡ engine_says (at context self.now) line.now (engine_message line.now) }
         ensures kind { IsNoLine (effect_of result) }
     {
         match read_engine(line) {
@@ -137,7 +138,9 @@ impl Desk {
                 Some(kind) => Effect::Thinks { kind, info },
                 None => Effect::Nothing,
             },
-            EngineMsg::Best { best, hint } => answers(context.engine, &self.game, best, hint),
+            EngineMsg::Best { best, hint } => {
+                answers(context.engine, &self.game, line, best, hint)
+            }
             _ => Effect::Nothing,
         }
     }

@@ -1,16 +1,15 @@
 // The name that the engine is shown by.
-ghost use Rattle.std.specs.Prelude.{◌≡◌, ◌≤◌, length};
+ghost use Rattle.std.specs.Prelude.{◌≡◌};
+ghost use Rattle.option_map.specs.DeclaredOptions.Styles.{name_in_style};
 ghost use Rattle.option_map.specs.FeatureLists.Features.{shown_name};
-ghost use Rattle.option_map.specs.declared.feature_lists.list.TheConstants.{MOST_NAME};
 
-use arrayvec::ArrayVec;
-use option_map::shown_name;
+use option_map::{FeatureStyle, ShownName, name_to_show, unnamed};
 use std::marker::Model;
 
 /// The name that the engine is shown by: the last one it gave, if that can be shown.
 #[derive(Drop)]
 pub struct EngineName {
-    text: ArrayVec<u8, 256>,
+    text: ShownName,
 }
 
 impl Model for EngineName {
@@ -21,17 +20,6 @@ impl Model for EngineName {
     ghost view = { λ n. n.text.items };
 }
 
-fn copied(name: &[u8]) -> ArrayVec<u8, 256>
-    requires { length name.now ≤ MOST_NAME }
-    ensures { result.items ≡ name.now }
-{
-    let mut copy = ArrayVec::new();
-    for byte in name {
-        copy.push(*byte);
-    }
-    copy
-}
-
 impl EngineName {
     ghost use Rattle.std.specs.Prelude.{[]};
 
@@ -39,16 +27,14 @@ impl EngineName {
     pub fn new() -> EngineName
         ensures { result ≡ shown_name [] }
     {
-        EngineName {
-            text: copied(shown_name(b"")),
-        }
+        EngineName { text: unnamed() }
     }
 
-    /// The engine gave this name.
-    pub fn set(&mut self, said: &[u8])
-        ensures { self.new ≡ shown_name said.now }
+    /// The engine gave this name, which is shown in this style.
+    pub fn set(&mut self, style: FeatureStyle, said: &[u8])
+        ensures { self.new ≡ shown_name (name_in_style style said.now) }
     {
-        self.text = copied(shown_name(said));
+        self.text = name_to_show(style, said);
     }
 
     /// The name as the interface is shown it.

@@ -17,7 +17,7 @@ pub const THINKING_LINE: usize = LAST_LINE + 1;
 
 pub(crate) const FEATURE_LIST: usize = FEATURE_BYTES + 1_464;
 
-/// A shown move, with the result or with `resign`.
+/// A shown move, with the result or with `resign`; also a game that is given up.
 pub(crate) const SHOWN_MOVE: usize = 400;
 
 /// The replies to a line that is obeyed.

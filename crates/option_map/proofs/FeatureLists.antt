@@ -1,2 +1,3 @@
+pub mod EngineNames
 pub mod Measured
 pub mod Rooms

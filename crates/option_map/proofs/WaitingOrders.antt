@@ -2,3 +2,4 @@ pub mod Asking
 pub mod Kept
 pub mod KeptOrders
 pub mod Orders
+pub mod SetPaths

@@ -5,3 +5,4 @@ pub mod Settings
 pub mod Shown
 pub mod Spelled
 pub mod Stored
+pub mod Styles

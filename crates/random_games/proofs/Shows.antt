@@ -3,6 +3,7 @@ use Rattle.std.proofs.Common.{◌≡◌, ℕ, zero, suc, ◌+◌, ◌/◌, ◌%�
 use Rattle.std.proofs.lemmas.Bool.Decides.{nat_tests}
 use Rattle.std.specs.Fmt.{decimal, digits, digits_onto, digit_glyph}
 use Rattle.chess_board.specs.declared.board.Move.{Move as AnyMove}
+use Rattle.chess_board.specs.declared.board.Side.TheVariants.{White, Black}
 use Rattle.cecp_lines.specs.declared.reply.UserError.TheVariants as user_errors
 use Rattle.cecp_lines.specs.declared.reply.Outcome.TheVariants as outcomes
 use Rattle.cecp_lines.specs.Replies.{Reply}
@@ -62,6 +63,8 @@ none_first (cecp.Thinking depth score time nodes spelling hint pv ∷ rs) e =
     none_shown (reply_lines (cecp.Thinking depth score time nodes spelling hint pv ∷ rs)) (begins_more _ (reply_lines rs) (thinking_begins depth (32 ∷ []) _ _ _ _ pv (10 ∷ [])))
 none_first (cecp.TellError user_errors.Position ∷ rs) e = refl
 none_first (cecp.Result outcomes.WhiteMates ∷ rs) e = refl
+none_first (cecp.Lost White loss ∷ rs) e = refl
+none_first (cecp.Lost Black loss ∷ rs) e = refl
 none_first rs e = refl
 
 -- the count of moves of lines, by how they begin

@@ -14,9 +14,11 @@ use Rattle.trace_laws.proofs.FirstAndLast.{uci_first, quit_last}
 use Rattle.trace_laws.proofs.Fences.{searches_fenced, stopped_unfenced}
 use Rattle.trace_laws.proofs.Heard as heard
 use Rattle.trace_laws.proofs.Places.{idle_gets_them, search_gets_stop, ponder_gets_hit, gone_gets_nothing, go_follows_position}
+use Rattle.trace_laws.proofs.Losers.{losers_are}
+use Rattle.trace_laws.proofs.PlainTexts.{features_plain}
 use Rattle.trace_laws.proofs.Pongs.{pings_have_pongs, pongs_wait, none_is_held}
 use Rattle.trace_laws.proofs.Reached.{exist, may_come, within_limits}
-use Rattle.trace_laws.proofs.Resigning.{gone_owes, games_end_aloud, resigns_once}
+use Rattle.trace_laws.proofs.Resigning.{gone_owes, gone_gives_up, games_end_aloud, resigns_once}
 use Rattle.trace_laws.proofs.Searched.{searches_are, moves_answer}
 use Rattle.trace_laws.proofs.Shown.{show_once}
 use Rattle.trace_laws.proofs.Steadily as steadily
@@ -59,7 +61,10 @@ hold o = record {
   early_lines_in_time = come_in_time o;
   refused_early_lines = refused_change_nothing o;
   gone_owes_nothing = gone_owes o;
+  gone_gives_up = gone_gives_up o;
   games_end_aloud = games_end_aloud o;
   resigns_once = resigns_once o;
+  losers_are_the_engines = losers_are o;
+  features_plain = features_plain o;
   within_limits = within_limits o;
 }

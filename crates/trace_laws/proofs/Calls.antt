@@ -24,7 +24,7 @@ use Rattle.desk_rules.specs.declared.mode.Mode.TheVariants as modes
 use Rattle.desk_rules.specs.declared.desk.Desk.{Desk}
 use Rattle.desk_rules.specs.Desk.{Situation, call_of_desk, call_in, call_for_hint, call_while_waiting, call_before, is_gone, is_boot, is_full, table, ponder_name, has_ended, on_move, owes_move, owed_at}
 use Rattle.desk_rules.specs.Lines.{asks, change, is_epoch_line}
-use Rattle.desk_rules.specs.Steps.{Effect, Accepts, Defers, Names, Declares, Boots, Thinks, Shows, Forfeits, Answers, Dies, what_of, desk_after_effect, begins_epoch, is_death}
+use Rattle.desk_rules.specs.Steps.{Effect, Accepts, Defers, Names, Declares, Boots, Thinks, Shows, Forfeits, Answers, Dies, what_of, feature_style, desk_after_effect, begins_epoch, is_death}
 use Rattle.desk_rules.specs.Fits.{EffectFitsDesk, IsCurrentMove, IsOther}
 use Rattle.desk_rules.proofs.Serves.{is_move_call}
 use Rattle.adapter_core.specs.Trace.{State, situation_of_state}
@@ -191,12 +191,12 @@ module _ (s : State) (fresh : IsFreshInBoot s) where
   effect_call (Defers line) f r = same_call (Defers line) (unfold call_of_desk in refl)
   effect_call (Names text) f r = same_call (Names text) (unfold call_of_desk in refl)
   effect_call (Declares name shape) f r =
-      same_call (Declares name shape) (unbooted_call s.ends.closed gone s.desk (after_declared s.settings.strength_options s.desk.options name shape) (fresh (boot_back s.dialogue.epoch s.dialogue.engine f.1)).0)
+      same_call (Declares name shape) (unbooted_call s.ends.closed gone s.desk (after_declared (feature_style s.settings) s.desk.options name shape) (fresh (boot_back s.dialogue.epoch s.dialogue.engine f.1)).0)
   effect_call Boots f r = same_call Boots (boots_call s.ends.closed gone s.desk (fresh (boot_back s.dialogue.epoch s.dialogue.engine f.1)).1)
   effect_call (Thinks k facts) f r = same_call (Thinks k facts) (unfold call_of_desk in refl)
   effect_call (Shows best hint) f r = cc
-  effect_call Forfeits f r =
-      ended (ends_situation s.dialogue.epoch s.dialogue.engine Forfeits) (call_of_desk s.ends.closed (gone || false) (desk_after_effect (situation_of_state s) Forfeits)) (call_before (situation_of_state s))
+  effect_call (Forfeits answer) f r =
+      ended (ends_situation s.dialogue.epoch s.dialogue.engine (Forfeits answer)) (call_of_desk s.ends.closed (gone || false) (desk_after_effect (situation_of_state s) (Forfeits answer))) (call_before (situation_of_state s))
       (or-false (answers_at (Says said.Best) s.dialogue.epoch s.dialogue.engine) ∙ current_ends s.dialogue.epoch s.dialogue.engine f.1) (over_call s.ends.closed (gone || false) s.desk)
   effect_call Answers f r =
       going (ends_situation s.dialogue.epoch s.dialogue.engine Answers) (call_of_desk s.ends.closed (gone || false) (desk_after_effect (situation_of_state s) Answers)) (call_before (situation_of_state s))

@@ -87,7 +87,7 @@ deaf : (s : State) (e : Event) → closed_after s e ≡ true → IsDeaf (what_of
 unfolding classify
 deaf s (events.Iface line) c = either_deaf (situation_of_state s) s.held s.ends.closed (is_quit line) line (message_or_fault line) (sym (quit_first line)) c
 deaf s events.IfaceLong c = where_deaf s.ends.closed LongLine c
-deaf s (events.Engine line) c = where_deaf s.ends.closed (engine_says (situation_of_state s) (engine_message line)) c
+deaf s (events.Engine line) c = where_deaf s.ends.closed (engine_says (situation_of_state s) line (engine_message line)) c
 deaf s events.EngineEnd c = dead_deaf (is_gone (situation_of_state s).engine)
 deaf s events.EngineLost c = dead_deaf (is_gone (situation_of_state s).engine)
 deaf s e c = tt

@@ -36,7 +36,7 @@ use Rattle.desk_rules.specs.Lines.{Verdict, Refused, Accepted, Early, line_verdi
 use Rattle.desk_rules.specs.Steps.{Effect, Nothing, LongLine, Refuses, Boots, Dies, what_of, begins_epoch, call_after, desk_after, scores_after, is_boots, classify, line_effect, desk_after_effect}
 use Rattle.desk_rules.specs.Orders.{asked_by_effect, early_order, early_orders, asked_at_boot, ponder_at_boot, analysis_at_boot, orders_waiting, dialogue_word_of, search_orders}
 use Rattle.think_text.specs.Last.{ThinkingLine}
-use Rattle.desk_rules.specs.Replies.{refused, reply_row, row_accepted, early_refusal, early_refusals, list_where, resign_where, repeated_thinking, replies_of}
+use Rattle.desk_rules.specs.Replies.{refused, reply_row, row_accepted, early_refusal, early_refusals, list_where, given_up_where, repeated_thinking, replies_of}
 use Rattle.desk_rules.proofs.EarlyLines.{fed_first}
 use Rattle.desk_rules.proofs.EarlyOrders.{early_short}
 use Rattle.adapter_core.specs.Ends.{ends_after, is_open}
@@ -194,7 +194,7 @@ boots_replies owes h g =
     let repeats = h.settings.repeat_thinking in
     let last = h.desk.last_thinking in
     let pongs = cond owes [] (map cecp.Pong h.desk.pings) in
-    ap (λ (b : Bool). list ++ refusals ++ resign_where b ++ repeated_thinking (repeats && false) last ++ pongs)
+    ap (λ (b : Bool). list ++ refusals ++ given_up_where b h.settings h.desk.game ++ repeated_thinking (repeats && false) last ++ pongs)
     (no_resigner h.settings.resign_when_gone (is_gone h.engine || false) (is_move (call_of_desk false false (booted_desk h.desk))) (ap (λ (b : Bool). b || false) g))
     ∙ ap (λ (rs : List Reply). list ++ refusals ++ [] ++ rs ++ pongs) (not_again repeats last)
     ∙ ap (λ (rs : List Reply). rs ++ [] ++ pongs) (append-nil (list ++ refusals))

@@ -17,7 +17,7 @@ use Rattle.cecp_lines.specs.declared.iface.IfaceFault.TheVariants as faults
 use Rattle.uci_lines.specs.Info.{Info}
 use Rattle.uci_lines.specs.Messages.{EngineMsg}
 use Rattle.uci_lines.specs.Messages as hears
-use Rattle.uci_lines.specs.Engine.{engine_message}
+use Rattle.uci_lines.specs.Engine.{answer_text, engine_message}
 use Rattle.uci_lines.specs.Orders.{Order}
 use Rattle.game_record.specs.Game.{Game, current_position}
 use Rattle.policy_rules.specs.declared.setting_rules.settings.Settings.{Settings}
@@ -59,29 +59,29 @@ never_unless : (b : Bool) (d : Effect) → defers d ≡ false → defers (cond b
 never_unless true d e = refl
 never_unless false d e = e
 
-shows_never : (g : Game) (best hint : Option Move) → defers (shows g best hint) ≡ false
-shows_never g None hint = refl
-shows_never g (Some m) hint = by (legal (current_position g) m) where
-  by : (b : Bool) → defers (cond b (Shows m hint) Forfeits) ≡ false
+shows_never : (g : Game) (line : List ℕ) (best hint : Option Move) → defers (shows g line best hint) ≡ false
+shows_never g line None hint = refl
+shows_never g line (Some m) hint = by (legal (current_position g) m) where
+  by : (b : Bool) → defers (cond b (Shows m hint) (Forfeits (answer_text line))) ≡ false
   by true = refl
   by false = refl
 
-answers_never : (x : EngineState) (g : Game) (best hint : Option Move) → defers (answers x g best hint) ≡ false
-answers_never (states.Search kinds.Move false stopped) g best hint = shows_never g best hint
-answers_never x g best hint = refl
+answers_never : (x : EngineState) (g : Game) (line : List ℕ) (best hint : Option Move) → defers (answers x g line best hint) ≡ false
+answers_never (states.Search kinds.Move false stopped) g line best hint = shows_never g line best hint
+answers_never x g line best hint = refl
 
 thinks_never : (k : Option GoKind) (facts : Info) → defers (search_reports k facts) ≡ false
 thinks_never None facts = refl
 thinks_never (Some k) facts = refl
 
-says_never : (h : Situation) (m : EngineMsg) → defers (engine_says h m) ≡ false
-says_never h (hears.Best best hint) = answers_never h.engine h.desk.game best hint
-says_never h (hears.Name text) = never_where (is_boot h.engine) (Names text) refl
-says_never h (hears.OptionLine name shape) = never_where (is_boot h.engine) (Declares name shape) refl
-says_never h hears.UciOk = never_where (is_boot h.engine) Boots refl
-says_never h hears.ReadyOk = never_where (is_getting h.engine) Readies refl
-says_never h (hears.Info facts) = thinks_never (current h.engine) facts
-says_never h hears.Nothing = refl
+says_never : (h : Situation) (line : List ℕ) (m : EngineMsg) → defers (engine_says h line m) ≡ false
+says_never h line (hears.Best best hint) = answers_never h.engine h.desk.game line best hint
+says_never h line (hears.Name text) = never_where (is_boot h.engine) (Names text) refl
+says_never h line (hears.OptionLine name shape) = never_where (is_boot h.engine) (Declares name shape) refl
+says_never h line hears.UciOk = never_where (is_boot h.engine) Boots refl
+says_never h line hears.ReadyOk = never_where (is_getting h.engine) Readies refl
+says_never h line (hears.Info facts) = thinks_never (current h.engine) facts
+says_never h line hears.Nothing = refl
 
 -- a line that sets an option
 pub record Sets (line : List ℕ) : Type 0 where
@@ -129,7 +129,7 @@ never line d n e = let y = ap defers e in cc
 deferral : (h : Situation) (held : List Order) (e : Event) (line : List ℕ) → classify h held e ≡ Defers line → IsDeferral h line
 unfolding classify
 deferral h held (events.Iface text) line x = by_closed h held text line h.closed x
-deferral h held (events.Engine text) line x = absurd (never line (cond h.closed Nothing (engine_says h (engine_message text))) (never_unless h.closed (engine_says h (engine_message text)) (says_never h (engine_message text))) x)
+deferral h held (events.Engine text) line x = absurd (never line (cond h.closed Nothing (engine_says h text (engine_message text))) (never_unless h.closed (engine_says h text (engine_message text)) (says_never h text (engine_message text))) x)
 deferral h held events.IfaceLong line x = absurd (never line _ (never_unless h.closed _ refl) x)
 deferral h held events.EngineEnd line x = absurd (never line _ (never_unless (is_gone h.engine) Dies refl) x)
 deferral h held events.EngineLost line x = absurd (never line _ (never_unless (is_gone h.engine) Dies refl) x)

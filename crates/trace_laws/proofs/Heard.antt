@@ -10,7 +10,7 @@ use Rattle.cecp_lines.specs.Messages as messages
 use Rattle.cecp_lines.specs.Reading.{message_or_fault}
 use Rattle.uci_lines.specs.Messages.{EngineMsg}
 use Rattle.uci_lines.specs.Messages as says
-use Rattle.uci_lines.specs.Engine.{engine_message}
+use Rattle.uci_lines.specs.Engine.{answer_text, engine_message}
 use Rattle.uci_lines.specs.Orders.{Order}
 use Rattle.uci_lines.specs.Orders as orders
 use Rattle.game_record.specs.Game.{Game, current_position}
@@ -63,23 +63,23 @@ line_silent (Refused r) line = refl
 line_silent (Accepted m) line = quiet_line m
 line_silent Early line = refl
 
-shown_best : (b : Bool) (m : Move) (hint : Option Move) → check_order (cond b (Shows m hint) Forfeits) ≡ Some said.Best
-shown_best true m hint = refl
-shown_best false m hint = refl
+shown_best : (b : Bool) (line : List ℕ) (m : Move) (hint : Option Move) → check_order (cond b (Shows m hint) (Forfeits (answer_text line))) ≡ Some said.Best
+shown_best true line m hint = refl
+shown_best false line m hint = refl
 
-answer_best : (k : GoKind) (stale s : Bool) (g : Game) (best hint : Option Move) → check_order (answers (states.Search k stale s) g best hint) ≡ Some said.Best
-answer_best kinds.Move false s g None hint = refl
-answer_best kinds.Move false s g (Some m) hint = shown_best (legal (current_position g) m) m hint
-answer_best kinds.Move true s g best hint = refl
-answer_best kinds.Ponder stale s g best hint = refl
-answer_best kinds.Analyse stale s g best hint = refl
+answer_best : (k : GoKind) (stale s : Bool) (g : Game) (line : List ℕ) (best hint : Option Move) → check_order (answers (states.Search k stale s) g line best hint) ≡ Some said.Best
+answer_best kinds.Move false s g line None hint = refl
+answer_best kinds.Move false s g line (Some m) hint = shown_best (legal (current_position g) m) line m hint
+answer_best kinds.Move true s g line best hint = refl
+answer_best kinds.Ponder stale s g line best hint = refl
+answer_best kinds.Analyse stale s g line best hint = refl
 
-best_heard : (n : ℕ) (e : Engine) (g : Game) (best hint : Option Move) → engine_after_heard e (check_order (answers (forget n e) g best hint)) ≡ engine_after_heard e (Some said.Best)
-best_heard n Boot g best hint = refl
-best_heard n Getting g best hint = refl
-best_heard n Idle g best hint = refl
-best_heard n (Search k t s) g best hint = ap (engine_after_heard (Search k t s)) (answer_best k _ s g best hint)
-best_heard n Gone g best hint = refl
+best_heard : (n : ℕ) (e : Engine) (g : Game) (line : List ℕ) (best hint : Option Move) → engine_after_heard e (check_order (answers (forget n e) g line best hint)) ≡ engine_after_heard e (Some said.Best)
+best_heard n Boot g line best hint = refl
+best_heard n Getting g line best hint = refl
+best_heard n Idle g line best hint = refl
+best_heard n (Search k t s) g line best hint = ap (engine_after_heard (Search k t s)) (answer_best k _ s g line best hint)
+best_heard n Gone g line best hint = refl
 
 uciok_heard : (n : ℕ) (e : Engine) → engine_after_heard e (check_order (cond (is_boot (forget n e)) Boots Nothing)) ≡ engine_after_heard e (Some said.UciOk)
 uciok_heard n Boot = refl
@@ -113,25 +113,25 @@ module _ (s : State) where
   abbrev engine : Engine
   engine = s.dialogue.engine
 
-  says_heard : (m : EngineMsg) → engine_after_heard engine (check_order (engine_says h m)) ≡ engine_after_heard engine (said_in_line m)
-  says_heard (says.Name text) = ap (engine_after_heard engine) (silent_unless (is_boot h.engine) (Names text) refl)
-  says_heard (says.OptionLine name shape) = ap (engine_after_heard engine) (silent_unless (is_boot h.engine) (Declares name shape) refl)
-  says_heard says.UciOk = uciok_heard s.dialogue.epoch engine
-  says_heard says.ReadyOk = readyok_heard s.dialogue.epoch engine
-  says_heard (says.Info facts) = ap (engine_after_heard engine) (thinks_silent (current h.engine) facts)
-  says_heard (says.Best best hint) = best_heard s.dialogue.epoch engine s.desk.game best hint
-  says_heard says.Nothing = refl
+  says_heard : (line : List ℕ) (m : EngineMsg) → engine_after_heard engine (check_order (engine_says h line m)) ≡ engine_after_heard engine (said_in_line m)
+  says_heard line (says.Name text) = ap (engine_after_heard engine) (silent_unless (is_boot h.engine) (Names text) refl)
+  says_heard line (says.OptionLine name shape) = ap (engine_after_heard engine) (silent_unless (is_boot h.engine) (Declares name shape) refl)
+  says_heard line says.UciOk = uciok_heard s.dialogue.epoch engine
+  says_heard line says.ReadyOk = readyok_heard s.dialogue.epoch engine
+  says_heard line (says.Info facts) = ap (engine_after_heard engine) (thinks_silent (current h.engine) facts)
+  says_heard line (says.Best best hint) = best_heard s.dialogue.epoch engine s.desk.game line best hint
+  says_heard line says.Nothing = refl
 
-  line_heard : (closed : Bool) (m : EngineMsg) → engine_after_heard engine (check_order (cond closed Nothing (engine_says h m))) ≡ engine_after_heard engine (cond closed None (said_in_line m))
-  line_heard true m = refl
-  line_heard false m = says_heard m
+  line_heard : (closed : Bool) (line : List ℕ) (m : EngineMsg) → engine_after_heard engine (check_order (cond closed Nothing (engine_says h line m))) ≡ engine_after_heard engine (cond closed None (said_in_line m))
+  line_heard true line m = refl
+  line_heard false line m = says_heard line m
 
   -- the engine after the event is as the event says
   pub event_heard : (e : Event) → engine_after_heard engine (check_order (effect s e)) ≡ engine_after_heard engine (said_by_step s.ends.closed e)
   unfolding classify
   event_heard (events.Iface line) = ap (engine_after_heard engine) (silent_where s.ends.closed _ (line_silent (line_verdict h s.held line (message_or_fault line)) line))
   event_heard events.IfaceLong = ap (engine_after_heard engine) (silent_where s.ends.closed LongLine refl)
-  event_heard (events.Engine line) = line_heard s.ends.closed (engine_message line)
+  event_heard (events.Engine line) = line_heard s.ends.closed line (engine_message line)
   event_heard events.EngineEnd = end_heard s.dialogue.epoch engine
   event_heard events.EngineLost = end_heard s.dialogue.epoch engine
   event_heard e = refl

@@ -12,6 +12,7 @@ pub mod Stays
 pub mod Searched
 pub mod ResignLines
 pub mod Resigning
+pub mod Losers
 pub mod EarlyWaiting
 pub mod EarlyAnswers
 pub mod All
@@ -25,3 +26,5 @@ pub mod ReplyLines
 pub mod OrderLines
 pub mod OneLine
 pub mod Fences
+pub mod CleanOptions
+pub mod PlainTexts

@@ -20,13 +20,15 @@ use Rattle.cecp_lines.specs.Replies.{Reply, reply_text}
 use Rattle.uci_lines.specs.Info.{Info}
 use Rattle.uci_lines.specs.Messages.{EngineMsg, OptionKind}
 use Rattle.uci_lines.specs.Messages as hears
-use Rattle.uci_lines.specs.Engine.{engine_message}
+use Rattle.uci_lines.specs.Engine.{answer_text, engine_message}
 use Rattle.uci_lines.specs.Spells.{HasForm}
 use Rattle.uci_lines.specs.Orders.{Order, uci_order_text}
 use Rattle.uci_lines.specs.Orders as orders
 use Rattle.uci_lines.proofs.Rows.{read_spells}
 use Rattle.game_record.specs.Game.{Game, Ply, ply_of, current_position}
 use Rattle.option_map.specs.declared.declared_options.declared.Declared.TheVariants as outcome
+use Rattle.option_map.specs.declared.declared_options.style.FeatureStyle.{FeatureStyle}
+use Rattle.option_map.specs.DeclaredOptions.Styles.{name_in_style}
 use Rattle.option_map.specs.DeclaredOptions.Settings.{OptionSetting, text_size, shown_length, setting_from_option, option_by_name, is_combo_full, is_unshowable, declared_beside, grown_by, after_declared}
 use Rattle.option_map.specs.DeclaredOptions.Spelled.{OrderIsSpelled}
 use Rattle.option_map.proofs.DeclaredOptions.Values.{no_feed, line_part, rest_part}
@@ -41,7 +43,7 @@ use Rattle.search_epochs.proofs.Same.{only_orders}
 use Rattle.desk_rules.specs.declared.desk.Desk.{Desk}
 use Rattle.desk_rules.specs.Desk.{Situation, is_boot, is_getting, is_gone, is_full as is_full_game, plies, game_played, current}
 use Rattle.desk_rules.specs.Lines.{Verdict, Refused, Accepted, Early, line_verdict, refusal, change, desk_at_position}
-use Rattle.desk_rules.specs.Steps.{Effect, Nothing, LongLine, Names, Accepts, Declares, Boots, Readies, Thinks, Shows, Forfeits, Dies, classify, line_effect, engine_says, search_reports, shows, answers, searched_by, shows_thinking, named_hint, spelling_of, begins_epoch, clears_seen, desk_after_effect}
+use Rattle.desk_rules.specs.Steps.{Effect, Nothing, LongLine, Names, Accepts, Declares, Boots, Readies, Thinks, Shows, Forfeits, Dies, classify, line_effect, engine_says, search_reports, shows, answers, searched_by, shows_thinking, named_hint, spelling_of, begins_epoch, clears_seen, feature_style, desk_after_effect}
 use Rattle.desk_rules.specs.Orders.{orders_waiting, dialogue_word_of}
 use Rattle.desk_rules.specs.Fits.{EffectFitsDesk, IsServed, IsLineEvent}
 use Rattle.desk_rules.proofs.Passes.{passes, served_few}
@@ -53,7 +55,7 @@ use Rattle.adapter_core.proofs.Closing.{line_event}
 use Rattle.adapter_core.proofs.Traces.{Lasts, lasts, fits}
 use Rattle.trace_laws.specs.OneLine.{IsOneLogLine, TracesWriteLines}
 use Rattle.trace_laws.proofs.Pieces.{one_line, all_both}
-use Rattle.trace_laws.proofs.OptionTexts.{begun_part}
+use Rattle.trace_laws.proofs.OptionTexts.{begun_part, styled_bare}
 use Rattle.trace_laws.proofs.Games.{game_is}
 use Rattle.trace_laws.proofs.ReplyLines.{AreShown, IsLastShown, kept_shown, replies_shown}
 use Rattle.trace_laws.proofs.OrderLines.{IsOrdered, AreOrdered, spelled_ordered, waiting_spelled, search_ordered}
@@ -83,25 +85,25 @@ thinks_bare : (k : Option GoKind) (facts : Info) → IsBareName (search_reports 
 thinks_bare None facts = tt
 thinks_bare (Some k) facts = tt
 
-shows_bare : (g : Game) (best hint : Option Move) → IsBareName (shows g best hint)
-shows_bare g None hint = tt
-shows_bare g (Some m) hint = by (legal (current_position g) m) where
-  by : (b : Bool) → IsBareName (cond b (Shows m hint) Forfeits)
+shows_bare : (g : Game) (line : List ℕ) (best hint : Option Move) → IsBareName (shows g line best hint)
+shows_bare g line None hint = tt
+shows_bare g line (Some m) hint = by (legal (current_position g) m) where
+  by : (b : Bool) → IsBareName (cond b (Shows m hint) (Forfeits (answer_text line)))
   by true = tt
   by false = tt
 
-answers_bare : (e : EngineState) (g : Game) (best hint : Option Move) → IsBareName (answers e g best hint)
-answers_bare (states.Search kinds.Move false stopped) g best hint = shows_bare g best hint
-answers_bare (states.Search x true stopped) g best hint = tt
-answers_bare e g best hint = tt
+answers_bare : (e : EngineState) (g : Game) (line : List ℕ) (best hint : Option Move) → IsBareName (answers e g line best hint)
+answers_bare (states.Search kinds.Move false stopped) g line best hint = shows_bare g line best hint
+answers_bare (states.Search x true stopped) g line best hint = tt
+answers_bare e g line best hint = tt
 
-says_bare : (h : Situation) (line : List ℕ) (m : EngineMsg) → is_line line ≡ true → engine_message line ≡ m → IsBareName (engine_says h m)
+says_bare : (h : Situation) (line : List ℕ) (m : EngineMsg) → is_line line ≡ true → engine_message line ≡ m → IsBareName (engine_says h line m)
 says_bare h line (hears.Name text) l e = bare_where (is_boot h.engine) (Names text) (name_bare line text e l)
 says_bare h line (hears.OptionLine name shape) l e = bare_where (is_boot h.engine) (Declares name shape) tt
 says_bare h line hears.UciOk l e = bare_where (is_boot h.engine) Boots tt
 says_bare h line hears.ReadyOk l e = bare_where (is_getting h.engine) Readies tt
 says_bare h line (hears.Info facts) l e = thinks_bare (current h.engine) facts
-says_bare h line (hears.Best best hint) l e = answers_bare h.engine h.desk.game best hint
+says_bare h line (hears.Best best hint) l e = answers_bare h.engine h.desk.game line best hint
 says_bare h line hears.Nothing l e = tt
 
 verdict_bare : (v : Verdict) (line : List ℕ) → IsBareName (line_effect v line)
@@ -113,7 +115,7 @@ comes_bare : (h : Situation) (held : List Order) (e : Event) → IsLineEvent e �
 unfolding classify
 comes_bare h held (events.Iface line) l = bare_unless h.closed (line_effect (line_verdict h held line (message_or_fault line)) line) (verdict_bare (line_verdict h held line (message_or_fault line)) line)
 comes_bare h held events.IfaceLong l = bare_unless h.closed LongLine tt
-comes_bare h held (events.Engine line) l = bare_unless h.closed (engine_says h (engine_message line)) (says_bare h line (engine_message line) l refl)
+comes_bare h held (events.Engine line) l = bare_unless h.closed (engine_says h line (engine_message line)) (says_bare h line (engine_message line) l refl)
 comes_bare h held events.EngineEnd l = bare_unless (is_gone h.engine) Dies tt
 comes_bare h held events.EngineLost l = bare_unless (is_gone h.engine) Dies tt
 comes_bare h held e l = tt
@@ -129,16 +131,16 @@ record IsFew (d : Desk) : Type 0 where
   last : IsLastShown d.last_thinking
 
 -- the parts that a message leaves as they are
-record Leaves (old new : Desk) : Type 0 where
-  options : new.options ≡ old.options
-  name : new.name ≡ old.name
-  last : new.last_thinking ≡ old.last_thinking
+pub record Leaves (old new : Desk) : Type 0 where
+  pub options : new.options ≡ old.options
+  pub name : new.name ≡ old.name
+  pub last : new.last_thinking ≡ old.last_thinking
 
 placed_leaves : (d : Desk) (r : Result Place FenFault) → Leaves d (desk_at_position d r)
 placed_leaves d (Ok p) = record { options = refl; name = refl; last = refl }
 placed_leaves d (Err fault) = record { options = refl; name = refl; last = refl }
 
-change_leaves : (boot : Bool) (d : Desk) (m : IfaceMsg) → Leaves d (change boot d m)
+pub change_leaves : (boot : Bool) (d : Desk) (m : IfaceMsg) → Leaves d (change boot d m)
 unfolding change
 change_leaves boot d (says.SetBoard text) = placed_leaves d (position_of text)
 change_leaves boot d m = record { options = refl; name = refl; last = refl }
@@ -200,8 +202,8 @@ shown_step : (w : Bool) (os : List OptionSetting) (name : List ℕ) (o : OptionS
 shown_step true os name o f = f
 shown_step false os name o f = beside_step (option_by_name name os) os o f
 
-declared_few : (strength : Bool) (os : List OptionSetting) (name : List ℕ) (shape : OptionKind) → AreFewOptions os → AreFewOptions (after_declared strength os name shape)
-declared_few strength os name shape f = shown_step (is_unshowable name shape) os name (setting_from_option strength name shape) f
+declared_few : (style : FeatureStyle) (os : List OptionSetting) (name : List ℕ) (shape : OptionKind) → AreFewOptions os → AreFewOptions (after_declared style os name shape)
+declared_few style os name shape f = shown_step (is_unshowable style name shape) os name (setting_from_option style name shape) f
 
 -- AFTER AN EFFECT
 
@@ -223,9 +225,11 @@ unfolding desk_after_effect
 few_after h held (Accepts m) s f n k =
     let new = change (is_boot h.engine) h.desk m in
     left_few h.desk new (change_leaves (is_boot h.engine) h.desk m) (change_plies (is_boot h.engine) h.desk m (has_room h held m f.passes) k.plies) k
-few_after h held (Names text) s f n k = record { size = k.size; count = k.count; name = shown_bare (is_unfit text) text n; plies = k.plies; last = k.last }
+few_after h held (Names text) s f n k =
+    let name = name_in_style (feature_style h.settings) text in
+    record { size = k.size; count = k.count; name = shown_bare (is_unfit name) name (styled_bare (feature_style h.settings) text n); plies = k.plies; last = k.last }
 few_after h held (Declares name shape) s f n k =
-    let o = declared_few h.settings.strength_options h.desk.options name shape (record { size = k.size; count = k.count }) in
+    let o = declared_few (feature_style h.settings) h.desk.options name shape (record { size = k.size; count = k.count }) in
     record { size = o.size; count = o.count; name = k.name; plies = k.plies; last = k.last }
 few_after h held (Thinks kind facts) s f n k = record {
   size = k.size;

@@ -7,6 +7,8 @@ use Rattle.cecp_lines.specs.Messages.{IfaceMsg}
 use Rattle.cecp_lines.specs.Messages as says
 use Rattle.cecp_lines.specs.declared.reply.Spelling.{Spelling}
 use Rattle.cecp_lines.specs.Replies.{Reply}
+use Rattle.cecp_lines.specs.Losses.{Loss, quoted}
+use Rattle.cecp_lines.specs.Losses as losses
 use Rattle.cecp_lines.specs.Replies as cecp
 use Rattle.uci_lines.specs.Info.{Info}
 use Rattle.game_record.specs.declared.ending.GameEnd.{GameEnd}
@@ -28,8 +30,8 @@ use Rattle.desk_rules.specs.declared.effect.Refusal.TheVariants as refusals
 use Rattle.desk_rules.specs.declared.desk.Desk.{Desk}
 use Rattle.desk_rules.specs.Desk.{Situation, is_boot, table, on_move, game_played, plays}
 use Rattle.desk_rules.specs.Lines.{change, refused_option, early_answer}
-use Rattle.desk_rules.specs.Steps.{Effect, Refuses, Accepts, Boots, Thinks, Shows, Dies, searched_by, shows_thinking, named_hint, spelling_of, resigns_after, resigns_at_end, resigns_when_gone, desk_after_effect, answers_pings}
-use Rattle.desk_rules.specs.Replies.{refused, result_reply_by, result_reply_of, protover_row, offer_where, hint_row, row_accepted, list_where, resign_where, early_refusal, early_refusals, reply_row, repeated_thinking, replies_of}
+use Rattle.desk_rules.specs.Steps.{Effect, Refuses, Accepts, Boots, Thinks, Shows, Forfeits, Dies, searched_by, shows_thinking, named_hint, spelling_of, resigns_after, resigns_at_end, resigns_when_gone, desk_after_effect, answers_pings}
+use Rattle.desk_rules.specs.Replies.{refused, result_reply_by, result_reply_of, protover_row, offer_where, hint_row, row_accepted, list_where, resign_where, giving_up, given_up_where, early_refusal, early_refusals, reply_row, repeated_thinking, replies_of}
 use Rattle.desk_rules.proofs.Quiet.{added_ping, quiet_pings}
 use Rattle.adapter_core.specs.Trace.{State, Step, IsLawfulStep, state, situation_of_state, effect, owed_after, closed_after, step_hits}
 use Rattle.adapter_core.proofs.Traces.{no_pings}
@@ -69,6 +71,14 @@ no_list false d = refl
 no_resign : (b : Bool) → pongs_written (resign_where b) ≡ []
 no_resign true = refl
 no_resign false = refl
+
+no_reason : (reasons : Bool) (side : Side) (loss : Loss) → pongs_written (giving_up reasons side loss ∷ []) ≡ []
+no_reason true side loss = refl
+no_reason false side loss = refl
+
+no_given_up : (b : Bool) (o : Settings) (g : Game) → pongs_written (given_up_where b o g) ≡ []
+no_given_up true o g = no_reason o.result_reasons (on_move g) losses.Ended
+no_given_up false o g = refl
 
 no_offer : (b : Bool) → pongs_written (offer_where b) ≡ []
 no_offer true = refl
@@ -144,7 +154,10 @@ no_pong h (Thinks k facts) =
     no_thinking (shows_thinking h k) (thinking_line s facts p hint) (no_line facts.depth facts.score (run_texts s p (legal_run p facts.pv)) facts s (hint_text s hint))
 no_pong h (Shows best hint) =
     none_joined (result_reply_of (game_played h.desk.game best)) (resign_where (resigns_after h best)) (no_result (on_move (game_played h.desk.game best)) (ended_of (game_played h.desk.game best))) (no_resign (resigns_after h best))
-no_pong h Dies = none_joined (list_where h.desk.due h.desk) (cecp.TellError _ ∷ resign_where (resigns_at_end h)) (no_list h.desk.due h.desk) (no_resign (resigns_at_end h))
+no_pong h (Forfeits answer) = no_reason h.settings.result_reasons (on_move h.desk.game) (losses.IllegalMove (quoted answer))
+no_pong h Dies =
+    let gone = given_up_where (resigns_at_end h) h.settings h.desk.game in
+    none_joined (list_where h.desk.due h.desk) (cecp.TellError _ ∷ gone) (no_list h.desk.due h.desk) (no_given_up (resigns_at_end h) h.settings h.desk.game)
 no_pong h d = refl
 
 -- THE PONGS OF A STEP
@@ -160,10 +173,10 @@ none_owed false ns = pongs_in ns
 -- in a session that is not closed
 open_pongs : (owes hits : Bool) (h : Situation) (d : Effect) → pongs_written (replies_of false owes hits h d) ≡ cond owes [] (desk_after_effect h d).pings
 open_pongs owes hits h d =
-    let resign = resign_where (resigns_when_gone false h d) in
+    let resign = given_up_where (resigns_when_gone false h d) h.settings (desk_after_effect h d).game in
     let again = repeated_thinking (h.settings.repeat_thinking && hits) (desk_after_effect h d).last_thinking in
     joined (reply_row h d ++ resign ++ again) (cond owes [] (map cecp.Pong (desk_after_effect h d).pings))
-    ∙ ap (λ (l : List ℕ). l ++ pongs_written (cond owes [] (map cecp.Pong (desk_after_effect h d).pings))) (none_joined (reply_row h d ++ resign) again (none_joined (reply_row h d) resign (no_pong h d) (no_resign (resigns_when_gone false h d))) (no_repeated (h.settings.repeat_thinking && hits) (desk_after_effect h d).last_thinking))
+    ∙ ap (λ (l : List ℕ). l ++ pongs_written (cond owes [] (map cecp.Pong (desk_after_effect h d).pings))) (none_joined (reply_row h d ++ resign) again (none_joined (reply_row h d) resign (no_pong h d) (no_given_up (resigns_when_gone false h d) h.settings (desk_after_effect h d).game)) (no_repeated (h.settings.repeat_thinking && hits) (desk_after_effect h d).last_thinking))
     ∙ none_owed owes (desk_after_effect h d).pings
 
 -- what is told and what is held then are all that were held

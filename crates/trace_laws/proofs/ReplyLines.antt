@@ -1,20 +1,26 @@
 -- Each line to the interface is one line.
-use Rattle.std.proofs.Common.{◌≡◌, ℕ, ◌+◌, ◌≤◌, List, [], ◌∷◌, ◌++◌, length, map, not, Bool, true, false, cond, Option, Some, None, Result, Ok, Err, decimal, codes, ◌&&◌, refl, sym, subst, arith, length-append}
+use Rattle.std.proofs.Common.{◌≡◌, ℕ, ◌+◌, ◌≤◌, List, [], ◌∷◌, ◌++◌, length, map, not, eqb, leb, ltb, Bool, true, false, cond, Option, Some, None, Result, Ok, Err, decimal, codes, ◌&&◌, refl, sym, subst, arith, length-append}
 use Rattle.std.specs.Prelude.{ℤ, IfSome}
 use Rattle.std.specs.Fmt.{signed_decimal}
-use Rattle.std.specs.List.{AllByRecursion, join_with_byte}
+use Rattle.std.specs.List.{AllByRecursion, join_with_byte, list_all}
 use Rattle.std.specs.Option.{option_to_list}
+use Rattle.std.proofs.lemmas.Bool.{and_parts}
+use Rattle.std.proofs.lemmas.Bool.Decides.{nat_tests}
 use Rattle.chess_board.specs.declared.board.Move.{Move}
 use Rattle.chess_board.specs.declared.board.Side.{Side}
+use Rattle.chess_board.specs.declared.board.Side.TheVariants.{White, Black}
 use Rattle.chess_board.specs.Position.{Position}
 use Rattle.chess_board.specs.Text.{text_of_move}
 use Rattle.protocol_tokens.specs.Tokens.{trimmed}
+use Rattle.protocol_tokens.proofs.Runs.{all_of}
 use Rattle.cecp_lines.specs.Messages.{IfaceMsg}
 use Rattle.cecp_lines.specs.Messages as says
 use Rattle.cecp_lines.specs.declared.reply.Spelling.{Spelling}
 use Rattle.cecp_lines.specs.declared.reply.Spelling.TheVariants.{Coordinates, San}
 use Rattle.cecp_lines.specs.Replies.{Reply, Feature, reply_text, reason_text, field, hint_in_parentheses, current_text}
 use Rattle.cecp_lines.specs.Replies as cecp
+use Rattle.cecp_lines.specs.Losses.{Loss, loss_text, quoted, quoted_text, is_quotable, is_quotable_byte}
+use Rattle.cecp_lines.specs.Losses as losses
 use Rattle.cecp_lines.specs.declared.reply.Reason.{Reason}
 use Rattle.cecp_lines.specs.declared.reply.Reason.TheVariants as reasons
 use Rattle.cecp_lines.specs.declared.reply.UserError.{UserError}
@@ -27,6 +33,7 @@ use Rattle.uci_lines.specs.Messages as hears
 use Rattle.game_record.specs.declared.ending.GameEnd.{GameEnd}
 use Rattle.game_record.specs.Game.{Game, current_position}
 use Rattle.game_record.specs.Ending.{ended_of}
+use Rattle.policy_rules.specs.declared.setting_rules.settings.Settings.{Settings}
 use Rattle.option_map.specs.DeclaredOptions.Settings.{OptionSetting, setting_kind_text, text_size}
 use Rattle.option_map.specs.DeclaredOptions.Shown.{takes_memory, takes_cores, takes_tables}
 use Rattle.option_map.specs.DeclaredOptions.Spelled.{AreDeclared}
@@ -51,7 +58,7 @@ use Rattle.desk_rules.specs.declared.desk.Desk.{Desk}
 use Rattle.desk_rules.specs.Desk.{Situation, is_boot, on_move, game_played, plays}
 use Rattle.desk_rules.specs.Lines.{change, refused_option, early_answer}
 use Rattle.desk_rules.specs.Steps.{Effect, LongLine, Refuses, Accepts, Boots, Thinks, Shows, Forfeits, Dies, searched_by, shows_thinking, named_hint, spelling_of, resigns_after, resigns_at_end, resigns_when_gone, desk_after_effect}
-use Rattle.desk_rules.specs.Replies.{refused, outcome_of, result_reply_by, result_reply_of, protover_row, offer_where, hint_row, row_accepted, list_where, resign_where, early_refusal, early_refusals, reply_row, repeated_thinking, replies_of}
+use Rattle.desk_rules.specs.Replies.{refused, outcome_of, result_reply_by, result_reply_of, protover_row, offer_where, hint_row, row_accepted, list_where, resign_where, giving_up, given_up_where, early_refusal, early_refusals, reply_row, repeated_thinking, replies_of}
 use Rattle.desk_rules.specs.Fits.{EffectFitsDesk, IsSaid, DeskInvariant}
 use Rattle.desk_rules.proofs.Ponders.{hint_played}
 use Rattle.desk_rules.proofs.Rooms.{line_le, list_le, most_le}
@@ -123,9 +130,9 @@ unfolding AreBare
 tables_bare true = (refl, tt)
 tables_bare false = tt
 
-shown_bare : (w : Bool) (o : OptionSetting) (os : List OptionSetting) → no_feed (o.name ++ setting_kind_text o.kind) ≡ true → AreBare (map option_feature os) → AreBare (map option_feature (cond w (o ∷ os) os))
+shown_bare : (w : Bool) (o : OptionSetting) (os : List OptionSetting) → no_feed (o.name ++ setting_kind_text o.text_feature o.kind) ≡ true → AreBare (map option_feature os) → AreBare (map option_feature (cond w (o ∷ os) os))
 unfolding AreBare
-shown_bare true o os h k = (named_bare (codes "option") (o.name ++ setting_kind_text o.kind) refl h, k)
+shown_bare true o os h k = (named_bare (codes "option") (o.name ++ setting_kind_text o.text_feature o.kind) refl h, k)
 shown_bare false o os h k = k
 
 options_bare : (os : List OptionSetting) → AreDeclared os → AreBare (map option_feature (shown_options os))
@@ -209,6 +216,41 @@ ended_shown false g = tt
 resign_shown : (b : Bool) → AreShown (resign_where b)
 resign_shown true = (record { line = refl; short = omega arith }, tt)
 resign_shown false = tt
+
+quotable_bare : (b : ℕ) → is_quotable_byte b ≡ true → not (eqb b 10) ≡ true
+quotable_bare b h =
+    let shown = and_parts (leb 33 b && leb b 126) (not (eqb b 123)) (and_parts (leb 33 b && leb b 126 && not (eqb b 123)) (not (eqb b 125)) h).0 in
+    let low = (and_parts (leb 33 b) (leb b 126) shown.0).0 in
+    grind (arith, nat_tests, low)
+
+-- what is quoted has no line feed
+quoted_part : (answer : List ℕ) (b : Bool) → is_quotable answer ≡ b → IsPart 18 (quoted_text (cond b (Some answer) None))
+quoted_part answer false e = record { line = refl; short = omega arith }
+quoted_part answer true e =
+    let parts = and_parts (ltb 0 (length answer) && leb (length answer) 16) (list_all is_quotable_byte answer) e in
+    let few = (and_parts (ltb 0 (length answer)) (leb (length answer) 16) parts.0).1 in
+    let short : length answer ≤ 16 = grind (arith, nat_tests, few) in
+    joined {m = 2} {n = 16} (codes ": ") answer (record { line = refl; short = omega arith }) (record { line = all_of is_quotable_byte (λ b. not (eqb b 10)) quotable_bare answer parts.1; short = short })
+
+-- the lines by which a game is given up
+loss_part : (answer : List ℕ) → IsPart 40 (loss_text (losses.IllegalMove (quoted answer)))
+loss_part answer = joined {m = 22} {n = 18} (codes "Illegal move by engine") (quoted_text (quoted answer)) (record { line = refl; short = omega arith }) (quoted_part answer (is_quotable answer) refl)
+
+scored : (score text : List ℕ) → IsPart 5 score → IsPart 40 text → IsPart 131070 (score ++ (text ++ codes "}"))
+scored score text s p =
+    wide 131070 (score ++ (text ++ codes "}")) (joined {m = 5} {n = 41} score (text ++ codes "}") s (joined {m = 40} {n = 1} text (codes "}") p (record { line = refl; short = omega arith }))) (omega arith)
+
+lost_shown : (side : Side) (loss : Loss) → IsPart 40 (loss_text loss) → IsShown (cecp.Lost side loss)
+lost_shown White loss p = scored (codes "0-1 {") (loss_text loss) (record { line = refl; short = omega arith }) p
+lost_shown Black loss p = scored (codes "1-0 {") (loss_text loss) (record { line = refl; short = omega arith }) p
+
+given_shown : (reasons : Bool) (side : Side) (loss : Loss) → IsPart 40 (loss_text loss) → IsShown (giving_up reasons side loss)
+given_shown true side loss p = lost_shown side loss p
+given_shown false side loss p = record { line = refl; short = omega arith }
+
+gone_shown : (b : Bool) (o : Settings) (g : Game) → AreShown (given_up_where b o g)
+gone_shown true o g = (given_shown o.result_reasons (on_move g) losses.Ended (record { line = refl; short = omega arith }), tt)
+gone_shown false o g = tt
 
 offer_shown : (b : Bool) → AreShown (offer_where b)
 offer_shown true = (record { line = refl; short = omega arith }, tt)
@@ -348,8 +390,8 @@ row_shown h Boots t o f =
     (early_shown h.desk.options h.desk.early t.early)
 row_shown h (Thinks k facts) t o f = thought_shown (shows_thinking h k) (spelling_of h.settings) facts (current_position (searched_by k h.desk.game h.desk.hint)) (named_hint k h.desk.game h.desk.hint) (hint_played k h.desk.game h.desk.hint o.hint) f.1.2
 row_shown h (Shows best hint) t o f = shown_is_shown h best
-row_shown h Forfeits t o f = (report_shown user_error.Move, (record { line = refl; short = omega arith }, tt))
-row_shown h Dies t o f = all_both IsShown (list_where h.desk.due h.desk) _ (list_shown h.desk.due h.desk t) (report_shown user_error.Ended, resign_shown (resigns_at_end h))
+row_shown h (Forfeits answer) t o f = (report_shown user_error.Move, (given_shown h.settings.result_reasons (on_move h.desk.game) (losses.IllegalMove (quoted answer)) (loss_part answer), tt))
+row_shown h Dies t o f = all_both IsShown (list_where h.desk.due h.desk) _ (list_shown h.desk.due h.desk t) (report_shown user_error.Ended, gone_shown (resigns_at_end h) h.settings h.desk.game)
 row_shown h d t o f = tt
 
 again_shown : (b : Bool) (last : Option ThinkingLine) → IsLastShown last → AreShown (repeated_thinking b last)
@@ -374,10 +416,10 @@ kept_shown true s facts p hint old said l =
 
 pub replies_shown : (closed owes hits : Bool) (h : Situation) (held : List _) (d : Effect) → HasTexts h.desk → IsLastShown (desk_after_effect h d).last_thinking → DeskInvariant h.desk → EffectFitsDesk h held d → AreShown (replies_of closed owes hits h d)
 replies_shown closed owes hits h held d t last o f =
-    let resign = resign_where (resigns_when_gone closed h d) in
+    let resign = given_up_where (resigns_when_gone closed h d) h.settings (desk_after_effect h d).game in
     let again = repeated_thinking (h.settings.repeat_thinking && hits) (desk_after_effect h d).last_thinking in
     all_where IsShown closed [] _ tt
     (all_both IsShown (reply_row h d ++ resign ++ again) (cond owes [] (map cecp.Pong (desk_after_effect h d).pings))
-    (all_both IsShown (reply_row h d ++ resign) again (all_both IsShown (reply_row h d) resign (row_shown h d t o (held, f)) (resign_shown (resigns_when_gone closed h d)))
+    (all_both IsShown (reply_row h d ++ resign) again (all_both IsShown (reply_row h d) resign (row_shown h d t o (held, f)) (gone_shown (resigns_when_gone closed h d) h.settings (desk_after_effect h d).game))
     (again_shown (h.settings.repeat_thinking && hits) (desk_after_effect h d).last_thinking last))
     (all_where IsShown owes [] (map cecp.Pong (desk_after_effect h d).pings) tt (pongs_told (desk_after_effect h d).pings)))

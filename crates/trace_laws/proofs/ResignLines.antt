@@ -1,4 +1,4 @@
--- Lines that are no `resign`.
+-- Lines that give no game up.
 use Rattle.std.proofs.Common.{◌≡◌, ℕ, ◌+◌, List, [], ◌∷◌, ◌++◌, map, codes, Bool, true, false, cond, Option, Some, None, refl, arith}
 use Rattle.std.specs.Option.{option_to_list}
 use Rattle.chess_board.specs.declared.board.Move.{Move as AnyMove}
@@ -32,6 +32,7 @@ use Rattle.trace_laws.specs.Resigning.{resigns_in}
 pub joined : (xs ys : List Reply) → resigns_in (xs ++ ys) ≡ resigns_in xs + resigns_in ys
 joined [] ys = omega arith
 joined (cecp.Resign ∷ xs) ys = omega (arith, joined xs ys)
+joined (cecp.Lost side loss ∷ xs) ys = omega (arith, joined xs ys)
 joined (x ∷ xs) ys = joined xs ys
 
 pub none_joined : (xs ys : List Reply) → resigns_in xs ≡ 0 → resigns_in ys ≡ 0 → resigns_in (xs ++ ys) ≡ 0

@@ -1,6 +1,6 @@
 -- An engine that is gone resigns, once, and games are given up aloud.
 use Rattle.std.proofs.Common.{◌≡◌, ◌≢◌, ◌⊎◌, inl, inr, ℕ, ◌+◌, ◌≤◌, List, [], ◌∷◌, ◌++◌, map, Bool, true, false, not, cond, ◌&&◌, ◌||◌, Ok, Err, refl, sym, ap, ◌∙◌, arith}
-use Rattle.std.proofs.lemmas.Bool.{both_ways, and_parts}
+use Rattle.std.proofs.lemmas.Bool.{both_ways, and_parts, false_from_ne_true}
 use Rattle.std.proofs.lemmas.Bool.Decides.{nat_tests}
 use Rattle.chess_board.specs.declared.board.Side.{Side}
 use Rattle.chess_board.specs.declared.board.Side.TheVariants.{White, Black}
@@ -12,6 +12,8 @@ use Rattle.cecp_lines.specs.Messages as says
 use Rattle.cecp_lines.specs.declared.reply.UserError.TheVariants as user_error
 use Rattle.cecp_lines.specs.Replies.{Reply}
 use Rattle.cecp_lines.specs.Replies as cecp
+use Rattle.cecp_lines.specs.Losses.{Loss, quoted}
+use Rattle.cecp_lines.specs.Losses as losses
 use Rattle.uci_lines.specs.Orders.{Order}
 use Rattle.game_record.specs.Game.{Game, current_position}
 use Rattle.game_record.specs.Ending.{ended_of}
@@ -28,15 +30,15 @@ use Rattle.desk_rules.specs.declared.desk.Desk.{Desk}
 use Rattle.desk_rules.specs.Desk.{Situation, call_of_desk, call_before, owed_at, is_boot, is_gone, is_full, on_move, game_played, plays}
 use Rattle.desk_rules.specs.Lines.{change, desk_at_position, new_mode}
 use Rattle.desk_rules.specs.Steps.{Effect, Refuses, Accepts, Boots, Thinks, Shows, Forfeits, Dies, searched_by, shows_thinking, named_hint, spelling_of, desk_after_effect, is_death, over_where, resigns_after, resigns_at_end, resigns_when_gone}
-use Rattle.desk_rules.specs.Replies.{result_reply_of, list_where, resign_where, early_refusals, reply_row, repeated_thinking, replies_of}
+use Rattle.desk_rules.specs.Replies.{result_reply_of, list_where, resign_where, giving_up, given_up_where, early_refusals, reply_row, repeated_thinking, replies_of}
 use Rattle.desk_rules.specs.Fits.{EffectFitsDesk, IsServed}
 use Rattle.adapter_core.specs.Alone.{is_of_iface}
 use Rattle.adapter_core.specs.Trace.{State, Step, IsLawfulStep, LawfulTrace, state, situation_of_state, effect, owed_after, closed_after, step_hits, desk_of}
 use Rattle.adapter_core.proofs.Fresh.{calls_move, plays_now, call_is, closed_calls}
 use Rattle.adapter_core.proofs.Sides.{IsIfaceAction, iface_effect, closed_still}
 use Rattle.adapter_core.proofs.Traces.{Lasts, lasts, fits}
-use Rattle.trace_laws.specs.Resigning.{resigns_in, IsOnMove, GoneEngineOwesNothing, GamesEndAloud, gives_side, resigns_since_side, ResignsOnce}
-use Rattle.trace_laws.specs.Wire.{Gone, on_wire}
+use Rattle.trace_laws.specs.Resigning.{resigns_in, IsOnMove, GoneEngineOwesNothing, GoneEngineGivesUp, GamesEndAloud, gives_side, resigns_since_side, ResignsOnce}
+use Rattle.trace_laws.specs.Wire.{Gone, on_wire, wire}
 use Rattle.trace_laws.proofs.Heard.{engine_on_wire}
 use Rattle.trace_laws.proofs.ResignLines.{joined, none_joined, no_list, no_result, no_refusal, no_early, no_line, no_thinking, no_repeated, no_answer, no_pongs}
 
@@ -74,10 +76,10 @@ gone_owes o t l w c g i =
 
 -- WHAT GIVES A GAME UP
 
--- the row of the effect has a `resign`
+-- the row of the effect gives the game up
 abbrev gives_up : Situation → Effect → Bool
 gives_up h (Shows best hint) = resigns_after h best
-gives_up h Forfeits = true
+gives_up h (Forfeits answer) = true
 gives_up h Dies = resigns_at_end h
 gives_up h d = false
 
@@ -88,10 +90,18 @@ resign_where_is : (b : Bool) → resigns_in (resign_where b) ≡ one_where b
 resign_where_is true = refl
 resign_where_is false = refl
 
+reason_is : (reasons : Bool) (side : Side) (loss : Loss) → resigns_in (giving_up reasons side loss ∷ []) ≡ 1
+reason_is true side loss = refl
+reason_is false side loss = refl
+
+given_up_is : (b : Bool) (o : Settings) (g : Game) → resigns_in (given_up_where b o g) ≡ one_where b
+given_up_is true o g = reason_is o.result_reasons (on_move g) losses.Ended
+given_up_is false o g = refl
+
 behind_none : (xs : List Reply) (b : Bool) → resigns_in xs ≡ 0 → resigns_in (xs ++ resign_where b) ≡ one_where b
 behind_none xs b n = omega (arith, joined xs (resign_where b), n, resign_where_is b)
 
-row_is : (h : Situation) (d : Effect) → resigns_in (reply_row h d) ≡ one_where (gives_up h d)
+pub row_is : (h : Situation) (d : Effect) → resigns_in (reply_row h d) ≡ one_where (gives_up h d)
 unfolding reply_row
 row_is h (Refuses r line) = no_refusal r line
 row_is h (Accepts m) = no_answer h m
@@ -103,15 +113,17 @@ row_is h (Thinks k facts) =
     let hint = named_hint k h.desk.game h.desk.hint in
     no_thinking (shows_thinking h k) (thinking_line s facts p hint) (no_line facts.depth facts.score (run_texts s p (legal_run p facts.pv)) facts s (hint_text s hint))
 row_is h (Shows best hint) = behind_none (result_reply_of (game_played h.desk.game best)) (resigns_after h best) (no_result (on_move (game_played h.desk.game best)) (ended_of (game_played h.desk.game best)))
+row_is h (Forfeits answer) = reason_is h.settings.result_reasons (on_move h.desk.game) (losses.IllegalMove (quoted answer))
 row_is h Dies =
-    omega (arith, joined (list_where h.desk.due h.desk) (cecp.TellError user_error.Ended ∷ resign_where (resigns_at_end h)), no_list h.desk.due h.desk, resign_where_is (resigns_at_end h))
+    let gone = given_up_where (resigns_at_end h) h.settings h.desk.game in
+    omega (arith, joined (list_where h.desk.due h.desk) (cecp.TellError user_error.Ended ∷ gone), no_list h.desk.due h.desk, given_up_is (resigns_at_end h) h.settings h.desk.game)
 row_is h d = refl
 
--- the `resign`s of a step
+-- the lines of a step that give a game up
 step_is : (closed owes hits : Bool) (h : Situation) (d : Effect) → closed ≡ false → resigns_in (replies_of closed owes hits h d) ≡ one_where (gives_up h d) + one_where (resigns_when_gone closed h d)
 step_is true owes hits h d c = cc
 step_is false owes hits h d c =
-    let resign = resign_where (resigns_when_gone false h d) in
+    let resign = given_up_where (resigns_when_gone false h d) h.settings (desk_after_effect h d).game in
     let repeats = h.settings.repeat_thinking && hits in
     let last = (desk_after_effect h d).last_thinking in
     let again = repeated_thinking repeats last in
@@ -122,7 +134,7 @@ step_is false owes hits h d c =
       joined (reply_row h d ++ resign) again,
       joined (reply_row h d) resign,
       row_is h d,
-      resign_where_is (resigns_when_gone false h d),
+      given_up_is (resigns_when_gone false h d) h.settings (desk_after_effect h d).game,
       no_repeated repeats last,
       no_pongs owes (desk_after_effect h d).pings,
     )
@@ -140,7 +152,7 @@ over_is false m e = cc
 over_then : (h : Situation) (d : Effect) → gives_up h d ≡ true → (desk_after_effect h d).mode ≡ modes.Over
 unfolding desk_after_effect
 over_then h (Shows best hint) g = over_is (resigns_after h best) h.desk.mode g
-over_then h Forfeits g = refl
+over_then h (Forfeits answer) g = refl
 over_then h Dies g = over_is (resigns_at_end h) h.desk.mode g
 over_then h d g = cc
 
@@ -157,19 +169,19 @@ mode_plays g modes.Analyse e = cc
 moves_plays : (closed gone : Bool) (d : Desk) → is_move (call_of_desk closed gone d) ≡ true → plays d.mode ≡ true
 moves_plays closed gone d e = mode_plays d.game d.mode (and_parts (not ((closed || gone) || is_full d.game)) (plays_now d.game d.mode) (sym (call_is closed gone d) ∙ e)).1
 
-move_served : (c : Call) → SearchServesCall kinds.Move c → is_move c ≡ true
+pub move_served : (c : Call) → SearchServesCall kinds.Move c → is_move c ≡ true
 move_served calls.Move s = refl
 move_served calls.Nothing s = absurd (cc (s.0))
 move_served (calls.Ponder g) s = absurd (cc (s.1))
 move_served calls.Analyse s = absurd (cc (s.1))
 
-owed_move : (spent : Bool) (c : Call) → is_move (owed_at spent c) ≡ true → is_move c ≡ true
+pub owed_move : (spent : Bool) (c : Call) → is_move (owed_at spent c) ≡ true → is_move c ≡ true
 owed_move true c e = cc
 owed_move false c e = e
 
 played_before : (h : Situation) (held : List Order) (d : Effect) → EffectFitsDesk h held d → IsServed h → gives_up h d ≡ true → plays h.desk.mode ≡ true
 played_before h held (Shows best hint) f s g = moves_plays h.closed (is_gone h.engine) h.desk (move_served (call_before h) (s f.0 kinds.Move f.1))
-played_before h held Forfeits f s g = moves_plays h.closed (is_gone h.engine) h.desk (move_served (call_before h) (s f.0 kinds.Move f.1))
+played_before h held (Forfeits answer) f s g = moves_plays h.closed (is_gone h.engine) h.desk (move_served (call_before h) (s f.0 kinds.Move f.1))
 played_before h held Dies f s g = moves_plays h.closed (is_gone h.engine) h.desk (owed_move h.spent (call_before h) (and_parts (is_move (owed_at h.spent (call_before h))) (not h.closed) g).0)
 played_before h held d f s g = cc
 
@@ -198,7 +210,7 @@ plays_back : (h : Situation) (d : Effect) → gives_side d ≡ false → plays (
 unfolding desk_after_effect
 plays_back h (Accepts m) g e = line_back (is_boot h.engine) h.desk m g e
 plays_back h (Shows best hint) g e = over_back (resigns_after h best) h.desk.mode e
-plays_back h Forfeits g e = cc
+plays_back h (Forfeits answer) g e = cc
 plays_back h Dies g e = over_back (resigns_at_end h) h.desk.mode e
 plays_back h d g e = e
 
@@ -229,7 +241,7 @@ over_by : (h : Situation) (d : Effect) → gives_up h d ≡ false → (desk_afte
 unfolding desk_after_effect
 over_by h (Accepts m) g e = line_over (is_boot h.engine) h.desk m e
 over_by h (Shows best hint) g e = inl (still_over (resigns_after h best) h.desk.mode g e)
-over_by h Forfeits g e = cc
+over_by h (Forfeits answer) g e = cc
 over_by h Dies g e = inl (still_over (resigns_at_end h) h.desk.mode g e)
 over_by h d g e = inl e
 
@@ -240,9 +252,19 @@ none_resigns true true owes e = e
 none_resigns true false owes e = refl
 none_resigns false gone owes e = refl
 
+all_three : (wants gone owes : Bool) → wants ≡ true → gone ≡ true → owes ≡ true → (wants && (gone && owes)) ≡ true
+all_three true true owes a b c = c
+all_three true false owes a b c = cc
+all_three false gone owes a b c = cc
+
+either_gone : (gone : Bool) (d : Effect) → (gone ≡ true) ⊎ (d ≡ Dies) → (gone || is_death d) ≡ true
+either_gone true d x = refl
+either_gone false d (inl e) = cc
+either_gone false d (inr e) = ap is_death e
+
 iface_keeps : (h : Situation) (d : Effect) → IsIfaceAction d → gives_up h d ≡ false
 iface_keeps h (Shows best hint) i = absurd i
-iface_keeps h Forfeits i = absurd i
+iface_keeps h (Forfeits answer) i = absurd i
 iface_keeps h Dies i = absurd i
 iface_keeps h d i = refl
 
@@ -253,7 +275,7 @@ not_closed false c e = refl
 
 closed_keeps : (h : Situation) (held : List Order) (d : Effect) → EffectFitsDesk h held d → h.closed ≡ true → gives_up h d ≡ false
 closed_keeps h held (Shows best hint) f c = absurd (both_ways h.closed f.0 c)
-closed_keeps h held Forfeits f c = absurd (both_ways h.closed f.0 c)
+closed_keeps h held (Forfeits answer) f c = absurd (both_ways h.closed f.0 c)
 closed_keeps h held Dies f c = not_closed (is_move (owed_at h.spent (call_before h))) h.closed c
 closed_keeps h held d f c = refl
 
@@ -308,6 +330,14 @@ module _ (s : State) (step : Step) (last : Lasts s) (l : IsLawfulStep s step) wh
     by : (b : Bool) → when_gone ≡ b → when_gone ≡ false
     by true w = let p = gone_plays w in let o = ap plays (over_then h d g) in absurd (both_ways (plays (desk_after_effect h d).mode) o p)
     by false w = w
+
+  -- an engine that is gone gives up in one line
+  gone_once : closed ≡ false → s.settings.resign_when_gone ≡ true → (is_gone h.engine || is_death d) ≡ true → IsOnMove (desk_after_effect h d) → resigns_in step.replies ≡ 1
+  gone_once c wants gone i =
+      let owing = call_is closed false (desk_after_effect h d) ∙ moves_then closed (desk_after_effect h d) c i in
+      let now = all_three s.settings.resign_when_gone (is_gone h.engine || is_death d) (is_move (call_of_desk closed false (desk_after_effect h d))) wants gone owing in
+      let row = false_from_ne_true (gives_up h d) (λ g. both_ways when_gone now (not_both g)) in
+      omega (arith, open_resigns c, ap one_where row, ap one_where now)
 
   -- ONCE
 
@@ -373,3 +403,13 @@ resigns_once o t l = (few o t l).few
 
 pub games_end_aloud : (o : Settings) → GamesEndAloud o
 games_end_aloud o step t l n e = aloud (state o t) step (lasts o t l.0) l.1 n e
+
+gone_before : (o : Settings) (t : List Step) (d : Effect) → (wire t ≡ Gone) ⊎ (d ≡ Dies) → (is_gone (situation_of_state (state o t)).engine ≡ true) ⊎ (d ≡ Dies)
+gone_before o t d (inl g) = inl (gone_state (state o t).dialogue.epoch (state o t).dialogue.engine (engine_on_wire o t ∙ g))
+gone_before o t d (inr e) = inr e
+
+pub gone_gives_up : (o : Settings) → GoneEngineGivesUp o
+gone_gives_up o step t l w c x i =
+    let s = state o t in
+    let gone = either_gone (is_gone (situation_of_state s).engine) (effect s step.event) (gone_before o t (effect s step.event) x) in
+    gone_once s step (lasts o t l.0) l.1 c (ap (λ (x : Settings). x.resign_when_gone) (settings_stay o t) ∙ w) gone i

@@ -67,7 +67,7 @@ not_answered epoch (Search k t s) b i = cc
 
 boot_answer : (s : State) (d : Effect) → EffectFitsDesk (situation_of_state s) s.held d → s.dialogue.engine ≡ Boot → is_move_answer d ≡ false
 boot_answer s (Shows best hint) f b = absurd (not_answered s.dialogue.epoch s.dialogue.engine b f.1)
-boot_answer s Forfeits f b = absurd (not_answered s.dialogue.epoch s.dialogue.engine b f.1)
+boot_answer s (Forfeits answer) f b = absurd (not_answered s.dialogue.epoch s.dialogue.engine b f.1)
 boot_answer s d f b = refl
 
 -- before the orders

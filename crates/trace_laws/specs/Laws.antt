@@ -11,7 +11,8 @@ use Rattle.trace_laws.specs.FirstAndLast.{UciIsFirst, QuitIsLast}
 use Rattle.trace_laws.specs.Fences.{SearchesAreFenced, StoppedSearchIsUnfenced}
 use Rattle.trace_laws.specs.Limits.{CoresAreWithinLimits}
 use Rattle.trace_laws.specs.Pings.{NoneIsHeld, PingsHavePongs, PongsWait}
-use Rattle.trace_laws.specs.Resigning.{GoneEngineOwesNothing, GamesEndAloud, ResignsOnce}
+use Rattle.trace_laws.specs.PlainTexts.{FeaturesArePlain}
+use Rattle.trace_laws.specs.Resigning.{GoneEngineOwesNothing, GoneEngineGivesUp, GamesEndAloud, LosersAreTheEngines, ResignsOnce}
 use Rattle.trace_laws.specs.Searched.{SearchesAreTheDesks, MovesAnswerTheDesk}
 use Rattle.trace_laws.specs.Values.{LastAskedStands, SearchesHaveSettings}
 use Rattle.trace_laws.specs.Wire.{EndsAreOnWire, EngineIsOnWire, GoLineFollowsPosition}
@@ -72,10 +73,15 @@ pub record HasLaws (o : Settings) : Type 0 where
   pub early_lines_wait : EarlyLinesWait o
   pub early_lines_in_time : EarlyLinesComeInTime o
   pub refused_early_lines : RefusedEarlyLinesChangeNothing o
-  -- an engine that is gone owes no move if it resigns then, a game is given up aloud, and the
-  -- engine resigns once at most until it is given a side anew
+  -- an engine that is gone owes no move if it resigns then, and the step says so; a game is given up
+  -- aloud, and the engine gives up once at most until it is given a side anew; where the result says
+  -- how, it is the engine's side that has lost
   pub gone_owes_nothing : GoneEngineOwesNothing o
+  pub gone_gives_up : GoneEngineGivesUp o
   pub games_end_aloud : GamesEndAloud o
   pub resigns_once : ResignsOnce o
+  pub losers_are_the_engines : LosersAreTheEngines o
+  -- with PlainTexts on the interface is offered plain texts
+  pub features_plain : FeaturesArePlain o
   -- what a core holds
   pub within_limits : CoresAreWithinLimits o

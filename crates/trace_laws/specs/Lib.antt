@@ -11,3 +11,4 @@ pub mod EarlyLines
 pub mod Laws
 pub mod OneLine
 pub mod Fences
+pub mod PlainTexts

@@ -1,5 +1,5 @@
 -- The meaning of a line of the engine.
-use Rattle.std.specs.Prelude.{ℕ, List, codes, true, if◌then◌else◌, Option, Some, None}
+use Rattle.std.specs.Prelude.{ℕ, List, [], codes, true, if◌then◌else◌, Option, Some, None}
 use Rattle.protocol_tokens.specs.Tokens.{first_token, rest_after_token}
 use Rattle.chess_board.specs.declared.board.Move.{Move}
 use Rattle.uci_lines.specs.Cuts.{Found, found_token, is_word, is_known}
@@ -22,6 +22,15 @@ abbrev pub best_said : List ℕ → EngineMsg
 best_said text =
     Best (move_spelled_by (first_token text))
     (hint_in_bestmove (found_token (is_word (codes "ponder")) true (rest_after_token text)))
+
+-- the token behind `bestmove`, whatever it spells
+abbrev pub answer_after : Option Found → List ℕ
+answer_after None = []
+answer_after (Some part) =
+    if is_word (codes "bestmove") part.word then first_token part.after else []
+
+unfoldable pub answer_text : List ℕ → List ℕ
+answer_text line = answer_after (found_token is_known true line)
 
 -- a known word, with what follows it
 abbrev pub said_after : List ℕ → List ℕ → EngineMsg

@@ -1,9 +1,10 @@
 // Reads what an engine says.
-ghost use Rattle.std.specs.Prelude.{◌≡◌, ◌↔◌};
-ghost use Rattle.uci_lines.specs.Engine.{name_said, best_said, said_after, engine_message};
+ghost use Rattle.std.specs.Prelude.{◌≡◌, ◌↔◌, ℕ, List, codes};
+ghost use Rattle.protocol_tokens.specs.Tokens.{first_token};
+ghost use Rattle.uci_lines.specs.Engine.{name_said, best_said, said_after, answer_text, engine_message};
 ghost use Rattle.uci_lines.specs.Writable.{CanWriteEngineMsg};
 ghost use Rattle.uci_lines.specs.Messages.{EngineMsg as AnyEngineMsg, uci_message_of};
-ghost use Rattle.uci_lines.specs.Spells.{SpellsMessage};
+ghost use Rattle.uci_lines.specs.Spells.{SpellsMessage, FirstKnownWordIs};
 
 use crate::cut::{Delimiter, find_word, is_word};
 use crate::info::read_info;
@@ -77,4 +78,24 @@ pub fn read_engine(line: &[u8]) -> EngineMsg<'_>
     ensures writable { CanWriteEngineMsg (uci_message_of result) }
 {
     read_message(line)
+}
+
+#[tactic(auto, unfolding(crate::specs::Engine::answer_text))]
+fn find_answer(line: &[u8]) -> &[u8]
+    ensures { result.now ≡ answer_text line.now }
+{
+    match find_word(line, Delimiter::Message) {
+        Some(found) if is_word(found.word, "bestmove") => split_token(found.after).0,
+        _ => b"",
+    }
+}
+
+/// The token behind `bestmove`, whatever it spells; nothing if there is none, or if the line says something else.
+pub fn answer_text(line: &[u8]) -> &[u8]
+    ensures value { result.now ≡ answer_text line.now }
+    // The first known word of the line is `bestmove`, and the answer is the next token.
+    ensures answer { (text : List ℕ) → FirstKnownWordIs line.now (codes "bestmove") text
+        → result.now ≡ first_token text }
+{
+    find_answer(line)
 }

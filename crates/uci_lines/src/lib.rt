@@ -28,7 +28,7 @@ mod orders;
 mod range;
 mod written;
 
-pub use engine::read_engine;
+pub use engine::{answer_text, read_engine};
 pub use laws::lines_say_one_message;
 pub use messages::{EngineMsg, Info, OptionKind, OptionMsg, Score};
 pub use moves::next_move;

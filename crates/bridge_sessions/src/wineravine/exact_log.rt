@@ -35,7 +35,7 @@ const OUTPUT: &[u8] = b"Error (unknown option): option Nope=1\npong 3\n";
 const LOG: &[u8] = b"\
     #3 Resign=false ResignMoves=3 ResignScore=600 ShowPonder=true EarlySettings=true \
     ResignWhenGone=true HandleDraws=true ShowSan=true StrengthOptions=true FenceStops=true \
-    TimeMargin=20 RepeatThinking=true\n\
+    ResultReasons=true TimeMargin=20 PlainTexts=true PathOptions=true RepeatThinking=true\n\
     # 0\n\
     U uci\n\
     # 1\n\

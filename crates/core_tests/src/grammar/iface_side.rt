@@ -4,7 +4,8 @@ use crate::rows::{
     bytes_in, bytes_of, cut, first, move_in, move_of, number_of, signed_of, small_of,
 };
 use cecp_engine_lines::{read_reply, write_iface, written_messages_are_read_again};
-use cecp_lines::{IfaceMsg, Outcome, Reason, Reply, Spelling, UserError};
+use cecp_lines::{IfaceMsg, Loss, Outcome, Reason, Reply, Spelling, UserError};
+use chess_board::Side;
 use line_io::Out;
 use std::process::Abort;
 
@@ -21,6 +22,10 @@ Error (unknown command): foo|unknown|line=foo
 Error (line too long): ...|big line|line=...
 tellusererror Illegal position|told
 1/2-1/2 {Draw by repetition}|repetition
+0-1 {Illegal move by engine: e2e5}|white|answer=e2e5
+1-0 {Illegal move by engine: !abcdefghijklmn~}|dark|answer=!abcdefghijklmn~
+1-0 {Illegal move by engine}|dark
+0-1 {Engine ended}|ended
 Hint: e1g1|hint|move=e1g1";
 
 const THINKING: &str =
@@ -44,6 +49,13 @@ pong 4294967296|none
 move a7a8N|none
 Illegal move:e2e4|none
 Error (bad value): x |none
+1-0 {Illegal move by engine: }|none
+1-0 {Illegal move by engine: abcdefghijklmnopq}|none
+1-0 {Illegal move by engine: e7{e5}|none
+1-0 {Illegal move by engine: e7}e5}|none
+1-0 {Illegal move by engine: e7 e5}|none
+1-0 {Illegal move by engine: e7e5} |none
+1/2-1/2 {Engine ended}|none
 12 -35 1518 456789 |none";
 
 // Thinking lines in neither spelling: both are mixed, or a text is not as it is written.
@@ -70,6 +82,10 @@ fn thinking<'a>(rt: &impl Abort, spelling: Spelling, fields: &'a str) -> Reply<'
         hint: bytes_in(fields, "hint"),
         pv: bytes_of(rt, fields, "pv"),
     }
+}
+
+fn lost(side: Side, loss: Loss<'_>) -> Reply<'_> {
+    Reply::Lost { side, loss }
 }
 
 fn refusal<'a>(rt: &impl Abort, reason: Reason, fields: &'a str) -> Reply<'a> {
@@ -112,6 +128,9 @@ fn meant<'a>(rt: &impl Abort, want: &'a str) -> Option<Reply<'a>> {
         b'b' => refusal(rt, Reason::LineTooLong, fields),
         b't' => Reply::TellError(UserError::Position),
         b'r' => Reply::Result(Outcome::Repetition),
+        b'w' => lost(Side::White, Loss::IllegalMove(bytes_in(fields, "answer"))),
+        b'd' => lost(Side::Black, Loss::IllegalMove(bytes_in(fields, "answer"))),
+        b'e' => lost(Side::White, Loss::Ended),
         b'c' => thinking(rt, Spelling::Coordinates, fields),
         b'a' => thinking(rt, Spelling::San, fields),
         _ => moved(rt, kind, fields),

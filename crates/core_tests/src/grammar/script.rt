@@ -54,7 +54,10 @@ const LONGEST: Settings = Settings {
     show_san: false,
     strength_options: false,
     fence_stops: true,
+    result_reasons: true,
     time_margin: 10_000,
+    plain_texts: true,
+    path_options: true,
     repeat_thinking: true,
 };
 
@@ -62,9 +65,9 @@ const LONGEST: Settings = Settings {
 fn writes_the_longest_header(rt: HostRuntime) {
     let mut out = Out::make(rt.alloc(), HEADER_ROOM).expect(&rt, "memory");
     write_header(&LONGEST, &mut out);
-    let ends = out
-        .bytes()
-        .ends_with(b"FenceStops=true TimeMargin=10000 RepeatThinking=true");
+    let ends = out.bytes().ends_with(
+        b" TimeMargin=10000 PlainTexts=true PathOptions=true RepeatThinking=true",
+    );
     expect(&rt, ends, "later settings last");
     expect(&rt, read_header(out.bytes()) == Some(LONGEST), "longest");
 }

@@ -2,10 +2,17 @@
 use crate::expect::{expect, expect_text, room};
 use cecp_lines::IfaceMsg;
 use line_io::Out;
-use option_map::{Declared, HeldOrders, Options};
+use option_map::{Declared, FeatureStyle, HeldOrders, Options};
 use std::alloc::Global;
 use std::process::Abort;
 use uci_lines::{EngineMsg, OptionKind, OptionMsg, read_engine};
+
+/// The style in which options are shown if no setting says otherwise.
+const USUAL: FeatureStyle = FeatureStyle {
+    strength: false,
+    plain: false,
+    paths: false,
+};
 
 /// A line of an engine, and what comes of it.
 type Row = (&'static str, Declared);
@@ -47,7 +54,7 @@ fn option_of<'a>(rt: &impl Abort, line: &'a str) -> OptionMsg<'a> {
 /// Declares what each line tells, and compares what comes of it.
 fn expect_reported(rt: &impl Abort, rows: &[Row], options: &mut Options) {
     for (line, want) in rows {
-        let reported = options.declare(&option_of(rt, line), false);
+        let reported = options.declare(&option_of(rt, line), USUAL);
         expect(rt, reported == *want, line);
     }
 }
@@ -59,7 +66,7 @@ fn are_so_many(options: &Options, count: usize, text: usize) -> bool {
 
 /// True if an option is declared, and there are so many then, and their texts are so long.
 fn declares(msg: &OptionMsg, count: usize, text: usize, options: &mut Options) -> bool {
-    options.declare(msg, false) == Declared::Done && are_so_many(options, count, text)
+    options.declare(msg, USUAL) == Declared::Done && are_so_many(options, count, text)
 }
 
 /// Declares what each line tells where nothing else is declared, and compares what comes of it.
@@ -99,7 +106,7 @@ fn fill_table(options: &mut Options) {
                 name: &[*first, *second],
                 kind: OptionKind::Button,
             };
-            options.declare(&msg, false);
+            options.declare(&msg, USUAL);
         }
     }
 }
@@ -204,6 +211,6 @@ fn translates_a_line(rt: HostRuntime) {
         name: b"MultiPV",
         kind: OptionKind::Button,
     };
-    options.declare(&msg, false);
+    options.declare(&msg, USUAL);
     expect_translated(&rt, rt.alloc(), &options);
 }

@@ -3,7 +3,7 @@ use crate::expect::expect;
 use policy_rules::{Range, SETTINGS, Setting, Settings, Value, name_in, read_number};
 
 /// A name, and the text of its usual value.
-const ROWS: [(&str, &str); 12] = [
+const ROWS: [(&str, &str); 15] = [
     ("Resign", "false"),
     ("ResignMoves", "3"),
     ("ResignScore", "600"),
@@ -14,7 +14,10 @@ const ROWS: [(&str, &str); 12] = [
     ("ShowSan", "false"),
     ("StrengthOptions", "false"),
     ("FenceStops", "false"),
+    ("ResultReasons", "false"),
     ("TimeMargin", "0"),
+    ("PlainTexts", "false"),
+    ("PathOptions", "false"),
     ("RepeatThinking", "false"),
 ];
 

@@ -9,6 +9,7 @@ use Rattle.protocol_tokens.specs.declared.kinds.GoKind.TheVariants as kinds
 use Rattle.protocol_tokens.specs.Tokens.{is_white, is_token, tokens}
 use Rattle.protocol_tokens.proofs.TokenLists.{tokens_more, tokens_alone, tokens_white}
 use Rattle.protocol_tokens.proofs.Written.{not_white}
+use Rattle.chess_board.specs.declared.board.Side.TheVariants.{White, Black}
 use Rattle.cecp_lines.specs.Replies.{Reply, reply_text, hint_in_parentheses}
 use Rattle.cecp_lines.specs.Replies as cecp
 use Rattle.cecp_lines.specs.declared.reply.UserError.TheVariants as user_errors
@@ -198,4 +199,6 @@ reply_action (cecp.Thinking depth score time nodes spelling hint pv) h =
     thinking_quiet depth (reply_text (cecp.Thinking depth score time nodes spelling hint pv)) others whole
 reply_action (cecp.TellError user_errors.Position) h = refl
 reply_action (cecp.Result outcomes.WhiteMates) h = refl
+reply_action (cecp.Lost White loss) h = refl
+reply_action (cecp.Lost Black loss) h = refl
 reply_action r h = refl

@@ -9,7 +9,9 @@ use Rattle.uci_lines.specs.Messages.{EngineMsg, OptionKind}
 use Rattle.option_map.specs.declared.declared_options.declared.Declared.TheVariants as outcome
 use Rattle.option_map.specs.DeclaredOptions.Names.{holds, is_hidden, is_bad_name, has_value_token, same_text}
 use Rattle.option_map.specs.DeclaredOptions.Choices.{with_star, unstarred, is_bad_value, are_bad_values, is_empty_value, begins_with_star, has_bars}
-use Rattle.option_map.specs.DeclaredOptions.Settings.{OptionSetting, SettingKind, Spin, Combo, shown_kind, hidden_kind, setting_from_option, is_bad_shape, is_unshowable, grown_by, declared_beside, is_combo_full, option_by_name}
+use Rattle.option_map.specs.DeclaredOptions.Settings.{OptionSetting, SettingKind, Spin, Combo, shown_kind, hidden_kind, setting_from_option, is_bad_shape, cannot_be_shown, is_unshowable, grown_by, declared_beside, is_combo_full, option_by_name}
+use Rattle.option_map.specs.DeclaredOptions.Styles.{is_not_plain}
+use Rattle.option_map.specs.declared.declared_options.style.FeatureStyle.{FeatureStyle}
 use Rattle.option_map.specs.DeclaredOptions.Spelled.{IsDeclared, AreDeclared, StayDeclared}
 use Rattle.option_map.proofs.DeclaredOptions.Values.{IsPiece, IsValue, IsName, line_part, piece_value, trimmed_text}
 use Rattle.option_map.proofs.DeclaredOptions.HeardOptions.{IsCount, IsHeardShape, IsHeardOption, message_heard}
@@ -109,18 +111,18 @@ pub record IsUsable (o : OptionSetting) : Type 0 where
   pub name : IsName o.name
   pub kind : IsSound o.kind
 
-usable_kept : (strength : Bool) (name : List ℕ) (shape : OptionKind) → IsPiece 65536 name × IsHeardShape shape → is_unshowable name shape ≡ false → IsUsable (setting_from_option strength name shape)
-usable_kept strength name shape h u =
-    let parts = or_parts (is_bad_name name) (is_bad_shape shape) u in
+usable_kept : (style : FeatureStyle) (name : List ℕ) (shape : OptionKind) → IsPiece 65536 name × IsHeardShape shape → is_unshowable style name shape ≡ false → IsUsable (setting_from_option style name shape)
+usable_kept style name shape h u =
+    let parts = or_parts (is_bad_name name) (is_bad_shape shape) (or_parts (cannot_be_shown name shape) (is_not_plain style name shape) u).0 in
     record {
       name = name_of name h.0 parts.0;
-      kind = sound_either (is_hidden strength name) (hidden_kind shape) (shown_kind shape) (sound_hidden shape h.1) (sound_shown shape h.1 parts.1);
+      kind = sound_either (is_hidden style.strength name) (hidden_kind shape) (shown_kind shape) (sound_hidden shape h.1) (sound_shown shape h.1 parts.1);
     }
 
 pub usable : (o : OptionSetting) → IsDeclared o → IsUsable o
 usable o d =
     let heard : IsPiece 65536 d.name × IsHeardShape d.shape = subst (λ (m : EngineMsg). IsHeardOption m) d.says (message_heard d.line (line_part d.line d.is_line)) in
-    subst (λ (x : OptionSetting). IsUsable x) (sym d.kept_is) (usable_kept d.strength d.name d.shape heard d.showable)
+    subst (λ (x : OptionSetting). IsUsable x) (sym d.kept_is) (usable_kept d.style d.name d.shape heard d.showable)
 
 -- the option that a name finds
 find_step : (w : Bool) (o : OptionSetting) (later : Option OptionSetting) → IsDeclared o → IfSome later IsDeclared → IfSome (cond w (Some o) later) IsDeclared
@@ -152,11 +154,11 @@ beside_step : (other : Option OptionSetting) (os : List OptionSetting) (o : Opti
 beside_step (Some other) os o h d = h
 beside_step None os o h d = full_step (is_combo_full os o) os o h d
 
-show_step : (strength w : Bool) (os : List OptionSetting) (name : List ℕ) (shape : OptionKind) → is_unshowable name shape ≡ w → AreDeclared os → (w ≡ false → IsDeclared (setting_from_option strength name shape))
-    → AreDeclared (grown_by (cond w outcome.Unshowable (declared_beside (option_by_name name os) os (setting_from_option strength name shape))) os (setting_from_option strength name shape))
-show_step strength true os name shape e h f = h
-show_step strength false os name shape e h f = beside_step (option_by_name name os) os (setting_from_option strength name shape) h (f refl)
+show_step : (style : FeatureStyle) (w : Bool) (os : List OptionSetting) (name : List ℕ) (shape : OptionKind) → is_unshowable style name shape ≡ w → AreDeclared os → (w ≡ false → IsDeclared (setting_from_option style name shape))
+    → AreDeclared (grown_by (cond w outcome.Unshowable (declared_beside (option_by_name name os) os (setting_from_option style name shape))) os (setting_from_option style name shape))
+show_step style true os name shape e h f = h
+show_step style false os name shape e h f = beside_step (option_by_name name os) os (setting_from_option style name shape) h (f refl)
 
 pub stay_declared : StayDeclared
-stay_declared strength os line name shape h l e =
-    show_step strength (is_unshowable name shape) os name shape refl h (λ u. record { strength = strength; line = line; name = name; shape = shape; is_line = l; says = e; showable = u; kept_is = refl })
+stay_declared style os line name shape h l e =
+    show_step style (is_unshowable style name shape) os name shape refl h (λ u. record { style = style; line = line; name = name; shape = shape; is_line = l; says = e; showable = u; kept_is = refl })

@@ -8,6 +8,8 @@ use Rattle.option_map.specs.DeclaredOptions.Names.{same_text}
 use Rattle.option_map.specs.DeclaredOptions.Choices.{bars_length, are_bad_values, choices_text, with_star, with_bars, with_quotes}
 use Rattle.option_map.specs.DeclaredOptions.Settings.{kept_as, kept_kind, shown_length, feature_line, text_size, OptionSetting, if_within}
 use Rattle.option_map.specs.DeclaredOptions.Stored.{kind_kept}
+use Rattle.option_map.specs.DeclaredOptions.Styles.{text_word}
+use Rattle.option_map.specs.declared.declared_options.style.TextFeature.{TextFeature}
 
 abbrev pub bit : Bool → ℕ
 bit true = 1
@@ -104,22 +106,22 @@ line_length : (name tail : List ℕ) → length (codes "feature option=\"" ++ na
 line_length name tail =
     omega (arith, length-append (codes "feature option=\"" ++ name ++ tail) (codes "\""), length-append (codes "feature option=\"" ++ name) tail, length-append (codes "feature option=\"") name)
 
-small_by : (w : Bool) (name : List ℕ) (shape : OptionKind) → length (kind_kept (kept_kind w shape)) ≤ (if w then 0 else length (feature_line (record { name = name; kind = kept_kind w shape; hidden = w })))
-small_by true name (Check on) = omega arith
-small_by true name (Spin default min max) = omega arith
-small_by true name (Combo default values) = omega arith
-small_by true name Button = omega arith
-small_by true name (Text default) = omega arith
-small_by false name (Check on) = omega arith
-small_by false name (Spin default min max) = omega arith
-small_by false name (Combo default values) =
+small_by : (w : Bool) (f : TextFeature) (name : List ℕ) (shape : OptionKind) → length (kind_kept (kept_kind w shape)) ≤ (if w then 0 else length (feature_line (record { name = name; kind = kept_kind w shape; hidden = w; text_feature = f })))
+small_by true f name (Check on) = omega arith
+small_by true f name (Spin default min max) = omega arith
+small_by true f name (Combo default values) = omega arith
+small_by true f name Button = omega arith
+small_by true f name (Text default) = omega arith
+small_by false f name (Check on) = omega arith
+small_by false f name (Spin default min max) = omega arith
+small_by false f name (Combo default values) =
     omega (arith, quoted_choices (with_star default values), line_length name (codes " -combo " ++ choices_text (with_star default values)), length-append (codes " -combo ") (choices_text (with_star default values)))
-small_by false name Button = omega arith
-small_by false name (Text default) = omega (arith, line_length name (codes " -string " ++ default), length-append (codes " -string ") default)
+small_by false f name Button = omega arith
+small_by false f name (Text default) = omega (arith, line_length name (text_word f ++ default), length-append (text_word f) default)
 
 -- The parts kept of an option take no more room than its line.
-pub kept_small : (hidden : Bool) (name : List ℕ) (shape : OptionKind) → length (kind_kept (kept_kind hidden shape)) ≤ shown_length (kept_as hidden name shape)
-kept_small hidden name shape = small_by hidden name shape
+pub kept_small : (hidden : Bool) (feature : TextFeature) (name : List ℕ) (shape : OptionKind) → length (kind_kept (kept_kind hidden shape)) ≤ shown_length (kept_as hidden feature name shape)
+kept_small hidden feature name shape = small_by hidden feature name shape
 
 pub more_text : (os : List OptionSetting) (o : OptionSetting) → text_size (os ++ o ∷ []) ≡ text_size os + shown_length o
 more_text os o = sum_by-append shown_length os (o ∷ []) ∙ ap (λ n. text_size os + n) (zero-add (shown_length o))

@@ -82,7 +82,7 @@ kind_stays texts more (stored.Text default) h = ap (λ (t : List ℕ). Text t) (
 pub settings_stay : (texts more : List ℕ) (es : List (ArrayVec ℕ × Stored)) → AreStored (length texts) es → stored_settings_in (texts ++ more) es ≡ stored_settings_in texts es
 settings_stay texts more [] h = refl
 settings_stay texts more (e ∷ es) h =
-    ap (λ (k : SettingKind). record { name = e.1.name.items; kind = k; hidden = e.1.hidden } ∷ stored_settings_in (texts ++ more) es) (kind_stays texts more e.1.kind h.0.within)
+    ap (λ (k : SettingKind). record { name = e.1.name.items; kind = k; hidden = e.1.hidden; text_feature = e.1.text_feature } ∷ stored_settings_in (texts ++ more) es) (kind_stays texts more e.1.kind h.0.within)
     ∙ ap (λ (rest : List OptionSetting). setting_in texts e.1 ∷ rest) (settings_stay texts more es h.1)
 
 kind_wider : (n m : ℕ) (k : StoredKind) → n ≤ m → IsKindIn n k → IsKindIn m k
@@ -102,14 +102,14 @@ not_looked n texts name key es h e f =
     ap (λ (k : List ℕ). lookup (is_key k) es) e ∙ none_mapped (setting_in texts) (lookup (is_key (folded name)) es) (looked n texts name es h ∙ f)
 
 -- The options with one more.
-pub one_more : (texts more name new : List ℕ) (kind : SettingKind) (es after : List (ArrayVec ℕ × Stored)) (key : ArrayVec ℕ) (o : Stored) → new ≡ texts ++ more → after ≡ es ++ (key, o) ∷ [] → AreStored (length texts) es → o.name.items ≡ name → kind_in new o.kind ≡ kind → stored_settings_in new after ≡ stored_settings_in texts es ++ record { name = name; kind = kind; hidden = o.hidden } ∷ []
+pub one_more : (texts more name new : List ℕ) (kind : SettingKind) (es after : List (ArrayVec ℕ × Stored)) (key : ArrayVec ℕ) (o : Stored) → new ≡ texts ++ more → after ≡ es ++ (key, o) ∷ [] → AreStored (length texts) es → o.name.items ≡ name → kind_in new o.kind ≡ kind → stored_settings_in new after ≡ stored_settings_in texts es ++ record { name = name; kind = kind; hidden = o.hidden; text_feature = o.text_feature } ∷ []
 one_more texts more name new kind es after key o e f h named kinds =
     ap (λ (l : List (ArrayVec ℕ × Stored)). stored_settings_in new l) f
     ∙ map-append (λ (p : ArrayVec ℕ × Stored). setting_in new p.1) es ((key, o) ∷ [])
     ∙ ap (λ (t : List ℕ). stored_settings_in t es ++ setting_in new o ∷ []) e
     ∙ ap (λ (l : List OptionSetting). l ++ setting_in new o ∷ []) (settings_stay texts more es h)
-    ∙ ap (λ (t : List ℕ). stored_settings_in texts es ++ record { name = t; kind = kind_in new o.kind; hidden = o.hidden } ∷ []) named
-    ∙ ap (λ (k : SettingKind). stored_settings_in texts es ++ record { name = name; kind = k; hidden = o.hidden } ∷ []) kinds
+    ∙ ap (λ (t : List ℕ). stored_settings_in texts es ++ record { name = t; kind = kind_in new o.kind; hidden = o.hidden; text_feature = o.text_feature } ∷ []) named
+    ∙ ap (λ (k : SettingKind). stored_settings_in texts es ++ record { name = name; kind = k; hidden = o.hidden; text_feature = o.text_feature } ∷ []) kinds
 
 -- a text that was put after others
 pub text_back : (old t text : List ℕ) (s : TextSpan) → text ≡ old ++ t → s.at ≡ length old → s.at + s.len ≡ length text → text_at text s ≡ t

@@ -7,7 +7,10 @@ use Rattle.uci_lines.specs.Messages.{OptionKind}
 use Rattle.uci_lines.specs.Messages as shapes
 use Rattle.option_map.specs.declared.declared_options.declared.Declared.{Declared}
 use Rattle.option_map.specs.declared.declared_options.declared.Declared.TheVariants.{Unshowable, Double, Full, Done}
+use Rattle.option_map.specs.declared.declared_options.style.FeatureStyle.{FeatureStyle}
+use Rattle.option_map.specs.declared.declared_options.style.TextFeature.{TextFeature}
 use Rattle.option_map.specs.DeclaredOptions.Names.{same_text, holds, is_hidden, is_bad_name}
+use Rattle.option_map.specs.DeclaredOptions.Styles.{is_not_plain, text_feature, text_word}
 use Rattle.option_map.specs.DeclaredOptions.Choices.{with_star, are_bad_values, choices_text}
 use Rattle.line_io.specs.Lines.{line_feed}
 use Rattle.protocol_tokens.specs.Bytes.{quote}
@@ -27,6 +30,8 @@ pub record OptionSetting : Type 0 where
   pub kind : SettingKind
   -- no feature line shows it, and no line sets it by its name
   pub hidden : Bool
+  -- what its feature is called, if it is a string
+  pub text_feature : TextFeature
 
 -- the part that is kept of an option that is shown
 abbrev pub shown_kind : OptionKind → SettingKind
@@ -47,12 +52,18 @@ hidden_kind (shapes.Text default) = Text []
 abbrev pub kept_kind : Bool → OptionKind → SettingKind
 kept_kind hidden shape = if hidden then hidden_kind shape else shown_kind shape
 
-abbrev pub kept_as : Bool → List ℕ → OptionKind → OptionSetting
-kept_as hidden name shape = record { name = name; kind = kept_kind hidden shape; hidden = hidden }
+abbrev pub kept_as : Bool → TextFeature → List ℕ → OptionKind → OptionSetting
+kept_as hidden feature name shape = record {
+  name = name;
+  kind = kept_kind hidden shape;
+  hidden = hidden;
+  text_feature = feature;
+}
 
--- the part that is kept of an option, by whether those that limit the strength are shown
-abbrev pub setting_from_option : Bool → List ℕ → OptionKind → OptionSetting
-setting_from_option strength name shape = kept_as (is_hidden strength name) name shape
+-- the part that is kept of an option, by the style in which it is shown
+abbrev pub setting_from_option : FeatureStyle → List ℕ → OptionKind → OptionSetting
+setting_from_option style name shape =
+    kept_as (is_hidden style.strength name) (text_feature style name) name shape
 
 -- THE FEATURE LINE OF AN OPTION
 
@@ -60,17 +71,21 @@ abbrev pub bit_text : Bool → List ℕ
 bit_text true = codes "1"
 bit_text false = codes "0"
 
-abbrev pub setting_kind_text : SettingKind → List ℕ
-setting_kind_text (Check on) = codes " -check " ++ bit_text on
-setting_kind_text (Spin default min max) =
+abbrev pub spin_text : ℤ → ℤ → ℤ → List ℕ
+spin_text default min max =
     codes " -spin " ++ signed_decimal default ++ codes " " ++ signed_decimal min ++ codes " "
     ++ signed_decimal max
-setting_kind_text (Combo choices) = codes " -combo " ++ choices_text choices
-setting_kind_text Button = codes " -button"
-setting_kind_text (Text default) = codes " -string " ++ default
+
+abbrev pub setting_kind_text : TextFeature → SettingKind → List ℕ
+setting_kind_text feature (Check on) = codes " -check " ++ bit_text on
+setting_kind_text feature (Spin default min max) = spin_text default min max
+setting_kind_text feature (Combo choices) = codes " -combo " ++ choices_text choices
+setting_kind_text feature Button = codes " -button"
+setting_kind_text feature (Text default) = text_word feature ++ default
 
 abbrev pub feature_line : OptionSetting → List ℕ
-feature_line o = codes "feature option=\"" ++ o.name ++ setting_kind_text o.kind ++ codes "\""
+feature_line o =
+    codes "feature option=\"" ++ o.name ++ setting_kind_text o.text_feature o.kind ++ codes "\""
 
 -- its length, if it has one
 abbrev pub shown_length : OptionSetting → ℕ
@@ -97,8 +112,13 @@ is_bad_shape (shapes.Combo default values) = holds quote default || are_bad_valu
 is_bad_shape (shapes.Text default) = holds quote default
 is_bad_shape _ = false
 
-abbrev pub is_unshowable : List ℕ → OptionKind → Bool
-is_unshowable name shape = is_bad_name name || is_bad_shape shape
+-- no feature line can show it, or no order can set it
+abbrev pub cannot_be_shown : List ℕ → OptionKind → Bool
+cannot_be_shown name shape = is_bad_name name || is_bad_shape shape
+
+-- or it is not to be shown in this style
+abbrev pub is_unshowable : FeatureStyle → List ℕ → OptionKind → Bool
+is_unshowable style name shape = cannot_be_shown name shape || is_not_plain style name shape
 
 -- the option of a name, case ignored
 abbrev pub option_by_name : List ℕ → List OptionSetting → Option OptionSetting
@@ -114,10 +134,10 @@ declared_beside (Some other) os o = Double
 declared_beside None os o = if is_combo_full os o then Full else Done
 
 -- the outcome of a declaration
-abbrev pub declaration_outcome : Bool → List OptionSetting → List ℕ → OptionKind → Declared
-declaration_outcome strength os name shape =
-    if is_unshowable name shape then Unshowable
-    else declared_beside (option_by_name name os) os (setting_from_option strength name shape)
+abbrev pub declaration_outcome : FeatureStyle → List OptionSetting → List ℕ → OptionKind → Declared
+declaration_outcome style os name shape =
+    if is_unshowable style name shape then Unshowable
+    else declared_beside (option_by_name name os) os (setting_from_option style name shape)
 
 abbrev pub grown_by : Declared → List OptionSetting → OptionSetting → List OptionSetting
 grown_by Done os o = os ++ o ∷ []
@@ -126,7 +146,7 @@ grown_by Double os o = os
 grown_by Full os o = os
 
 -- the options after a declaration
-abbrev pub after_declared : Bool → List OptionSetting → List ℕ → OptionKind → List OptionSetting
-after_declared strength os name shape =
-    grown_by (declaration_outcome strength os name shape) os
-    (setting_from_option strength name shape)
+abbrev pub after_declared :
+    FeatureStyle → List OptionSetting → List ℕ → OptionKind → List OptionSetting
+after_declared style os name shape =
+    grown_by (declaration_outcome style os name shape) os (setting_from_option style name shape)

@@ -1,5 +1,5 @@
 -- The orders that are asked for are spelled, if the options were declared by lines of an engine.
-use Rattle.std.specs.Prelude.{◌≡◌, ℕ, ◌≤◌, List, length, Bool, true, false, Some, Ok}
+use Rattle.std.specs.Prelude.{◌≡◌, ℕ, ◌≤◌, List, length, true, false, Some, Ok}
 use Rattle.std.specs.List.{AllByRecursion}
 use Rattle.line_io.specs.Event.{is_line}
 use Rattle.cecp_lines.specs.Messages.{IfaceMsg}
@@ -9,6 +9,7 @@ use Rattle.uci_lines.specs.Engine.{engine_message}
 use Rattle.uci_lines.specs.Written.{is_trimmed_text}
 use Rattle.uci_lines.specs.OrderReading.{is_writable_order}
 use Rattle.uci_lines.specs.Orders.{Order, SetOption, uci_order_text}
+use Rattle.option_map.specs.declared.declared_options.style.FeatureStyle.{FeatureStyle}
 use Rattle.option_map.specs.DeclaredOptions.Settings.{OptionSetting, setting_from_option}
 use Rattle.option_map.specs.DeclaredOptions.Settings.{is_unshowable, after_declared}
 use Rattle.option_map.specs.DeclaredOptions.Shown.{check_named}
@@ -18,14 +19,14 @@ use Rattle.option_map.specs.declared.waiting_orders.order.TheConstants.{ORDER_BY
 
 -- some line of an engine declares the option, and it can be shown
 pub record IsDeclared (o : OptionSetting) : Type 0 where
-  pub strength : Bool
+  pub style : FeatureStyle
   pub line : List ℕ
   pub name : List ℕ
   pub shape : OptionKind
   pub is_line : is_line line ≡ true
   pub says : engine_message line ≡ OptionLine name shape
-  pub showable : is_unshowable name shape ≡ false
-  pub kept_is : o ≡ setting_from_option strength name shape
+  pub showable : is_unshowable style name shape ≡ false
+  pub kept_is : o ≡ setting_from_option style name shape
 
 abbrev pub AreDeclared : List OptionSetting → Type 0
 AreDeclared os = AllByRecursion IsDeclared os
@@ -33,10 +34,10 @@ AreDeclared os = AllByRecursion IsDeclared os
 -- Declaring keeps this.
 abbrev pub StayDeclared : Type 0
 StayDeclared =
-    (strength : Bool) (os : List OptionSetting) (line name : List ℕ) (shape : OptionKind)
+    (style : FeatureStyle) (os : List OptionSetting) (line name : List ℕ) (shape : OptionKind)
     → AreDeclared os → is_line line ≡ true
     → engine_message line ≡ OptionLine name shape
-    → AreDeclared (after_declared strength os name shape)
+    → AreDeclared (after_declared style os name shape)
 
 -- The order may be written, its text is a line, and it has at most so many bytes.
 pub record OrderIsSpelled (most : ℕ) (order : Order) : Type 0 where

@@ -26,7 +26,12 @@ kind_seen seen.Button = Button
 kind_seen (seen.Text default) = Text default.now
 
 abbrev pub setting_seen : Seen → OptionSetting
-setting_seen o = record { name = o.name.now; kind = kind_seen o.kind; hidden = o.hidden }
+setting_seen o = record {
+  name = o.name.now;
+  kind = kind_seen o.kind;
+  hidden = o.hidden;
+  text_feature = o.text_feature;
+}
 
 -- the part of the texts
 abbrev pub text_at : List ℕ → TextSpan → List ℕ
@@ -40,7 +45,12 @@ kind_in texts stored.Button = Button
 kind_in texts (stored.Text default) = Text (text_at texts default)
 
 abbrev pub setting_in : List ℕ → Stored → OptionSetting
-setting_in texts o = record { name = o.name.items; kind = kind_in texts o.kind; hidden = o.hidden }
+setting_in texts o = record {
+  name = o.name.items;
+  kind = kind_in texts o.kind;
+  hidden = o.hidden;
+  text_feature = o.text_feature;
+}
 
 abbrev pub stored_settings_in : List ℕ → List (ArrayVec ℕ × Stored) → List OptionSetting
 stored_settings_in texts entries = map (λ e. setting_in texts e.1) entries

@@ -49,7 +49,8 @@ by_options os =
     ∷ tables (takes_tables os)
 
 abbrev pub option_feature : OptionSetting → Reply
-option_feature o = Feature (codes "option") (in_quotes (o.name ++ setting_kind_text o.kind))
+option_feature o =
+    Feature (codes "option") (in_quotes (o.name ++ setting_kind_text o.text_feature o.kind))
 
 -- the options that are not hidden
 abbrev pub shown_options : List OptionSetting → List OptionSetting

@@ -1,6 +1,6 @@
 -- The orders that lines of the interface ask for.
 use Rattle.std.specs.Prelude.{ℕ, ℤ, pos, int_lt, ◌+◌, ◌≤◌, List, [], ◌∷◌, codes}
-use Rattle.std.specs.Prelude.{length, Bool, true, false, ◌||◌, if◌then◌else◌}
+use Rattle.std.specs.Prelude.{◌≡◌, map, length, Bool, true, false, ◌||◌, if◌then◌else◌}
 use Rattle.std.specs.Prelude.{Option, Some, None, Result as Answer, Ok, Err}
 use Rattle.std.specs.Fmt.{signed_decimal}
 use Rattle.std.specs.Int.{int_min, int_max}
@@ -17,6 +17,7 @@ use Rattle.uci_lines.specs.Orders.{Order, uci_order_text}
 use Rattle.uci_lines.specs.Orders as orders
 use Rattle.option_map.specs.declared.declared_options.fault.OptionFault.{OptionFault}
 use Rattle.option_map.specs.declared.declared_options.fault.OptionFault.TheVariants.{UnknownOption, BadValue}
+use Rattle.option_map.specs.declared.declared_options.style.TextFeature.TheVariants.{AsString}
 use Rattle.option_map.specs.DeclaredOptions.Names.{same_text}
 use Rattle.option_map.specs.DeclaredOptions.Choices.{chosen}
 use Rattle.option_map.specs.DeclaredOptions.Settings.{OptionSetting, SettingKind, Check, Spin}
@@ -92,6 +93,15 @@ asked os (says.EgtPath kind path) =
     then path_for (option_by_name (codes "NalimovPath") os) path
     else None)
 asked os _ = Ok None
+
+-- an option that, if it is a string, is offered as no more than that
+abbrev pub as_string : OptionSetting → OptionSetting
+as_string o = record o { text_feature = AsString }
+
+-- A path or a file is set as any string is.
+abbrev pub PathsAreSetAsStrings : Type 0
+PathsAreSetAsStrings =
+    (os : List OptionSetting) (m : IfaceMsg) → asked (map as_string os) m ≡ asked os m
 
 -- its text, if there is one
 abbrev pub asked_text : Answer (Option Order) OptionFault → List ℕ

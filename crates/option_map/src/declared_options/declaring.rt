@@ -1,10 +1,12 @@
 // The options that can be shown.
 ghost use Rattle.std.specs.Prelude.{◌≡◌};
 ghost use Rattle.uci_lines.specs.Messages.{option_kind_of};
-ghost use Rattle.option_map.specs.DeclaredOptions.Settings.{is_bad_shape, is_unshowable};
+ghost use Rattle.option_map.specs.DeclaredOptions.Settings.{cannot_be_shown, is_bad_shape, is_unshowable};
 
 use crate::declared_options::choices::are_bad_values;
 use crate::declared_options::names::{holds, is_bad_name};
+use crate::declared_options::plain::is_not_plain;
+use crate::declared_options::style::FeatureStyle;
 use uci_lines::{OptionKind, OptionMsg};
 
 fn is_bad_kind(kind: OptionKind) -> bool
@@ -17,9 +19,15 @@ fn is_bad_kind(kind: OptionKind) -> bool
     }
 }
 
-/// True if no feature line can show an option, or no order can set it.
-pub(crate) fn is_unshowable(msg: &OptionMsg) -> bool
-    ensures { result ≡ is_unshowable msg.now.name.now (option_kind_of msg.now.kind) }
+fn cannot_be_shown(msg: &OptionMsg) -> bool
+    ensures { result ≡ cannot_be_shown msg.now.name.now (option_kind_of msg.now.kind) }
 {
     is_bad_name(msg.name) || is_bad_kind(msg.kind)
+}
+
+/// True if no feature line can show an option, no order can set it, or it is not to be shown in this style.
+pub(crate) fn is_unshowable(style: FeatureStyle, msg: &OptionMsg) -> bool
+    ensures { result ≡ is_unshowable style msg.now.name.now (option_kind_of msg.now.kind) }
+{
+    cannot_be_shown(msg) || is_not_plain(style, msg)
 }

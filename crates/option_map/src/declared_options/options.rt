@@ -17,6 +17,7 @@ use crate::declared_options::names::{MOST_OPTION_NAME, Name, folded, is_hidden, 
 use crate::declared_options::setting::{OptionSetting, SettingKind};
 use crate::declared_options::stored::{Stored, setting_in};
 use crate::declared_options::storing::store;
+use crate::declared_options::style::{FeatureStyle, TextFeature, text_feature};
 use crate::feature_lists::features::put_feature;
 use crate::feature_lists::measure::shown_length;
 use indexmap::IndexMap;
@@ -70,7 +71,7 @@ fn find<'a>(table: &'a Table, texts: &'a [u8], name: &[u8]) -> Option<OptionSett
     Some(setting_in(texts, stored))
 }
 
-fn keep(table: &mut Table, texts: &mut Out, msg: &OptionMsg, hidden: bool)
+fn keep(table: &mut Table, texts: &mut Out, msg: &OptionMsg, hidden: bool, feature: TextFeature)
     requires stored { AreStored (length texts.old.text) table.old.entries }
     requires place { 1 ≤ spare table.old }
     requires new { option_by_name msg.now.name.now
@@ -78,21 +79,29 @@ fn keep(table: &mut Table, texts: &mut Out, msg: &OptionMsg, hidden: bool)
     requires short { length msg.now.name.now ≤ MOST_OPTION_NAME }
     requires good { is_bad_shape (option_kind_of msg.now.kind) ≡ false }
     requires room { length texts.old.text
-        + length (kind_kept (kept_as hidden msg.now.name.now (option_kind_of msg.now.kind)).kind)
+        + length (kind_kept (kept_as hidden feature msg.now.name.now (option_kind_of msg.now.kind)).kind)
         ≤ texts.old.room }
     ensures kept { stored_settings_in texts.new.text table.new.entries
         ≡ stored_settings_in texts.old.text table.old.entries
-        ++ kept_as hidden msg.now.name.now (option_kind_of msg.now.kind) ∷ [] }
+        ++ kept_as hidden feature msg.now.name.now (option_kind_of msg.now.kind) ∷ [] }
     ensures stored { AreStored (length texts.new.text) table.new.entries }
     ensures spare { spare table.old ≤ spare table.new + 1 }
     ensures count { length table.new.entries ≡ length table.old.entries + 1 }
     ensures texts { texts.new
         ≡ with texts.old
-        (kind_kept (kept_as hidden msg.now.name.now (option_kind_of msg.now.kind)).kind) }
+        (kind_kept (kept_as hidden feature msg.now.name.now (option_kind_of msg.now.kind)).kind) }
 {
     let kind = store(msg.kind, hidden, texts);
     let name = spelled(msg.name);
-    let _ = table.insert(folded(msg.name), Stored { name, kind, hidden });
+    let _ = table.insert(
+        folded(msg.name),
+        Stored {
+            name,
+            kind,
+            hidden,
+            text_feature: feature,
+        },
+    );
 }
 
 fn put_features(table: &Table, texts: &[u8], out: &mut Out)
@@ -149,15 +158,14 @@ impl Options {
         find(&self.table, self.texts.bytes(), name)
     }
 
-    /// Declares an option of an engine (UCI, `option name .. type ..`); `strength` says whether options that limit the strength of
-    /// the engine are shown.
-    pub fn declare(&mut self, msg: &OptionMsg, strength: bool) -> Declared
+    /// Declares an option of an engine (UCI, `option name .. type ..`), which is shown in this style.
+    pub fn declare(&mut self, msg: &OptionMsg, style: FeatureStyle) -> Declared
         ensures answer { result
-            ≡ declaration_outcome strength self.old msg.now.name.now (option_kind_of msg.now.kind) }
+            ≡ declaration_outcome style self.old msg.now.name.now (option_kind_of msg.now.kind) }
         ensures options { self.new
-            ≡ after_declared strength self.old msg.now.name.now (option_kind_of msg.now.kind) }
+            ≡ after_declared style self.old msg.now.name.now (option_kind_of msg.now.kind) }
     {
-        if is_unshowable(msg) {
+        if is_unshowable(style, msg) {
             return Declared::Unshowable;
         }
         if self.find(msg.name).is_some() {
@@ -166,11 +174,12 @@ impl Options {
         if self.table.len() >= MOST_OPTIONS {
             return Declared::Full;
         }
-        let hidden = is_hidden(strength, msg.name);
-        let Some(length) = shown_length(msg, hidden, FEATURE_BYTES - self.size) else {
+        let hidden = is_hidden(style.strength, msg.name);
+        let feature = text_feature(style, msg.name);
+        let Some(length) = shown_length(msg, hidden, feature, FEATURE_BYTES - self.size) else {
             return Declared::Full;
         };
-        keep(&mut self.table, &mut self.texts, msg, hidden);
+        keep(&mut self.table, &mut self.texts, msg, hidden, feature);
         self.size += length;
         Declared::Done
     }

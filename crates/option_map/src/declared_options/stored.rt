@@ -5,6 +5,7 @@ ghost use Rattle.option_map.specs.DeclaredOptions.Stored.{setting_seen, setting_
 
 use crate::declared_options::names::Name;
 use crate::declared_options::setting::{OptionSetting, SettingKind, TextSpan};
+use crate::declared_options::style::TextFeature;
 
 /// The kind of an option, whose texts stand in a buffer of all texts.
 #[derive(Clone, Copy)]
@@ -21,6 +22,7 @@ pub(crate) struct Stored {
     pub name: Name,
     pub kind: StoredKind,
     pub hidden: bool,
+    pub text_feature: TextFeature,
 }
 
 /// The text of a span.
@@ -55,5 +57,6 @@ pub(crate) fn setting_in<'a>(texts: &'a [u8], stored: &'a Stored) -> OptionSetti
         name: stored.name.as_slice(),
         kind: kind_in(texts, stored.kind),
         hidden: stored.hidden,
+        text_feature: stored.text_feature,
     }
 }

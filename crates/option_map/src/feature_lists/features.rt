@@ -3,12 +3,13 @@ ghost use Rattle.std.specs.Prelude.{◌≡◌, ◌≤◌, ◌+◌, length};
 ghost use Rattle.std.specs.Fmt.{signed_decimal};
 ghost use Rattle.line_io.specs.Out.{with};
 ghost use Rattle.option_map.specs.DeclaredOptions.Choices.{choices_text, choices_in, with_bars};
-ghost use Rattle.option_map.specs.DeclaredOptions.Settings.{setting_kind_text, feature_line, feature_text, Spin, bit_text};
+ghost use Rattle.option_map.specs.DeclaredOptions.Settings.{setting_kind_text, feature_line, feature_text, spin_text, bit_text};
 ghost use Rattle.option_map.specs.DeclaredOptions.Stored.{setting_seen, kind_seen};
 ghost use Rattle.std.specs.List.{flat_map};
 
 use crate::declared_options::choices::next_choice;
 use crate::declared_options::setting::{OptionSetting, SettingKind};
+use crate::declared_options::style::{TextFeature, text_word};
 use itoa::Buffer;
 use line_io::Out;
 
@@ -20,9 +21,9 @@ fn put_number(n: i64, out: &mut Out)
 }
 
 fn put_spin(default: i64, min: i64, max: i64, out: &mut Out)
-    requires { length out.old.text + length (setting_kind_text (Spin default min max)) ≤
+    requires { length out.old.text + length (spin_text default min max) ≤
         out.old.room }
-    ensures { out.new ≡ with out.old (setting_kind_text (Spin default min max)) }
+    ensures { out.new ≡ with out.old (spin_text default min max) }
 {
     out.put(b" -spin ");
     put_number(default, out);
@@ -62,9 +63,9 @@ fn put_choices(choices: &[u8], out: &mut Out)
     }
 }
 
-fn put_kind(kind: SettingKind, out: &mut Out)
-    requires { length out.old.text + length (setting_kind_text (kind_seen kind)) ≤ out.old.room }
-    ensures { out.new ≡ with out.old (setting_kind_text (kind_seen kind.entry)) }
+fn put_kind(feature: TextFeature, kind: SettingKind, out: &mut Out)
+    requires { length out.old.text + length (setting_kind_text feature (kind_seen kind)) ≤ out.old.room }
+    ensures { out.new ≡ with out.old (setting_kind_text feature (kind_seen kind.entry)) }
 {
     match kind {
         SettingKind::Check(on) => {
@@ -78,7 +79,7 @@ fn put_kind(kind: SettingKind, out: &mut Out)
         }
         SettingKind::Button => out.put(b" -button"),
         SettingKind::Text(default) => {
-            out.put(b" -string ");
+            out.put(text_word(feature));
             out.put(default);
         }
     }
@@ -90,7 +91,7 @@ fn put_feature_line(setting: OptionSetting, out: &mut Out)
 {
     out.put(b"feature option=\"");
     out.put(setting.name);
-    put_kind(setting.kind, out);
+    put_kind(setting.text_feature, setting.kind, out);
     out.put(b"\"");
 }
 

@@ -6,11 +6,12 @@ ghost use Rattle.uci_lines.specs.Choices.{values};
 ghost use Rattle.uci_lines.specs.Messages.{option_kind_of};
 ghost use Rattle.option_map.specs.DeclaredOptions.Names.{same_text};
 ghost use Rattle.option_map.specs.DeclaredOptions.Choices.{bars_length, are_bad_values, choices_text, with_star};
-ghost use Rattle.option_map.specs.DeclaredOptions.Settings.{if_within, setting_kind_text, shown_kind, shown_length, kept_as, Spin, is_bad_shape};
+ghost use Rattle.option_map.specs.DeclaredOptions.Settings.{if_within, setting_kind_text, shown_kind, shown_length, kept_as, spin_text, is_bad_shape};
 ghost use Rattle.option_map.specs.declared.declared_options.names.TheConstants.{MOST_OPTION_NAME};
 ghost use Rattle.option_map.specs.declared.declared_options.options.TheConstants.{FEATURE_BYTES};
 
 use crate::declared_options::names::same_text;
+use crate::declared_options::style::{TextFeature, text_word};
 use itoa::Buffer;
 use uci_lines::{OptionKind, OptionMsg, next_value};
 
@@ -71,16 +72,17 @@ pub(crate) fn number_length(n: i64) -> usize
 }
 
 fn spin_length(default: i64, min: i64, max: i64) -> usize
-    ensures { result ≡ length (setting_kind_text (Spin default min max)) }
+    ensures { result ≡ length (spin_text default min max) }
 {
     9 + number_length(default) + number_length(min) + number_length(max)
 }
 
-fn kind_length(kind: OptionKind, most: usize) -> Option<usize>
+fn kind_length(kind: OptionKind, feature: TextFeature, most: usize) -> Option<usize>
     requires good { is_bad_shape (option_kind_of kind) ≡ false }
     requires room { most ≤ FEATURE_BYTES }
     ensures { result
-        ≡ if_within most (length (setting_kind_text (shown_kind (option_kind_of kind.entry)))) }
+        ≡ if_within most
+        (length (setting_kind_text feature (shown_kind (option_kind_of kind.entry)))) }
 {
     match kind {
         OptionKind::Check { .. } => within(9, most),
@@ -90,21 +92,29 @@ fn kind_length(kind: OptionKind, most: usize) -> Option<usize>
             most,
         ),
         OptionKind::Button => within(8, most),
-        OptionKind::Text { default } => within(9 + default.len(), most),
+        OptionKind::Text { default } => within(text_word(feature).len() + default.len(), most),
     }
 }
 
 /// The length of an option's feature line, 0 if it has none, if it is not above the most.
-pub(crate) fn shown_length(msg: &OptionMsg, hidden: bool, most: usize) -> Option<usize>
+pub(crate) fn shown_length(
+    msg: &OptionMsg,
+    hidden: bool,
+    feature: TextFeature,
+    most: usize,
+) -> Option<usize>
     requires good { is_bad_shape (option_kind_of msg.now.kind) ≡ false }
     requires short { length msg.now.name.now ≤ MOST_OPTION_NAME }
     requires room { most ≤ FEATURE_BYTES }
     ensures { result
         ≡ if_within most
-        (shown_length (kept_as hidden msg.now.name.now (option_kind_of msg.now.kind))) }
+        (shown_length (kept_as hidden feature msg.now.name.now (option_kind_of msg.now.kind))) }
 {
     if hidden {
         return Some(0);
     }
-    within(17 + msg.name.len() + kind_length(msg.kind, most)?, most)
+    within(
+        17 + msg.name.len() + kind_length(msg.kind, feature, most)?,
+        most,
+    )
 }

@@ -1,5 +1,6 @@
 // The laws of held orders, and of the orders that are asked for.
 ghost use Rattle.option_map.specs.WaitingOrders.Held.{HoldsLast, Stays, HoldsAsked, OrderReadsBack, StayOrders};
+ghost use Rattle.option_map.specs.WaitingOrders.Asked.{PathsAreSetAsStrings};
 ghost use Rattle.option_map.specs.DeclaredOptions.Spelled.{StayDeclared, AskedAreSpelled, SwitchesAreSpelled, StaySpelled};
 
 /// For each option with a value, and for `ucinewgame`, exactly the order that was asked for last is held. What no
@@ -19,4 +20,10 @@ pub fn asked_orders_are_spelled()
     ensures reads { OrderReadsBack }
     ensures orders { StayOrders }
     ensures held { StaySpelled }
+{}
+
+/// What a line asks for is the same whatever the features of string options are called: a path or a file is set as
+/// any string is.
+pub fn paths_are_set_as_strings()
+    ensures { PathsAreSetAsStrings }
 {}

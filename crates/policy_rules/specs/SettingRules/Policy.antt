@@ -16,7 +16,10 @@ usual = record {
   show_san = false;
   strength_options = false;
   fence_stops = false;
+  result_reasons = false;
   time_margin = USUAL_MARGIN;
+  plain_texts = false;
+  path_options = false;
   repeat_thinking = false;
 }
 

@@ -10,8 +10,9 @@ use Rattle.policy_rules.specs.declared.setting_rules.table.Setting.TheVariants.{
 use Rattle.policy_rules.specs.declared.setting_rules.table.Setting.TheVariants.{ShowPonder, EarlySettings}
 use Rattle.policy_rules.specs.declared.setting_rules.table.Setting.TheVariants.{ResignWhenGone, HandleDraws}
 use Rattle.policy_rules.specs.declared.setting_rules.table.Setting.TheVariants.{ShowSan, StrengthOptions}
-use Rattle.policy_rules.specs.declared.setting_rules.table.Setting.TheVariants.{FenceStops, TimeMargin}
-use Rattle.policy_rules.specs.declared.setting_rules.table.Setting.TheVariants.{RepeatThinking}
+use Rattle.policy_rules.specs.declared.setting_rules.table.Setting.TheVariants.{FenceStops, ResultReasons}
+use Rattle.policy_rules.specs.declared.setting_rules.table.Setting.TheVariants.{TimeMargin, PlainTexts}
+use Rattle.policy_rules.specs.declared.setting_rules.table.Setting.TheVariants.{PathOptions, RepeatThinking}
 use Rattle.policy_rules.specs.declared.setting_rules.table.Range.{Range}
 use Rattle.policy_rules.specs.declared.setting_rules.table.Range.TheVariants as ranges
 use Rattle.policy_rules.specs.declared.setting_rules.table.Value.{Value}
@@ -24,7 +25,7 @@ abbrev pub settings : List Setting
 settings =
     Resign ∷ ResignMoves ∷ ResignScore ∷ ShowPonder
     ∷ EarlySettings ∷ ResignWhenGone ∷ HandleDraws ∷ ShowSan ∷ StrengthOptions
-    ∷ FenceStops ∷ TimeMargin ∷ RepeatThinking ∷ []
+    ∷ FenceStops ∷ ResultReasons ∷ TimeMargin ∷ PlainTexts ∷ PathOptions ∷ RepeatThinking ∷ []
 
 abbrev pub name_of : Setting → List ℕ
 name_of Resign = codes "Resign"
@@ -37,7 +38,10 @@ name_of HandleDraws = codes "HandleDraws"
 name_of ShowSan = codes "ShowSan"
 name_of StrengthOptions = codes "StrengthOptions"
 name_of FenceStops = codes "FenceStops"
+name_of ResultReasons = codes "ResultReasons"
 name_of TimeMargin = codes "TimeMargin"
+name_of PlainTexts = codes "PlainTexts"
+name_of PathOptions = codes "PathOptions"
 name_of RepeatThinking = codes "RepeatThinking"
 
 -- the values that a setting may have: both truths, if it is not a number
@@ -67,7 +71,10 @@ setting_value s HandleDraws = Truth s.handle_draws
 setting_value s ShowSan = Truth s.show_san
 setting_value s StrengthOptions = Truth s.strength_options
 setting_value s FenceStops = Truth s.fence_stops
+setting_value s ResultReasons = Truth s.result_reasons
 setting_value s TimeMargin = Number s.time_margin
+setting_value s PlainTexts = Truth s.plain_texts
+setting_value s PathOptions = Truth s.path_options
 setting_value s RepeatThinking = Truth s.repeat_thinking
 
 -- the value is one of the range
@@ -104,7 +111,10 @@ settings_with_value s HandleDraws v = record s { handle_draws = is_true v }
 settings_with_value s ShowSan v = record s { show_san = is_true v }
 settings_with_value s StrengthOptions v = record s { strength_options = is_true v }
 settings_with_value s FenceStops v = record s { fence_stops = is_true v }
+settings_with_value s ResultReasons v = record s { result_reasons = is_true v }
 settings_with_value s TimeMargin v = record s { time_margin = number_of_value v }
+settings_with_value s PlainTexts v = record s { plain_texts = is_true v }
+settings_with_value s PathOptions v = record s { path_options = is_true v }
 settings_with_value s RepeatThinking v = record s { repeat_thinking = is_true v }
 
 -- the settings with one chosen anew

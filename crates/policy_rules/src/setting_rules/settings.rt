@@ -43,8 +43,14 @@ pub struct Settings {
     pub strength_options: bool,
     /// True if a search begins behind a `stop` only once the engine has answered an `isready` after it.
     pub fence_stops: bool,
+    /// True if the result of a game that the engine loses by its answer, or by ending, says so.
+    pub result_reasons: bool,
     /// What is kept back of the time that `st` gives for a move, in milliseconds, 0 to `MOST_MARGIN`.
     pub time_margin: u32,
+    /// True if no option with a control byte in a text is shown, and the engine's name has blanks for them.
+    pub plain_texts: bool,
+    /// True if string options whose names say so are shown as paths and files.
+    pub path_options: bool,
     /// True if the last thinking line is shown once more when the move that the engine pondered on is played.
     pub repeat_thinking: bool,
 }
@@ -66,7 +72,10 @@ impl Settings {
             show_san: false,
             strength_options: false,
             fence_stops: false,
+            result_reasons: false,
             time_margin: USUAL_MARGIN,
+            plain_texts: false,
+            path_options: false,
             repeat_thinking: false,
         }
     }

@@ -20,12 +20,15 @@ pub enum Setting {
     ShowSan,
     StrengthOptions,
     FenceStops,
+    ResultReasons,
     TimeMargin,
+    PlainTexts,
+    PathOptions,
     RepeatThinking,
 }
 
 /// The settings in the order in which a header states them.
-pub const SETTINGS: [Setting; 12] = [
+pub const SETTINGS: [Setting; 15] = [
     Setting::Resign,
     Setting::ResignMoves,
     Setting::ResignScore,
@@ -36,7 +39,10 @@ pub const SETTINGS: [Setting; 12] = [
     Setting::ShowSan,
     Setting::StrengthOptions,
     Setting::FenceStops,
+    Setting::ResultReasons,
     Setting::TimeMargin,
+    Setting::PlainTexts,
+    Setting::PathOptions,
     Setting::RepeatThinking,
 ];
 
@@ -122,7 +128,10 @@ impl Setting {
             Setting::ShowSan => truth("ShowSan", "false"),
             Setting::StrengthOptions => truth("StrengthOptions", "false"),
             Setting::FenceStops => truth("FenceStops", "false"),
+            Setting::ResultReasons => truth("ResultReasons", "false"),
             Setting::TimeMargin => number("TimeMargin", "0", 0, MOST_MARGIN),
+            Setting::PlainTexts => truth("PlainTexts", "false"),
+            Setting::PathOptions => truth("PathOptions", "false"),
             Setting::RepeatThinking => truth("RepeatThinking", "false"),
         }
     }
@@ -165,7 +174,10 @@ impl Settings {
             Setting::ShowSan => Value::Truth(self.show_san),
             Setting::StrengthOptions => Value::Truth(self.strength_options),
             Setting::FenceStops => Value::Truth(self.fence_stops),
+            Setting::ResultReasons => Value::Truth(self.result_reasons),
             Setting::TimeMargin => Value::Number(self.time_margin),
+            Setting::PlainTexts => Value::Truth(self.plain_texts),
+            Setting::PathOptions => Value::Truth(self.path_options),
             Setting::RepeatThinking => Value::Truth(self.repeat_thinking),
         }
     }
@@ -190,7 +202,10 @@ impl Settings {
             Setting::ShowSan => settings.show_san = value.is_true(),
             Setting::StrengthOptions => settings.strength_options = value.is_true(),
             Setting::FenceStops => settings.fence_stops = value.is_true(),
+            Setting::ResultReasons => settings.result_reasons = value.is_true(),
             Setting::TimeMargin => settings.time_margin = value.number(),
+            Setting::PlainTexts => settings.plain_texts = value.is_true(),
+            Setting::PathOptions => settings.path_options = value.is_true(),
             Setting::RepeatThinking => settings.repeat_thinking = value.is_true(),
         }
         settings

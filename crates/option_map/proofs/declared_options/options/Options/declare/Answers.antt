@@ -25,17 +25,17 @@ still_few found count count' most is few one = omega arith
 
 pub keep-requires-clause-room : goal.keep-requires-clause-room
 keep-requires-clause-room c =
-    let o = kept_as c.is_hidden-hidden.result c.args.msg.now.name.now (option_kind_of c.args.msg.now.kind) in
+    let o = kept_as c.is_hidden-hidden.result c.text_feature-feature.result c.args.msg.now.name.now (option_kind_of c.args.msg.now.kind) in
     let reported : Some c.in-Some.length ≡ if_within (65536 - c.self.inside.size) (shown_length o) = sym c.in-Some.is ∙ c.shown_length.ensures in
     room_for (length c.self.inside.texts.text) (length (kind_kept o.kind)) (shown_length o) c.in-Some.length c.self.inside.size 65536 c.self.inside.texts.room
-    (kept_small c.is_hidden-hidden.result c.args.msg.now.name.now (option_kind_of c.args.msg.now.kind))
+    (kept_small c.is_hidden-hidden.result c.text_feature-feature.result c.args.msg.now.name.now (option_kind_of c.args.msg.now.kind))
     (fitting_is (65536 - c.self.inside.size) (shown_length o) c.in-Some.length reported)
     (fitting_fits (65536 - c.self.inside.size) (shown_length o) c.in-Some.length reported)
     c.self.invariant.within c.self.invariant.fits c.self.invariant.room
 
 pub invariant_of-self : goal.invariant_of-self
 invariant_of-self c =
-    let o = kept_as c.is_hidden-hidden.result c.args.msg.now.name.now (option_kind_of c.args.msg.now.kind) in
+    let o = kept_as c.is_hidden-hidden.result c.text_feature-feature.result c.args.msg.now.name.now (option_kind_of c.args.msg.now.kind) in
     let reported : Some c.in-Some.length ≡ if_within (65536 - c.self.inside.size) (shown_length o) = sym c.in-Some.is ∙ c.shown_length.ensures in
     let is = fitting_is (65536 - c.self.inside.size) (shown_length o) c.in-Some.length reported in
     let fits = fitting_fits (65536 - c.self.inside.size) (shown_length o) c.in-Some.length reported in
@@ -49,7 +49,7 @@ invariant_of-self c =
       fits = lines_fit c.in-Some.length c.self.inside.size 65536 fits c.self.invariant.fits;
       within = text_within (length c.keep.new.texts.text) (length c.self.inside.texts.text) (length (kind_kept o.kind)) (shown_length o) c.in-Some.length c.self.inside.size
           (ap length text ∙ length-append c.self.inside.texts.text (kind_kept o.kind))
-          (kept_small c.is_hidden-hidden.result c.args.msg.now.name.now (option_kind_of c.args.msg.now.kind)) is c.self.invariant.within;
+          (kept_small c.is_hidden-hidden.result c.text_feature-feature.result c.args.msg.now.name.now (option_kind_of c.args.msg.now.kind)) is c.self.invariant.within;
       room = ap (λ (t : Text). t.room) c.keep.ensures.texts ∙ c.self.invariant.room;
     }
 

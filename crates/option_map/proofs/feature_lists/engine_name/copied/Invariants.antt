@@ -1,5 +1,5 @@
 use Rattle.std.proofs.Common.{◌≡◌, take}
-use Rattle.desk_rules.proofs.name.copied.Given as goal
+use Rattle.option_map.proofs.feature_lists.engine_name.copied.Given as goal
 
 abbrev pub invariant-loop-byte : goal.invariant-loop-byte
 invariant-loop-byte l = l.copy.items ≡ take l.byte-index l.name
