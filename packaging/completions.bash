@@ -14,6 +14,7 @@ _wineravine_values() { # the setting, the word so far
       mapfile -t COMPREPLY < <(compgen -W 'true false' -- "$2") ;;
     --ResignMoves) mapfile -t COMPREPLY < <(compgen -W 3 -- "$2") ;;
     --ResignScore) mapfile -t COMPREPLY < <(compgen -W 600 -- "$2") ;;
+    --TimeMargin) mapfile -t COMPREPLY < <(compgen -W 20 -- "$2") ;;
     --LogFile) _wineravine_files "$2" ;;
     --LogDir) mapfile -t COMPREPLY < <(compgen -d -- "$2") && compopt -o filenames 2>/dev/null ;;
   esac
@@ -62,7 +63,7 @@ _wineravine_replay() {
         HandleDraws= ShowSan= StrengthOptions= FenceStops= ResultReasons= TimeMargin= PlainTexts= PathOptions=
         RepeatThinking=' -- "$word")
       compopt -o nospace ;;
-    judge) mapfile -t COMPREPLY < <(compgen -W tap -- "$word") ;;
+    judge) mapfile -t COMPREPLY < <(compgen -W 'tap engine' -- "$word") ;;
     revive) mapfile -t COMPREPLY < <(compgen -W '1 2 3 4 5 6 7 8 9' -- "$word") ;;
   esac
 }
@@ -83,10 +84,21 @@ _wineravine_between() {
 }
 
 _wineravine_report() {
-  local word=${COMP_WORDS[COMP_CWORD]}
-  [ "${COMP_WORDS[COMP_CWORD - 1]}" != --jobs ] || return 0
+  local word=${COMP_WORDS[COMP_CWORD]} before=${COMP_WORDS[COMP_CWORD - 1]}
+  COMPREPLY=()
+  # what bash takes apart at `=`
+  case $word,$before in
+    =,*) word='' ;;
+    *,=) before=${COMP_WORDS[COMP_CWORD - 2]} ;;
+  esac
+  # (numbers of pages at once, and differences, have no default to be offered)
+  case $before in
+    --jobs | --sprt) return ;;
+    --alpha | --beta) mapfile -t COMPREPLY < <(compgen -W 0.05 -- "$word") && return ;;
+  esac
+  [ "$COMP_CWORD" -lt 3 ] || [ "${COMP_WORDS[COMP_CWORD - 2]}" != --sprt ] || return
   case $word in
-    -*) mapfile -t COMPREPLY < <(compgen -W '--machines --jobs --joblog --resume --help --version' -- "$word") ;;
+    -*) mapfile -t COMPREPLY < <(compgen -W '--machines --jobs --joblog --resume --sprt --alpha --beta --help --version' -- "$word") ;;
     *) mapfile -t COMPREPLY < <(compgen -f -- "$word") ;;
   esac
 }

@@ -70,7 +70,7 @@ def make_page(folder, log):
     path = folder / log
     if path.exists() and not path.is_file():
         return f"{name_of(log)} cannot be read: it is no file"
-    pieces = page_of_log(path, as_word(name_of(log)))
+    pieces = page_of_log(path, name_of(log))
     try:
         first = next(pieces)
     except OSError as fault:

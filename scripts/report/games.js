@@ -70,7 +70,7 @@ function showDuel(entry) {
   const box = $("duel"), game = gameOf(entry), count = game.moves.length;
   box.textContent = "";
   box.hidden = false;
-  const sides = entry.of.map((place, n) => ({ name: LOGS[place[0]].summary.engine || LOGS[place[0]].log, scores: gameIn(place).scores, kind: n ? "second" : "first" }));
+  const sides = entry.of.map((place, n) => ({ name: entry.engines[n], scores: gameIn(place).scores, kind: n ? "second" : "first" }));
   put(box, "h2", {}, "Game " + entry.number + ", " + playersOf(entry).join(" – ") + ": scores from White's side, pawns");
   putSides(box, sides);
   const frame = put(put(box, "div", { class: "plot" }), "div", { class: "frame" }), axis = put(frame, "div", { class: "axis" });

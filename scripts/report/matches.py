@@ -31,10 +31,13 @@ def counts_of_pairs(pairs, name):
     return counts
 
 
-def judgement(counts, test):
-    """What the formulas say of these counts."""
+def judgement(counts, games, test):
+    """What the formulas say of these counts; pairs without a superiority have that of games."""
     difference, error = elo.elo_of(counts)
-    found = {"elo": difference, "error": error, "superiority": elo.superiority(counts)}
+    superiority = elo.superiority(counts)
+    if superiority is None:
+        superiority = elo.superiority(games)
+    found = {"elo": difference, "error": error, "superiority": superiority}
     return {**found, "test": elo.sequential_test(counts, **test)} if test else found
 
 
@@ -52,7 +55,7 @@ def match_of(names, games, moves_of, test):
     is_paired = pairs and 2 * len(pairs) + left == len(known) and left <= 1
     if is_paired:
         row["pairs"] = counts_of_pairs(pairs, first)
-    return {**row, **judgement(row["pairs"] or counts, test)}
+    return {**row, **judgement(row["pairs"] or counts, counts, test)}
 
 
 def is_on_time(game, name):

@@ -58,13 +58,41 @@ def pairs_in(rows):
     return near + partners([row for row in rows if id(row) not in taken], lambda _: "")
 
 
-def names_of(pair):
+def engine_of(row):
+    return row["summary"]["engine"] or row["log"]
+
+
+def places_of(pairs):
+    """For the name of each engine the folders that have its logs alone, by the ends of their paths.
+
+    They are those of matches whose logs are in two folders.
+    """
+    found = {}
+    for pair in pairs:
+        if folder_of(pair[0]) != folder_of(pair[1]):
+            for row in pair:
+                found.setdefault(engine_of(row), set()).add(end_of(folder_of(row)))
+    return found
+
+
+def end_of(path):
+    return path.rpartition("/")[2]
+
+
+def name_of(row, places):
+    """The name of an engine, with that of its folder if logs of that name are in several."""
+    name, place = engine_of(row), end_of(folder_of(row))
+    several = places.get(name, ())
+    return f"{name} ({place})" if len(several) > 1 and place in several else name
+
+
+def names_of(pair, places):
     """The names of the engines, with those of their logs if they are alike."""
-    names = [row["summary"]["engine"] or row["log"] for row in pair]
+    names = [name_of(row, places) for row in pair]
     if names[0] != names[1]:
         return names
     files = [row["log"] for row in pair]
-    ends = [file.rpartition("/")[2] for file in files]
+    ends = list(map(end_of, files))
     return [f"{name} ({file})" for name, file in zip(names, files if ends[0] == ends[1] else ends)]
 
 
@@ -94,12 +122,13 @@ def game_entry(places, names):
 def game_list(rows):
     """The games of all logs; one that two logs of a match have is there once."""
     numbers, pairs = {id(row): number for number, row in enumerate(rows)}, pairs_in(rows)
+    places = places_of(pairs)
     partner, seconds = {id(one): two for one, two in pairs}, {id(two) for _, two in pairs}
     for row in rows:
         if not games_of(row) or id(row) in seconds:
             continue
         logs = [row, partner[id(row)]] if id(row) in partner else [row]
-        names = names_of(logs) if len(logs) == 2 else [row["summary"]["engine"] or row["log"]]
+        names = names_of(logs, places) if len(logs) == 2 else [name_of(row, places)]
         for number, games in enumerate(zip(*map(games_of, logs))):
             yield game_entry([(numbers[id(log)], number, game) for log, game in zip(logs, games)],
                              names)

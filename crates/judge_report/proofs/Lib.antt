@@ -1,3 +1,4 @@
 pub mod Reading
 pub mod Judgements
 pub mod Grows
+mod Blames

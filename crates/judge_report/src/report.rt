@@ -46,7 +46,7 @@ fn put_brought_out(before: Option<Search>, dialogue_event: &DialogueEvent, text:
 }
 
 // Step lines are ignored, and a header in line 1.
-fn is_passed(number: u64, line: &[u8]) -> bool
+pub(crate) fn is_passed(number: u64, line: &[u8]) -> bool
     ensures { result ≡ is_passed number line.now }
 {
     read_step(line).is_some() || (number == 1 && read_header(line).is_some())
@@ -171,7 +171,8 @@ impl LineFilter for Report {
         self.read_long(number, text)
     }
 
-    fn finish(&mut self, ending: Ending, text: &mut Out) {
+    fn finish(&mut self, ending: Ending, text: &mut Out) -> Ending {
         self.put_last(ending, text);
+        ending
     }
 }

@@ -12,7 +12,7 @@ use line_io::Out;
 use protocol_tokens::GoKind;
 use session_judge::{Judge, Rule, Search};
 
-fn put_number(word: &[u8], number: u64, out: &mut Out)
+pub(crate) fn put_number(word: &[u8], number: u64, out: &mut Out)
     requires { length out.old.text + length word.now + 20 ≤ out.old.room }
     ensures text { out.new ≡ with out.old (word.now ++ decimal number) }
     ensures short { length out.new.text ≤ length out.old.text + length word.now + 20 }

@@ -1,5 +1,5 @@
 -- The text that a line filter puts for the lines that it takes.
-use Rattle.std.specs.Prelude.{◌≡◌, ⊤, ℕ, ◌+◌, List, [], ◌∷◌, ◌++◌, length, Option, Some, None}
+use Rattle.std.specs.Prelude.{◌≡◌, ◌⊎◌, ⊤, ℕ, ◌+◌, List, [], ◌∷◌, ◌++◌, length, Option, Some, None}
 use Rattle.line_io.specs.Lines.{Piece}
 use Rattle.line_io.specs.Out.{Text, with}
 use Rattle.replay_command_base.specs.declared.ending.Ending.{Ending}
@@ -50,3 +50,7 @@ pub record FilterCloses {S : Type 0} (means : Putting S) (ending : Ending) (s : 
   pub put : held' ≡ with held more
   pub says : (s0 : S) (lines : List Piece) (text : List ℕ) → means.put s0 lines s text
       → means.says s0 lines ending (text ++ more)
+
+-- What comes of an end of the input: the end itself, or if all was read a line that is to blame.
+abbrev pub IsVerdict : Ending → Ending → Type 0
+IsVerdict ending verdict = (verdict ≡ ending) ⊎ ((ending ≡ endings.Done) × IsOfLine verdict)

@@ -9,7 +9,7 @@ use Rattle.line_io.specs.Source.{Received, TakesPrefix}
 use Rattle.line_io.specs.LineConsumers.{ConsumerMeaning}
 use Rattle.replay_command_base.specs.declared.ending.Ending.{Ending}
 use Rattle.replay_command_base.specs.declared.ending.Ending.TheVariants as endings
-use Rattle.replay_command_base.specs.Putting.{Putting, IsOfLine}
+use Rattle.replay_command_base.specs.Putting.{Putting, IsOfLine, IsVerdict}
 use Rattle.replay_command_base.specs.Filtered.{HasReason, IsText}
 use Rattle.replay_command_base.specs.declared.limits.TheConstants.{TEXT_ROOM}
 
@@ -80,6 +80,13 @@ abbrev pub FilterFinished : {S : Type 0} → Putting S → S → List Piece → 
 FilterFinished means s0 lines ending answer before after =
     ((answer ≡ ending) × Said means s0 lines ending [] before after)
     ⊎ ((answer ≡ endings.WritingFailed) × FilterBroke means s0 (λ e. e ≡ ending) lines before after)
+
+-- the same of what comes of the end of the input
+pub record FilterEnded {S : Type 0} (means : Putting S) (s0 : S) (lines : List Piece)
+    (ending answer : Ending) (before after : Received) : Type 0 where
+  pub verdict : Ending
+  pub is_verdict : IsVerdict ending verdict
+  pub finished : FilterFinished means s0 lines verdict answer before after
 
 -- if a line ended it
 abbrev pub FilterLeft : {S : Type 0} → Putting S → S → List Piece → Ending → Ending → Received → Received

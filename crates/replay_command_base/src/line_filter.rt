@@ -1,7 +1,7 @@
 // A filter that puts a text for lines.
 ghost use Rattle.std.specs.Prelude.{◌≡◌, ◌+◌, ◌≤◌, length, None, IfSome};
 ghost use Rattle.line_io.specs.Lines.{Whole, TooLong};
-ghost use Rattle.replay_command_base.specs.Putting.{IsInputEnd, FilterCloses, IsOfLine, Putting, Puts};
+ghost use Rattle.replay_command_base.specs.Putting.{FilterCloses, IsInputEnd, IsOfLine, IsVerdict, Putting, Puts};
 ghost use Rattle.replay_command_base.specs.declared.limits.TheConstants.{LINE_ROOM};
 
 use crate::Ending;
@@ -31,11 +31,13 @@ pub trait LineFilter {
         ensures puts { Puts means number TooLong result self.old text.old self.new text.new };
 
     /// Puts what is to be written last if no line is the reason to end: at the end of the input,
-    /// if a read failed, and if the input is too long.
-    fn finish(&mut self, ending: Ending, text: &mut Out)
+    /// if a read failed, and if the input is too long. The answer is how the run ends: mostly so, and if all was read
+    /// perhaps by a line that is to blame.
+    fn finish(&mut self, ending: Ending, text: &mut Out) -> Ending
         requires ending { IsOfLine ending → ⊥ }
         requires ends { IsInputEnd ending }
         requires may { means.may self.old }
         requires room { length text.old.text + LINE_ROOM ≤ text.old.room }
-        ensures { FilterCloses means ending self.old text.old text.new };
+        ensures verdict { IsVerdict ending result }
+        ensures closes { FilterCloses means result self.old text.old text.new };
 }

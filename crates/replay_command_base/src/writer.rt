@@ -83,19 +83,19 @@ impl<S: LineFilter> Writer<S> {
         ensures { (s0 : S) (lines : List Piece) (before : Received)
             → FilterTook S.means s0 lines self.old.line_filter self.old.text before (O.state
             output.old)
-            → FilterFinished S.means s0 lines ending result before (O.state output.new) }
+            → FilterEnded S.means s0 lines ending result before (O.state output.new) }
     {
         if make_room(&mut self.text, output).is_err() {
             return Ending::WritingFailed;
         }
-        self.line_filter.finish(ending, &mut self.text);
-        self.write_last(ending, output)
+        let verdict = self.line_filter.finish(ending, &mut self.text);
+        self.write_last(verdict, output)
     }
 }
 
 ghost use Rattle.std.specs.Prelude.{List};
 ghost use Rattle.line_io.specs.Lines.{Piece};
-ghost use Rattle.replay_command_base.specs.Writing.{FilterFinished, FilterHalted, FilterLeft, FilterMayTake, Said, FilterTook};
+ghost use Rattle.replay_command_base.specs.Writing.{FilterEnded, FilterFinished, FilterHalted, FilterLeft, FilterMayTake, Said, FilterTook};
 
 impl<O: Sink, S: LineFilter> LineConsumer<O> for Writer<S> {
     ghost use Rattle.replay_command_base.specs.Writing.{filter_meaning};

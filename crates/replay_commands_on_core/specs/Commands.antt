@@ -18,13 +18,14 @@ use Rattle.random_games.specs.declared.generator.TheConstants.{MODULUS}
 use Rattle.random_games.specs.declared.run.TheConstants.{MOST_ROUNDS}
 
 -- the request: a replay, a check, a migration, the games or the positions with settings, a
--- judgement of the log that this one wrote, a script played to an engine of so many lives or to a
--- driver, a drill, or the moves of what a text spells
+-- judgement of the log that this one wrote or of the engine in it, a script played to an engine of
+-- so many lives or to a driver, a drill, or the moves of what a text spells
 pub data ReplayRequest : Type 0 where
   Replay : (settings : Settings) → ReplayRequest
   Check : (settings : Settings) → ReplayRequest
   Migrate : (settings : Settings) → ReplayRequest
   Judge : (listener : Listener) → ReplayRequest
+  JudgeEngine : (listener : Listener) → ReplayRequest
   Revive : (lives : ℕ) → ReplayRequest
   Drive : ReplayRequest
   Games : (settings : Settings) → ReplayRequest
@@ -51,10 +52,21 @@ abbrev pub revive_of : List (List ℕ) → Option ReplayRequest
 revive_of (lives ∷ []) = option_map (λ n. Revive n) (number_in_range 1 1 9 lives)
 revive_of arguments = None
 
--- who wrote the log that is judged: the bridge, or a tap
+abbrev pub judge_by_word : List ℕ → Option ReplayRequest
+judge_by_word word =
+    if bytes_eq word (codes "tap") then Some (Judge listeners.Tap)
+    else (if bytes_eq word (codes "engine") then Some (JudgeEngine listeners.Bridge) else None)
+
+abbrev pub judge_by_words : List ℕ → List ℕ → Option ReplayRequest
+judge_by_words first second =
+    if bytes_eq first (codes "tap") && bytes_eq second (codes "engine")
+    then Some (JudgeEngine listeners.Tap) else None
+
+-- who wrote the log that is judged, the bridge or a tap, and whether it is the engine that is judged
 abbrev pub judge_of : List (List ℕ) → Option ReplayRequest
 judge_of [] = Some (Judge listeners.Bridge)
-judge_of (word ∷ []) = if bytes_eq word (codes "tap") then Some (Judge listeners.Tap) else None
+judge_of (word ∷ []) = judge_by_word word
+judge_of (first ∷ second ∷ []) = judge_by_words first second
 judge_of arguments = None
 
 -- a command that takes no arguments
@@ -81,7 +93,7 @@ command_by (Some names.Drill) arguments = drill_of arguments
 command_by (Some names.Moves) arguments = moves_of arguments
 
 -- the command of this name with these arguments: settings stand after `replay`, `check`,
--- `migrate`, `games` and `positions`, nothing or `tap` after `judge`, nothing after `drive`, one
+-- `migrate`, `games` and `positions`, perhaps `tap` and perhaps `engine` after `judge`, nothing after `drive`, one
 -- digit after `revive`, one or more arguments after `moves`, and two numbers after `drill`
 abbrev pub command_named : List ℕ → List (List ℕ) → Option ReplayRequest
 command_named name arguments =
@@ -109,6 +121,7 @@ request_by_command (commands.Replay s) = Replay s
 request_by_command (commands.Check s) = Check s
 request_by_command (commands.Migrate s) = Migrate s
 request_by_command (commands.Judge listener) = Judge listener
+request_by_command (commands.JudgeEngine listener) = JudgeEngine listener
 request_by_command (commands.Revive lives) = Revive lives
 request_by_command commands.Drive = Drive
 request_by_command (commands.Games s) = Games s

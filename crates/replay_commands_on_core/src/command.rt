@@ -1,7 +1,7 @@
 // The commands of the program.
 ghost use Rattle.std.specs.Prelude.{◌≡◌, IfSome};
 ghost use Rattle.std.specs.Option.{option_map};
-ghost use Rattle.replay_commands_on_core.specs.Commands.{Drive, HasProper, command_without_arguments, request_by_command, command_by, replay_command_of, command_named, drill_of, judge_of, moves_of, revive_of, argument_bytes};
+ghost use Rattle.replay_commands_on_core.specs.Commands.{Drive, HasProper, command_without_arguments, request_by_command, command_by, replay_command_of, command_named, drill_of, judge_by_word, judge_by_words, judge_of, moves_of, revive_of, argument_bytes};
 
 use crate::settings::read_settings;
 use policy_rules::{Settings, read_number};
@@ -20,6 +20,8 @@ pub enum ReplayCommand<'a> {
     Migrate(Settings),
     /// Judges the log of any bridge, which this one wrote.
     Judge(Listener),
+    /// Judges the engine's own conduct in such a log.
+    JudgeEngine(Listener),
     /// Plays the input to an engine that is started again, of which so many lives may be begun.
     Revive { lives: u32 },
     /// Plays the input to a driver between a UCI interface and a CECP engine.
@@ -47,14 +49,39 @@ fn read_drill(arguments: &[Vec<u8>]) -> Option<ReplayCommand>
     })
 }
 
-/// The command `judge`, which takes no arguments, or `tap` for the log of a tap.
+fn read_judge_word<'a>(word: &[u8]) -> Option<ReplayCommand<'a>>
+    ensures value { option_map request_by_command result ≡ judge_by_word word.now }
+    ensures proper { IfSome result (λ command. HasProper command) }
+{
+    if word == b"tap".as_slice() {
+        Some(ReplayCommand::Judge(Listener::Tap))
+    } else if word == b"engine".as_slice() {
+        Some(ReplayCommand::JudgeEngine(Listener::Bridge))
+    } else {
+        None
+    }
+}
+
+fn read_judge_words<'a>(first: &[u8], second: &[u8]) -> Option<ReplayCommand<'a>>
+    ensures value { option_map request_by_command result ≡ judge_by_words first.now second.now }
+    ensures proper { IfSome result (λ command. HasProper command) }
+{
+    if first == b"tap".as_slice() && second == b"engine".as_slice() {
+        Some(ReplayCommand::JudgeEngine(Listener::Tap))
+    } else {
+        None
+    }
+}
+
+/// The command `judge`, which takes no arguments, or `tap` for the log of a tap, and behind it perhaps `engine`.
 fn read_judge<'a>(arguments: &[Vec<u8>]) -> Option<ReplayCommand<'a>>
     ensures value { option_map request_by_command result ≡ judge_of (argument_bytes arguments.now) }
     ensures proper { IfSome result (λ command. HasProper command) }
 {
     match arguments {
         [] => Some(ReplayCommand::Judge(Listener::Bridge)),
-        [word] if word.as_slice() == b"tap".as_slice() => Some(ReplayCommand::Judge(Listener::Tap)),
+        [word] => read_judge_word(word.as_slice()),
+        [first, second] => read_judge_words(first.as_slice(), second.as_slice()),
         _ => None,
     }
 }

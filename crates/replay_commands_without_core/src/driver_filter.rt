@@ -71,5 +71,7 @@ impl LineFilter for Drive {
         Some(Ending::NoMark(number))
     }
 
-    fn finish(&mut self, _ending: Ending, _text: &mut Out) {}
+    fn finish(&mut self, ending: Ending, _text: &mut Out) -> Ending {
+        ending
+    }
 }

@@ -117,7 +117,8 @@ impl LineFilter for Migration {
         Some(Ending::NoMark(number))
     }
 
-    fn finish(&mut self, _ending: Ending, text: &mut Out) {
+    fn finish(&mut self, ending: Ending, text: &mut Out) -> Ending {
         let _ = self.begin(text);
+        ending
     }
 }

@@ -80,5 +80,7 @@ impl LineFilter for Reviver {
         Some(Ending::NoMark(number))
     }
 
-    fn finish(&mut self, _ending: Ending, _text: &mut Out) {}
+    fn finish(&mut self, ending: Ending, _text: &mut Out) -> Ending {
+        ending
+    }
 }

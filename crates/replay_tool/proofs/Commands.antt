@@ -13,6 +13,7 @@ use Rattle.replay_commands_on_core.specs.OwnScripts.{JudgesOwnTalk, MigratesOwnS
 use Rattle.replay_command_base.specs.Ran.{Refused}
 use Rattle.replay_commands_on_core.specs.Replayed.{Replayed}
 use Rattle.replay_command_base.specs.Streams.{FilterStreams}
+use Rattle.judge_report.specs.Conducts.{ConductJudged}
 use Rattle.judge_report.specs.Judged.{Judged}
 use Rattle.replay_commands_without_core.specs.Migrated.{Migrated}
 use Rattle.replay_commands_without_core.specs.Revived.{ReviveCommandIs}
@@ -59,6 +60,9 @@ module _ (unread kept silent : Type 0) (start now : FilterStreams) (code : ℕ) 
 
   pub judged : (command : Option ReplayRequest) → D command → (listener : Listener) → command ≡ Some (asked.Judge listener) → Judged listener (unread × kept) start now code
   judged command d listener e = subst D e d
+
+  pub engine_judged : (command : Option ReplayRequest) → D command → (listener : Listener) → command ≡ Some (asked.JudgeEngine listener) → ConductJudged listener (unread × kept) start now code
+  engine_judged command d listener e = subst D e d
 
   pub judged_own : (command : Option ReplayRequest) → D command → (listener : Listener) → command ≡ Some (asked.Judge listener) → JudgesOwnTalk listener start now code
   judged_own command d listener e = judges_own_talk listener (unread × kept) start now code (judged command d listener e)

@@ -11,6 +11,7 @@ use Rattle.replay_command_base.specs.Ran.{FilterRan, Refused}
 use Rattle.replay_commands_on_core.specs.Replay.{EndsAs}
 use Rattle.replay_command_base.specs.Streams.{FilterStreams}
 use Rattle.replay_commands_without_core.specs.Migrated.{Migrated}
+use Rattle.judge_report.specs.Conducts.{ConductJudged}
 use Rattle.judge_report.specs.Judged.{Judged}
 use Rattle.replay_commands_without_core.specs.Revived.{ReviveCommandIs}
 use Rattle.replay_commands_without_core.specs.Driven.{DriveCommandIs}
@@ -27,6 +28,8 @@ ReplayDoes (Some (asked.Migrate o)) unread kept silent before after code =
     Migrated o unread kept before after code
 ReplayDoes (Some (asked.Judge listener)) unread kept silent before after code =
     Judged listener (unread × kept) before after code
+ReplayDoes (Some (asked.JudgeEngine listener)) unread kept silent before after code =
+    ConductJudged listener (unread × kept) before after code
 ReplayDoes (Some (asked.Revive lives)) unread kept silent before after code =
     ReviveCommandIs lives (unread × kept) before after code
 ReplayDoes (Some asked.Drive) unread kept silent before after code =

@@ -16,6 +16,7 @@ ghost use Rattle.replay_command_base.specs.Ran.{Refused};
 ghost use Rattle.replay_commands_on_core.specs.Replayed.{Replayed};
 ghost use Rattle.replay_command_base.specs.Streams.{filter_streams};
 ghost use Rattle.judge_and_driver_laws.specs.Judge.Tapped.{AllTapsAreClean};
+ghost use Rattle.judge_report.specs.Conducts.{ConductJudged};
 ghost use Rattle.judge_report.specs.Judged.{Judged};
 ghost use Rattle.replay_commands_without_core.specs.Migrated.{Migrated};
 ghost use Rattle.replay_commands_without_core.specs.Revived.{ReviveCommandIs};
@@ -24,7 +25,7 @@ ghost use Rattle.session_export.specs.GamesWritten.{GamesWritten};
 ghost use Rattle.session_export.specs.PositionsWritten.{PositionsWritten};
 
 use judge_and_driver_laws::{engines_hear_the_ordered, taps_are_clean};
-use judge_report::run_judge;
+use judge_report::{run_conduct_judge, run_judge};
 use line_io::{Sink, Source, Status};
 use policy_rules::Settings;
 use replay_command_base::{Ending, report_without_buffer};
@@ -67,6 +68,9 @@ fn run_arguments<I: Source, O: Sink, D: Sink>(
         }
         Some(ReplayCommand::Migrate(settings)) => migrate(alloc, &settings, input, output, diag),
         Some(ReplayCommand::Judge(listener)) => run_judge(alloc, listener, input, output, diag),
+        Some(ReplayCommand::JudgeEngine(listener)) => run_conduct_judge(
+            alloc, listener, input, output, diag,
+        ),
         Some(ReplayCommand::Revive { lives }) => run_revive(alloc, lives, input, output, diag),
         Some(ReplayCommand::Drive) => run_drive(alloc, input, output, diag),
         Some(ReplayCommand::Games(settings)) => write_games(alloc, &settings, input, output, diag),
@@ -109,7 +113,8 @@ fn run_arguments<I: Source, O: Sink, D: Sink>(
 ///
 /// The argument `judge` reads the log of any bridge and writes the report of the judge, with status 1 if
 /// a mark breaks a rule. With the word `tap` after it the log is that of a tap between the bridge and
-/// its engine, in which an order may cross a line of the engine.
+/// its engine, in which an order may cross a line of the engine. With the word `engine` last it is the engine's own
+/// conduct that is judged: each line of the engine that breaks a rule is blamed, and then the status is 1.
 ///
 /// The argument `moves` joins the arguments after it by blanks, as the text of a position (PGN standard,
 /// section 16.1), and writes its legal moves, one a line, in the byte order of their texts; it reads
@@ -117,7 +122,7 @@ fn run_arguments<I: Source, O: Sink, D: Sink>(
 /// rounds of drawn moves in one session and writes a line with what it counted; it reads no input
 /// either.
 ///
-/// The statuses are 0; 1 if `check` found a difference, or `judge` a mark that breaks a rule; 2 if
+/// The statuses are 0; 1 if `check` found a difference, or `judge` a mark that breaks a rule or a line to blame; 2 if
 /// the arguments are others, if a line of the input has no mark, is out of step or its event may not
 /// come, or if the text spells no position; 3 if there is no memory at the beginning; 4 and 5 if
 /// reading and writing failed; and 6 if the input is too long.
@@ -156,6 +161,11 @@ pub fn replay_main<I: Source, O: Sink, D: Sink>(
     ensures judge { (listener : AnyListener)
         → replay_command_of (argument_bytes arguments.now) ≡ Some (asked.Judge listener)
         → Judged listener ((input.new ≡ input.old) × (output.new ≡ output.old))
+        (filter_streams (I.state input.old) (O.state output.old) (D.state diag.old))
+        (filter_streams (I.state input.new) (O.state output.new) (D.state diag.new)) result.code }
+    ensures judge_engine { (listener : AnyListener)
+        → replay_command_of (argument_bytes arguments.now) ≡ Some (asked.JudgeEngine listener)
+        → ConductJudged listener ((input.new ≡ input.old) × (output.new ≡ output.old))
         (filter_streams (I.state input.old) (O.state output.old) (D.state diag.old))
         (filter_streams (I.state input.new) (O.state output.new) (D.state diag.new)) result.code }
     ensures judge_own { (listener : AnyListener)

@@ -169,13 +169,14 @@ impl<T: StepExporter> LineFilter for SessionWriter<T> {
         Some(Ending::NoMark(number))
     }
 
-    fn finish(&mut self, ending: Ending, text: &mut Out) {
+    fn finish(&mut self, ending: Ending, text: &mut Out) -> Ending {
         // Each branch ends by itself, so that the proof of each knows whether the session was opened in it.
         if self.is_new() {
             self.open_plain(text);
             self.exporter.finish(ending, text);
-            return;
+            return ending;
         }
         self.exporter.finish(ending, text);
+        ending
     }
 }

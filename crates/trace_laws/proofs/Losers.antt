@@ -1,5 +1,5 @@
 -- A result with its reason says that the engine's side has lost.
-use Rattle.std.proofs.Common.{◌≡◌, ◌⊎◌, inl, inr, ℕ, List, [], ◌∷◌, ◌++◌, map, Bool, true, false, not, cond, ◌&&◌, ◌||◌, refl, sym, ap, ◌∙◌, subst, arith}
+use Rattle.std.proofs.Common.{◌≡◌, inl, inr, List, [], ◌∷◌, ◌++◌, map, Bool, true, false, not, cond, ◌&&◌, ◌||◌, refl, sym, ap, ◌∙◌, subst, arith}
 use Rattle.std.specs.List.{AllByRecursion}
 use Rattle.std.proofs.lemmas.Bool.{and_parts}
 use Rattle.chess_board.specs.declared.board.Side.{Side}
@@ -22,9 +22,9 @@ use Rattle.desk_rules.specs.Desk.{Situation, call_of_desk, call_before, owed_at,
 use Rattle.desk_rules.specs.Steps.{Effect, Shows, Forfeits, Dies, desk_after_effect, is_death, resigns_after, resigns_at_end, resigns_when_gone}
 use Rattle.desk_rules.specs.Replies.{result_reply_of, list_where, resign_where, giving_up, given_up_where, reply_row, repeated_thinking, replies_of}
 use Rattle.desk_rules.specs.Fits.{EffectFitsDesk, IsServed}
-use Rattle.adapter_core.specs.Trace.{State, Step, IsLawfulStep, state, situation_of_state, effect, owed_after, closed_after, step_hits}
+use Rattle.adapter_core.specs.Trace.{state, situation_of_state, effect, owed_after, closed_after, step_hits}
 use Rattle.adapter_core.proofs.Fresh.{plays_now, call_is}
-use Rattle.adapter_core.proofs.Traces.{Lasts, lasts, fits}
+use Rattle.adapter_core.proofs.Traces.{lasts, fits}
 use Rattle.trace_laws.specs.Resigning.{resigns_in, losers_in, EngineLoses, LosersAreTheEngines}
 use Rattle.trace_laws.proofs.Pieces.{all_both}
 use Rattle.trace_laws.proofs.ResignLines.{no_list, no_result, no_repeated, no_pongs}

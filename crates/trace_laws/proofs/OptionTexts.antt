@@ -144,7 +144,7 @@ blanked_bare [] = refl
 blanked_bare (b ∷ bs) = rw (no_feed_by (is_control b) b refl, blanked_bare bs) refl
 
 style_by : (w : Bool) (text : List ℕ) → no_feed text ≡ true → no_feed (cond w (trimmed (blanked_text text)) text) ≡ true
-style_by true text n = (trimmed_part {length (blanked_text text)} (blanked_text text) (record { line = blanked_bare text; short = omega arith })).line
+style_by true text n = (trimmed_part {most = length (blanked_text text)} (blanked_text text) (record { line = blanked_bare text; short = omega arith })).line
 style_by false text n = n
 
 -- in any style

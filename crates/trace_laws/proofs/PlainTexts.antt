@@ -7,6 +7,8 @@ use Rattle.chess_board.specs.declared.board.Side.{Side}
 use Rattle.cecp_lines.specs.Messages.{IfaceMsg}
 use Rattle.cecp_lines.specs.Messages as says
 use Rattle.cecp_lines.specs.declared.reply.Spelling.{Spelling}
+use Rattle.cecp_lines.specs.Losses.{Loss, quoted}
+use Rattle.cecp_lines.specs.Losses as losses
 use Rattle.cecp_lines.specs.Replies.{Reply, Feature}
 use Rattle.cecp_lines.specs.Replies as cecp
 use Rattle.uci_lines.specs.Info.{Info}
@@ -31,7 +33,7 @@ use Rattle.desk_rules.specs.declared.desk.Desk.{Desk}
 use Rattle.desk_rules.specs.Desk.{Situation, is_boot, table, on_move, game_played, plays}
 use Rattle.desk_rules.specs.Lines.{change, refused_option, early_answer}
 use Rattle.desk_rules.specs.Steps.{Effect, Refuses, Names, Accepts, Declares, Boots, Thinks, Shows, Forfeits, LongLine, Dies, searched_by, shows_thinking, named_hint, spelling_of, resigns_after, resigns_at_end, resigns_when_gone, feature_style, desk_after_effect}
-use Rattle.desk_rules.specs.Replies.{refused, result_reply_by, result_reply_of, protover_row, offer_where, hint_row, row_accepted, list_where, resign_where, early_refusal, early_refusals, reply_row, repeated_thinking, replies_of}
+use Rattle.desk_rules.specs.Replies.{refused, result_reply_by, result_reply_of, protover_row, offer_where, hint_row, row_accepted, list_where, resign_where, giving_up, given_up_where, early_refusal, early_refusals, reply_row, repeated_thinking, replies_of}
 use Rattle.adapter_core.specs.Trace.{State, Step, IsLawfulStep, LawfulTrace, state, trace_state_after, situation_of_state, effect, owed_after, closed_after, step_hits}
 use Rattle.trace_laws.specs.PlainTexts.{IsPlainFeature, FeaturesArePlain}
 use Rattle.trace_laws.proofs.Pieces.{all_both, all_where}
@@ -117,6 +119,14 @@ resign_plain : (b : Bool) → ArePlain (resign_where b)
 resign_plain true = (tt, tt)
 resign_plain false = tt
 
+up_plain : (reasons : Bool) (side : Side) (loss : Loss) → IsPlainFeature (giving_up reasons side loss)
+up_plain true side loss = tt
+up_plain false side loss = tt
+
+given_plain : (b : Bool) (o : Settings) (g : Game) → ArePlain (given_up_where b o g)
+given_plain true o g = (up_plain o.result_reasons (on_move g) losses.Ended, tt)
+given_plain false o g = tt
+
 offer_plain : (b : Bool) → ArePlain (offer_where b)
 offer_plain true = (tt, tt)
 offer_plain false = tt
@@ -193,18 +203,20 @@ row_plain h (Thinks kind facts) k =
     thinking_plain (shows_thinking h kind) (thinking_line s facts p hint) (line_plain facts.depth facts.score (run_texts s p (legal_run p facts.pv)) facts s (hint_text s hint))
 row_plain h (Shows best hint) k =
     (tt, all_both IsPlainFeature (result_reply_of (game_played h.desk.game best)) (resign_where (resigns_after h best)) (result_plain (on_move (game_played h.desk.game best)) (ended_of (game_played h.desk.game best))) (resign_plain (resigns_after h best)))
-row_plain h Dies k = all_both IsPlainFeature (list_where h.desk.due h.desk) (cecp.TellError _ ∷ resign_where (resigns_at_end h)) (where_plain h.desk.due h.desk k) (tt, resign_plain (resigns_at_end h))
-row_plain h Forfeits k = (tt, (tt, tt))
+row_plain h Dies k =
+    let gone = given_up_where (resigns_at_end h) h.settings h.desk.game in
+    all_both IsPlainFeature (list_where h.desk.due h.desk) (cecp.TellError _ ∷ gone) (where_plain h.desk.due h.desk k) (tt, given_plain (resigns_at_end h) h.settings h.desk.game)
+row_plain h (Forfeits answer) k = (tt, (up_plain h.settings.result_reasons (on_move h.desk.game) (losses.IllegalMove (quoted answer)), tt))
 row_plain h LongLine k = (tt, tt)
 row_plain h d k = tt
 
 open_plain : (owes hits : Bool) (h : Situation) (d : Effect) → IsCleanDesk h.desk → ArePlain (replies_of false owes hits h d)
 open_plain owes hits h d k =
-    let resign = resign_where (resigns_when_gone false h d) in
+    let gone = given_up_where (resigns_when_gone false h d) h.settings (desk_after_effect h d).game in
     let again = repeated_thinking (h.settings.repeat_thinking && hits) (desk_after_effect h d).last_thinking in
     let pongs = map cecp.Pong (desk_after_effect h d).pings in
-    all_both IsPlainFeature (reply_row h d ++ resign ++ again) (cond owes [] pongs)
-    (all_both IsPlainFeature (reply_row h d ++ resign) again (all_both IsPlainFeature (reply_row h d) resign (row_plain h d k) (resign_plain (resigns_when_gone false h d))) (repeated_plain (h.settings.repeat_thinking && hits) (desk_after_effect h d).last_thinking))
+    all_both IsPlainFeature (reply_row h d ++ gone ++ again) (cond owes [] pongs)
+    (all_both IsPlainFeature (reply_row h d ++ gone) again (all_both IsPlainFeature (reply_row h d) gone (row_plain h d k) (given_plain (resigns_when_gone false h d) h.settings (desk_after_effect h d).game)) (repeated_plain (h.settings.repeat_thinking && hits) (desk_after_effect h d).last_thinking))
     (all_where IsPlainFeature owes [] pongs tt (pongs_plain (desk_after_effect h d).pings))
 
 replies_plain : (closed owes hits : Bool) (h : Situation) (d : Effect) → IsCleanDesk h.desk → ArePlain (replies_of closed owes hits h d)

@@ -336,7 +336,7 @@ module _ (s : State) (step : Step) (last : Lasts s) (l : IsLawfulStep s step) wh
   gone_once c wants gone i =
       let owing = call_is closed false (desk_after_effect h d) ∙ moves_then closed (desk_after_effect h d) c i in
       let now = all_three s.settings.resign_when_gone (is_gone h.engine || is_death d) (is_move (call_of_desk closed false (desk_after_effect h d))) wants gone owing in
-      let row = false_from_ne_true (gives_up h d) (λ g. both_ways when_gone now (not_both g)) in
+      let row = false_from_ne_true (gives_up h d) (λ g. both_ways when_gone (not_both g) now) in
       omega (arith, open_resigns c, ap one_where row, ap one_where now)
 
   -- ONCE

@@ -99,14 +99,17 @@ def check_blanks(work, log):
     for number in range(3):
         (folder / f"{number} $x.log").write_bytes(log)
     ways = [(), ("--joblog", work / "a joblog")] if is_installed("parallel") else [()]
+    tables = set()
     for words in ways:
         for page in folder.glob("*.html"):
             page.unlink()
         ran = ask(program / "wineravine-report", *words, folder)
         told = (ran.returncode, ran.stderr, len(list(folder.glob("*.log.html"))))
         wants(told == (0, b"", 3), f"a path with blanks, {words}: {told}")
+        tables.add(ran.stdout)
         left = [*folder.glob("*.new"), *work.glob("x*.log")]
         wants(not left, f"a path with blanks: these files are left: {left}")
+    wants(len(tables) == 1, "made by GNU parallel the table is another one")
     say(f"paths with blanks and quotes: {len(ways)} ways to make pages, nothing said")
 
 

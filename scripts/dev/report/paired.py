@@ -17,12 +17,14 @@ PAIRS = [("1-0", "0-1"), ("1-0", "1/2-1/2"), ("1/2-1/2", "1/2-1/2"), ("1-0", "1-
          ("0-1", "0-1"), ("1/2-1/2", "1-0")]
 # in pairs: 2, 3/2, 1, 1, 1, 1/2; in games: +5 =4 -3
 OF_PAIRS, OF_GAMES = [0, 1, 3, 1, 1], [3, 4, 5]
+# New wins all
+ALL_WON = [("1-0", "0-1")] * len(PAIRS)
 
 
-def session(name, is_new):
+def session(name, is_new, pairs):
     """A side of the twelve games: in the first of a pair New is White."""
     lines = [BOOT.format(name)]
-    for fen, move, pair in zip(FENS, MOVES, PAIRS):
+    for fen, move, pair in zip(FENS, MOVES, pairs):
         for number, result in enumerate(pair):
             lines.append(f"x new\nu readyok\nx force\nx setboard {fen}\n")
             if (number == 0) == is_new:
@@ -58,11 +60,28 @@ def check_row(page, counts, counted, wanted):
                     elo.likelihood_ratio(counts, 0, 50)], f"{counted}: {found}")
 
 
+def check_all_won(page, folder, replay):
+    """Pairs that all came to the same have no error; the superiority is that of games."""
+    put_logs(folder, replay, ALL_WON)
+    table_of(page, folder)
+    # 12 / sqrt(12) is 3.46, where the normal distribution has 0.9997
+    wanted = {"Elo difference": "+∞", "LOS": "100.0 %", "counted by": "pairs 0 0 0 0 6"}
+    found = {head: row_in(page).get(head) for head in wanted}
+    wants(found == wanted, f"a match in which all is won: {found}")
+    superiority = page.js("TABLE.matches[0].superiority")
+    wants(superiority and abs(superiority - 0.99973) < 1e-5,
+          f"its superiority is {superiority}")
+
+
+def put_logs(folder, replay, pairs):
+    for name, is_new in (("New", True), ("Old", False)):
+        (folder / f"{name}.log").write_bytes(log_of(replay, session(name, is_new, pairs)))
+
+
 def check_matches(page, work, replay):
     folder = work / "paired"
     folder.mkdir()
-    for name, is_new in (("New", True), ("Old", False)):
-        (folder / f"{name}.log").write_bytes(log_of(replay, session(name, is_new)))
+    put_logs(folder, replay, PAIRS)
     table_of(page, folder, "--sprt", "0", "50", "--alpha", "0.1", "--beta", "0.2")
     wanted = {"match": "New – Old", "games": "12", "won": "5", "drawn": "4", "lost": "3",
               "no result": "0", "score": "7 of 12 (58.3 %)", "lost on time": "0 – 0"}
@@ -80,4 +99,5 @@ def check_matches(page, work, replay):
         log.write_text(text)
     table_of(page, folder, "--sprt", "0", "50")
     check_row(page, OF_GAMES, "in games", {**wanted, "counted by": "games"})
+    check_all_won(page, folder, replay)
     say("matches: in pairs of games with set openings, in games, with a sequential test")

@@ -57,7 +57,8 @@ def take_xboard(work, wineravine, folder):
     time.sleep(2)
     xboard = subprocess.Popen(
         ["xboard", "-mode", "TwoMachines", "-mg", "1", "-depth", "6", "-size", "49",
-         "-soundProgram", "true", "-fcp", "wineravine --LogFile first.log stockfish",
+         "-soundProgram", "true", "-engineOutputUp", "true", "-saveSettingsOnExit", "false",
+         "-fcp", "wineravine --LogFile first.log stockfish",
          "-scp", "wineravine --LogFile second.log toga2"], cwd=work, env=here, **quiet)
     end = time.monotonic() + 120
     log = work / "first.log"

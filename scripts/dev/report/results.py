@@ -11,10 +11,10 @@ MOVES = ("e2e4", "e7e5", "g1f3")
 END = "x quit\nu.\n"
 
 
-def game(name, side, told="", think=""):
+def game(name, side, told="", think="", moves=MOVES):
     """The session of one side of a game; `think` is what comes while it is asked for a fourth."""
     lines = [BOOT.format(name) + "x new\nu readyok\nx force\n"]
-    for ply, move in enumerate(MOVES):
+    for ply, move in enumerate(moves):
         if (ply % 2 == 0) == (side == "white"):
             lines.append(("x go\n" if ply < 2 else "") + f"u bestmove {move}\n")
         else:
@@ -38,10 +38,20 @@ LOGS = {"a/first": game("One", "white", "1-0 {Black resigns}") + END,
         "c/first": game("Fast", "white", FLAG) + END, "c/second": LATE,
         "d/first": game("Prompt", "white", FLAG) + END, "d/second": SHOWN, "many": THREE}
 
+# A tournament with a folder for each engine: two give themselves the same, long name.
+TWICE, OTHER = "A Long Name of an Engine 11.1", "Other"
+GAMES = (("strong/1", TWICE, "other/1", OTHER, "1-0", "e2e4 e7e5 g1f3"),
+         ("weak/1", TWICE, "other/2", OTHER, "0-1", "d2d4 d7d5 c2c4"),
+         ("strong/2", TWICE, "weak/2", TWICE, "1-0", "c2c4 e7e5 b1c3"))
+FOLDERS = {}
+for WHITE_LOG, WHITE, BLACK_LOG, BLACK, RESULT, LINE in GAMES:
+    FOLDERS[WHITE_LOG] = game(WHITE, "white", RESULT, moves=LINE.split()) + END
+    FOLDERS[BLACK_LOG] = game(BLACK, "black", RESULT, moves=LINE.split()) + END
 
-def folder_of(work, replay):
-    folder = work / "results"
-    for name, session in LOGS.items():
+
+def folder_of(work, replay, name="results", logs=None):
+    folder = work / name
+    for name, session in (logs or LOGS).items():
         log = folder / f"{name}.log"
         log.parent.mkdir(parents=True, exist_ok=True)
         log.write_bytes(log_of(replay, session))
@@ -96,9 +106,27 @@ def check_forfeit(page, folder):
           "the winner lost on time")
 
 
+def check_folders(page, folder):
+    """Engines of one name that have a folder each are two; no name covers the next cell."""
+    table_of(page, folder)
+    found = {row[0]: row[1:5] for row in texts_in(page, "#match-rows tr")}
+    strong, weak = f"{TWICE} (strong)", f"{TWICE} (weak)"
+    wants(found == {f"{OTHER} – {strong}": ["1", "0", "0", "1"],
+                    f"{OTHER} – {weak}": ["1", "1", "0", "0"],
+                    f"{strong} – {weak}": ["1", "1", "0", "0"]},
+          f"a folder for each engine: the matches {found}")
+    for width in (400, 1280):
+        page.size(width)
+        wide = page.js("[...document.querySelectorAll('#match-rows > tr > *, #cells > tr > *')]"
+                       ".filter(e => e.scrollWidth > e.clientWidth).map(e => e.textContent)")
+        wants(not wide, f"at a width of {width} these cover the next cell: {wide}")
+
+
 def check_results(page, work, replay):
     folder = folder_of(work, replay)
     check_table(page, folder)
     check_forfeit(page, folder)
+    check_folders(page, folder_of(work, replay, "folders", FOLDERS))
     say("results: of the partner in the folder, as told in either log, grouped, each game once; "
+        "engines of one name with a folder each; "
         "a game lost on time beside its late answer")

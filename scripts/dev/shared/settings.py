@@ -10,7 +10,7 @@ Setting = collections.namedtuple("Setting", "name is_truth usual least most defa
 
 ROW = re.compile(r'Setting::\w+ => (truth|number)\("(\w+)", "(\w+)"(?:, (\w+), (\w+))?\)')
 CONSTANT = re.compile(r"const (\w+): u32 = ([\d_]+);")
-OPTION = re.compile(r'(?:let help = "([^"]*)";\s*)?(flag_option|option)\(\s*alloc,\s*"(\w+)",\s*'
+OPTION = re.compile(r'(?:let help =\s*"([^"]*)";\s*)?(flag_option|option)\(\s*alloc,\s*"(\w+)",\s*'
                     r'"(\w+)",\s*(?:"([^"]*)")?,?\s*(?:"([^"]*)"|help)')
 
 

@@ -8,6 +8,8 @@ import threading
 class UciProgram:
     """The running program. What it does not do ends the whole script, with a line that says so."""
 
+    statuses = (0,)
+
     def __init__(self, words):
         self.process = subprocess.Popen(words, stdin=subprocess.PIPE, stdout=subprocess.PIPE,
                                         stderr=subprocess.DEVNULL, text=True)
@@ -36,7 +38,7 @@ class UciProgram:
                 return line
 
     def quit(self):
-        """Orders its end, which must be one without a fault."""
+        """Orders its end, with a status that it may have."""
         self.order("quit")
-        if (status := self.process.wait(timeout=120)) != 0:
+        if (status := self.process.wait(timeout=120)) not in self.statuses:
             sys.exit(f"the program ended with status {status}")

@@ -26,14 +26,29 @@ fn are_texts(names: &[String], texts: &[&str]) -> bool {
     true
 }
 
+// True if the names are these and then this one.
+fn are_texts_and(names: &[String], texts: &[&str], last: &str) -> bool {
+    match names.split_last() {
+        Some((name, before)) => name.as_str() == last && are_texts(before, texts),
+        None => false,
+    }
+}
+
+fn put_file(rt: &impl Abort, alloc: Global, file: &str, host: &mut MemHost)
+    requires { HostIsUnused (memory_ledger host.old) }
+    ensures { HostIsUnused (memory_ledger host.new) }
+{
+    let name = String::from_str(alloc, file).expect(rt, "memory");
+    host.put_file(name).expect(rt, "memory");
+}
+
 // A host that has these files, and whose engine ends at once.
 fn host_with(rt: &impl Abort, alloc: Global, files: &[&str], fails: &Fails) -> MemHost
     ensures { HostIsUnused (memory_ledger result) }
 {
     let mut host = MemHost::make(alloc, b"uciok\n", 200, 10_000, fails).expect(rt, "memory");
     for file in files {
-        let name = String::from_str(alloc, file).expect(rt, "memory");
-        host.put_file(name).expect(rt, "memory");
+        put_file(rt, alloc, file, &mut host);
     }
     host
 }
@@ -85,20 +100,8 @@ fn a_new_log_has_the_name_of_the_engine_and_of_the_process(rt: HostRuntime) {
         let status = run_program(&rt, alloc, words.as_str(), &mut host);
         expect(&rt, status == 0, "status", number);
         expect(&rt, are_texts(host.folders(), &["logs"]), "folder", number);
-        let names = host.files();
-        expect(&rt, names.len() == files.len() + 1, "files", number);
-        expect(
-            &rt,
-            are_texts(&names[..files.len()], files),
-            "files before",
-            number,
-        );
-        expect(
-            &rt,
-            are_texts(&names[files.len()..], &[made]),
-            "log",
-            number,
-        );
+        let is_made = are_texts_and(host.files(), files, made);
+        expect(&rt, is_made, "files", number);
     }
 }
 

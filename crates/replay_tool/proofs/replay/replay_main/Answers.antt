@@ -22,6 +22,9 @@ returns-clause-migrate_own g c = does.migrated_own _ _ _ _ _ _ _ (does.at_code _
 pub returns-clause-judge : goal.returns-clause-judge
 returns-clause-judge g c = does.judged _ _ _ _ _ _ _ (does.at_code _ _ _ _ _ _ _ _ c.code.ensures c.run_arguments.ensures)
 
+pub returns-clause-judge_engine : goal.returns-clause-judge_engine
+returns-clause-judge_engine g c = does.engine_judged _ _ _ _ _ _ _ (does.at_code _ _ _ _ _ _ _ _ c.code.ensures c.run_arguments.ensures)
+
 pub returns-clause-judge_own : goal.returns-clause-judge_own
 returns-clause-judge_own g c = does.judged_own _ _ _ _ _ _ _ (does.at_code _ _ _ _ _ _ _ _ c.code.ensures c.run_arguments.ensures)
 

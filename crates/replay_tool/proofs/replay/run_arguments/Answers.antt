@@ -29,6 +29,12 @@ returns-in-Some-Judge g c =
     (sym c.read_command.ensures.value ∙ ap (option_map request_by_command) (c.in-Some-Judge.is ∙ ap (λ (k : ReplayCommand). Some k) c.in-Some-Judge.field-0-is))
     c.run_judge.ensures
 
+pub returns-in-Some-JudgeEngine : goal.returns-in-Some-JudgeEngine
+returns-in-Some-JudgeEngine g c =
+    is_done _ _ _ _ _ _ _ _
+    (sym c.read_command.ensures.value ∙ ap (option_map request_by_command) (c.in-Some-JudgeEngine.is ∙ ap (λ (k : ReplayCommand). Some k) c.in-Some-JudgeEngine.field-0-is))
+    c.run_conduct_judge.ensures
+
 pub returns-in-Some-Revive : goal.returns-in-Some-Revive
 returns-in-Some-Revive g c =
     is_done _ _ _ _ _ _ _ _

@@ -38,6 +38,18 @@ returns-in-Ended-clause-stopped g c = λ o diag diag_now fresh.
     let t : Taken (replays see) 131072 ends.Ended old new = subst (λ (e : LinesEnd Ending). Taken (replays see) 131072 e old new) c.in-Ended.is taken in
     go_ended see old new o fresh (see c.end.new.output) diag diag_now c.end.result t (c.end.ensures.finished o t.pieces (see old.output) (t.ends.took o fresh))
 
+pub returns-in-Ended-clause-causes : goal.returns-in-Ended-clause-causes
+returns-in-Ended-clause-causes g c =
+    let o = c.args.self.now.player.core.settings in
+    let fresh = c.requires.player in
+    let see = λ (x : g.row.O.Denot). g.O.Sink.state x in
+    let old = reading_place c.args.self.now.player c.args.output.now (g.I.Source.state c.args.input.now) in
+    let new = reading_place c.take_lines.new.consumer c.take_lines.new.output (g.I.Source.state c.take_lines.new.input) in
+    let taken : Taken (replays see) 131072 c.take_lines.result old new = subst (λ (k : ℕ). Taken (replays see) k c.take_lines.result old new) (ap (λ (h : Held). h.limit) c.requires.lines) c.take_lines.ensures in
+    let t : Taken (replays see) 131072 ends.Ended old new = subst (λ (e : LinesEnd Ending). Taken (replays see) 131072 e old new) c.in-Ended.is taken in
+    causes_by o t.pieces endings.Done c.end.result old.input new.input (see old.output) (see c.end.new.output)
+    (c.end.ensures.finished o t.pieces (see old.output) (t.ends.took o fresh)) (λ e. cc) (λ n. t.ends.no_fault) (λ e. cc)
+
 pub returns-in-ReadFailed-clause-stopped : goal.returns-in-ReadFailed-clause-stopped
 returns-in-ReadFailed-clause-stopped g c = λ o diag diag_now fresh.
     let see = λ (x : g.row.O.Denot). g.O.Sink.state x in

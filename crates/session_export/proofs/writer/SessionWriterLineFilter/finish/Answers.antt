@@ -4,8 +4,8 @@ use Rattle.script_replay.specs.Stages.{is_first_stage}
 use Rattle.session_export.proofs.Came.{finished_first, finished_later}
 use Rattle.session_export.proofs.writer.SessionWriterLineFilter.finish.Goals as goal
 
-pub returns-then-is_new : goal.returns-then-is_new
-returns-then-is_new g c =
+pub returns-then-is_new-clause-closes : goal.returns-then-is_new-clause-closes
+returns-then-is_new-clause-closes g c =
     let means = g.T.StepExporter.means in
     let begun = c.open_plain.ensures.opened in
     let core = c.open_plain.new.self.core in
@@ -19,8 +19,8 @@ returns-then-is_new g c =
           c.args.ending c.requires.ends;
     }
 
-pub returns : goal.returns
-returns g c =
+pub returns-clause-closes : goal.returns-clause-closes
+returns-clause-closes g c =
     let means = g.T.StepExporter.means in
     let game = c.args.self.now.core.desk.game in
     record {

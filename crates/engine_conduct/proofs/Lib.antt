@@ -1,0 +1,4 @@
+pub mod Below
+pub mod Kept
+pub mod Swaps
+pub mod Innocence

@@ -1,0 +1,11 @@
+pub mod Words
+pub mod Forms
+pub mod Orders
+pub mod Listed
+pub mod Searches
+pub mod Known
+pub mod Defaults
+pub mod Runs
+pub mod Broken
+pub mod Conduct
+pub mod Innocent
