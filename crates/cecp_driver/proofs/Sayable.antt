@@ -9,7 +9,8 @@ use Rattle.chess_board.specs.declared.board.Side.{Side}
 use Rattle.chess_board.specs.declared.board.Side.TheVariants.{White, Black}
 use Rattle.chess_board.specs.Position.{Position}
 use Rattle.chess_board.specs.Place.{legal}
-use Rattle.chess_board.specs.Play.{IsPosition, start_position}
+use Rattle.chess_board.specs.Play.{start_position}
+use Rattle.fen_text.specs.Written.{IsNormal}
 use Rattle.chess_board.specs.Spelling.{move_spelled_by}
 use Rattle.chess_board.proofs.LegalMoves.{is_legal}
 use Rattle.chess_board.proofs.Start.{start-is}
@@ -35,7 +36,7 @@ use Rattle.cecp_driver.proofs.Pinged.{PingFits}
 
 -- a game from a position, of moves that are legal in their turn
 pub record IsGame (g : Game) : Type 0 where
-  pub start : IsPosition g.start
+  pub start : IsNormal g.start
   pub moves : AllByRecursion IsMove g.moves
   pub legal : AreLegal g.start g.moves
 
@@ -70,7 +71,7 @@ ordered_game text None e = tt
 ordered_game text (Some line) e = pushed_game line.moves (Some (game_from line.start)) (record { start = line_good text line e; moves = tt; legal = tt })
 
 pub start_game : IsGame (game_from start_position)
-start_game = record { start = start-is; moves = tt; legal = tt }
+start_game = record { start = (start-is, refl); moves = tt; legal = tt }
 
 or_start : (o : Option Game) → Maybe o → IsGame (unwrap_or o (game_from start_position))
 or_start None h = start_game
@@ -112,7 +113,7 @@ played_said : (has_usermove : Bool) (ms : List Ply) → AllByRecursion IsMove ms
 played_said has_usermove [] h = tt
 played_said has_usermove (m ∷ ms) h = (h.0, played_said has_usermove ms h.1)
 
-start_said : (standard : Bool) (p : Position) → IsPosition p → AllSaid (cond standard [] (SetBoard p ∷ []))
+start_said : (standard : Bool) (p : Position) → IsNormal p → AllSaid (cond standard [] (SetBoard p ∷ []))
 start_said true p h = tt
 start_said false p h = (h, tt)
 

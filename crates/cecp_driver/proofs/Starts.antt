@@ -9,6 +9,8 @@ use Rattle.chess_board.specs.declared.board.BuildFault.{BuildFault}
 use Rattle.chess_board.specs.Board.{Pieces}
 use Rattle.chess_board.specs.Position.{Position}
 use Rattle.chess_board.specs.Play.{IsPosition, position_if_built, fits_board, start_position}
+use Rattle.fen_text.specs.Written.{IsNormal}
+use Rattle.fen_text.proofs.Normal.{spelled_normal}
 use Rattle.chess_board.proofs.Built.{built-is}
 use Rattle.chess_board.proofs.Start.{start-is}
 use Rattle.fen_text.specs.declared.fault.FenFault.{FenFault}
@@ -106,47 +108,49 @@ spelled_good (Some pieces) (Some side) (Some rights) (Some passant) (Some half) 
 spelled_good (Some pieces) (Some side) (Some rights) (Some passant) (Some half) (Some full) p h k e =
     built-is (record { pieces = pieces; side = side; rights = rights; passant = passant; half = half; full = full }) p (h pieces refl) (k passant refl) (or_ok _ p e)
 
-fields_good : (fields : List (List ℕ)) (p : Position) → position_of_fields fields ≡ Ok p → IsPosition p
-fields_good fields p e =
-    spelled_good (option_and_then board_in_field (slice_get fields 0)) (option_and_then side_of (slice_get fields 1)) (option_and_then rights_of (slice_get fields 2)) (option_and_then en_passant_of (slice_get fields 3)) _ _ p
-    (λ m f. let t = and_then_is board_in_field (slice_get fields 0) m f in board_length t.0 m t.1)
-    (λ o f. let t = and_then_is en_passant_of (slice_get fields 3) o f in en_passant_low t.0 o t.1) e
+fields_good : (fields : List (List ℕ)) (p : Position) → position_of_fields fields ≡ Ok p → IsNormal p
+fields_good fields p e = (good, spelled_normal fields p e)
+  where
+    good : IsPosition p
+    good = spelled_good (option_and_then board_in_field (slice_get fields 0)) (option_and_then side_of (slice_get fields 1)) (option_and_then rights_of (slice_get fields 2)) (option_and_then en_passant_of (slice_get fields 3)) _ _ p
+        (λ m f. let t = and_then_is board_in_field (slice_get fields 0) m f in board_length t.0 m t.1)
+        (λ o f. let t = and_then_is en_passant_of (slice_get fields 3) o f in en_passant_low t.0 o t.1) e
 
 -- A `POSITION` LINE
 
-alone_good : (ts : List (List ℕ)) (p : Position) → standard_if_alone ts ≡ Some p → IsPosition p
-alone_good [] p e = let same : start_position ≡ p = cc in subst IsPosition same start-is
+alone_good : (ts : List (List ℕ)) (p : Position) → standard_if_alone ts ≡ Some p → IsNormal p
+alone_good [] p e = let same : start_position ≡ p = cc in subst IsNormal same (start-is, refl)
 alone_good (t ∷ ts) p e = absurd (cc)
 
 right_good : (r : Result Position FenFault) (p : Position) → if_right r ≡ Some p → r ≡ Ok p
 right_good (Ok q) p e = let same : q ≡ p = cc in ap (λ (x : Position). Ok x) same
 right_good (Err fault) p e = absurd (cc)
 
-fen_by : (b : Bool) (ts : List (List ℕ)) (p : Position) → cond b (if_right (position_of_fields ts)) None ≡ Some p → IsPosition p
+fen_by : (b : Bool) (ts : List (List ℕ)) (p : Position) → cond b (if_right (position_of_fields ts)) None ≡ Some p → IsNormal p
 fen_by true ts p e = fields_good ts p (right_good (position_of_fields ts) p e)
 fen_by false ts p e = absurd (cc)
 
-start_by : (a b : Bool) (ts : List (List ℕ)) (p : Position) → cond a (standard_if_alone ts) (cond b (if_right (position_of_fields ts)) None) ≡ Some p → IsPosition p
+start_by : (a b : Bool) (ts : List (List ℕ)) (p : Position) → cond a (standard_if_alone ts) (cond b (if_right (position_of_fields ts)) None) ≡ Some p → IsNormal p
 start_by true b ts p e = alone_good ts p e
 start_by false b ts p e = fen_by b ts p e
 
-start_good : (ts : List (List ℕ)) (p : Position) → start_position_in ts ≡ Some p → IsPosition p
+start_good : (ts : List (List ℕ)) (p : Position) → start_position_in ts ≡ Some p → IsNormal p
 start_good [] p e = absurd (cc)
 start_good (t ∷ ts) p e = start_by _ _ ts p e
 
-to_good : (p : Position) (moves : List (List ℕ)) (q : Option Position) (line : Line) → IsPosition p → line_to p moves q ≡ Some line → IsPosition line.start
+to_good : (p : Position) (moves : List (List ℕ)) (q : Option Position) (line : Line) → IsNormal p → line_to p moves q ≡ Some line → IsNormal line.start
 to_good p moves None line h e = absurd (cc)
-to_good p moves (Some q) line h e = let same : p ≡ line.start = ap (λ (o : Option Line). start_of p o) e in subst IsPosition same h
+to_good p moves (Some q) line h e = let same : p ≡ line.start = ap (λ (o : Option Line). start_of p o) e in subst IsNormal same h
   where
     start_of : Position → Option Line → Position
     start_of p None = p
     start_of p (Some l) = l.start
 
-from_good : (o : Option Position) (moves : List (List ℕ)) (line : Line) → ((p : Position) → o ≡ Some p → IsPosition p) → line_from o moves ≡ Some line → IsPosition line.start
+from_good : (o : Option Position) (moves : List (List ℕ)) (line : Line) → ((p : Position) → o ≡ Some p → IsNormal p) → line_from o moves ≡ Some line → IsNormal line.start
 from_good None moves line h e = absurd (cc)
 from_good (Some p) moves line h e = to_good p moves (position_after_texts moves (Some p)) line (h p refl) e
 
-pub line_good : (text : List ℕ) (line : Line) → position_line_in text ≡ Some line → IsPosition line.start
+pub line_good : (text : List ℕ) (line : Line) → position_line_in text ≡ Some line → IsNormal line.start
 unfolding position_line_in
 line_good text line e =
     let ts = drop 1 (tokens text) in

@@ -1,7 +1,7 @@
 -- The texts that can be said in a line to the engine.
 use Rattle.std.specs.Prelude.{◌≡◌, ℕ, ◌<◌, ◌≤◌, ◌*◌, ◌^◌, List, length, true, false}
 use Rattle.chess_board.specs.declared.board.Move.{Move}
-use Rattle.chess_board.specs.Play.{IsPosition}
+use Rattle.fen_text.specs.Written.{IsNormal}
 use Rattle.chess_board.specs.Text.{IsOfficer}
 use Rattle.game_record.specs.Game.{Ply, ply_of}
 use Rattle.line_io.specs.Event.{has_feed}
@@ -22,7 +22,7 @@ pub record IsName (name : List ℕ) : Type 0 where
 
 -- a position, a move, numbers of so many digits, a name
 abbrev pub EngineLineCanBeRead : DownLine → Type 0
-EngineLineCanBeRead (SetBoard p) = IsPosition p
+EngineLineCanBeRead (SetBoard p) = IsNormal p
 EngineLineCanBeRead (Played has_usermove m) = IsMove m
 EngineLineCanBeRead (St seconds) = seconds < 10 ^ 6
 EngineLineCanBeRead (Level moves seconds increment) =

@@ -1,7 +1,5 @@
 -- The meaning of `==` on sides, kinds, pieces, moves and positions: exactly that they are the same.
 use Rattle.std.proofs.Common.{◌≡◌, Bool, ◌&&◌, Option, Some, None, refl, sym, ap, eqb, length, ◌∙◌, ℕ}
-use Rattle.std.proofs.Math.Bool.{beq}
-use Rattle.std.specs.Cmp.{booleans_Decides}
 use Rattle.std.specs.Bool.{Decides}
 use Rattle.std.specs.Option.{option_eq}
 use Rattle.std.proofs.lemmas.Bool.Decides.{Decides-and, Decides-eqb}
@@ -12,6 +10,9 @@ use Rattle.chess_board.specs.declared.board.Kind.TheVariants.{Pawn, Knight, Bish
 use Rattle.chess_board.specs.declared.board.Move.{Move}
 use Rattle.chess_board.specs.contracts.board.SidePartialEq.TheImpl as sides
 use Rattle.chess_board.specs.contracts.board.KindPartialEq.TheImpl as kinds
+use Rattle.chess_board.specs.contracts.board.VariantPartialEq.TheImpl as variants
+use Rattle.chess_board.specs.declared.board.Variant.{Variant}
+use Rattle.chess_board.specs.declared.board.Variant.TheVariants.{Normal, Fischer}
 use Rattle.chess_board.specs.declared.board.Rights.{Rights}
 use Rattle.chess_board.specs.Board.{Occupant, Pieces}
 use Rattle.chess_board.specs.Position.{Position}
@@ -70,9 +71,19 @@ moves-Decides a b =
     (Decides-and (eqb a.to.index b.to.index) (option_eq kind_test a.promotion b.promotion) (Decides-eqb a.to.index b.to.index) promotion) in
     (λ e. let same = law.0 e in move_same a b same.0 same.1.0 same.1.1, λ e. law.1 (ap (λ (m : Move). m.from.index) e, (ap (λ (m : Move). m.to.index) e, ap (λ (m : Move). m.promotion) e)))
 
+-- `==` of two variants
+abbrev pub variant_test : Variant → Variant → Bool
+variant_test = (variants.eq-value).it
+
+pub variants-Decides : (a b : Variant) → Decides (variant_test a b) (a ≡ b)
+variants-Decides Normal Normal = (λ _. refl, λ _. refl)
+variants-Decides Fischer Fischer = (λ _. refl, λ _. refl)
+variants-Decides Normal Fischer = (λ e. absurd (cc), λ e. absurd (cc))
+variants-Decides Fischer Normal = (λ e. absurd (cc), λ e. absurd (cc))
+
 -- `==` of rights and of positions
 abbrev pub rights_test : Rights → Rights → Bool
-rights_test a b = beq a.wk b.wk && (beq a.wq b.wq && (beq a.bk b.bk && beq a.bq b.bq))
+rights_test a b = variant_test a.variant b.variant && (option_eq eqb a.wk b.wk && (option_eq eqb a.wq b.wq && (option_eq eqb a.bk b.bk && option_eq eqb a.bq b.bq)))
 
 abbrev pub sets_test : Inside → Inside → Bool
 sets_test a b =
@@ -81,16 +92,17 @@ sets_test a b =
 abbrev pub position_test : Position → Position → Bool
 position_test p q = eqb p.half q.half && (eqb p.full q.full && (sets_test (sets_of p.pieces) (sets_of q.pieces) && (side_test p.side q.side && (rights_test p.rights q.rights && option_eq eqb p.passant q.passant))))
 
-abbrev rights_of : Bool → Bool → Bool → Bool → Rights
-rights_of a b c d = record { wk = a; wq = b; bk = c; bq = d }
+abbrev rights_of : Variant → Option ℕ → Option ℕ → Option ℕ → Option ℕ → Rights
+rights_of variant a b c d = record { variant = variant; wk = a; wq = b; bk = c; bq = d }
 
 rights-Decides : (a b : Rights) → Decides (rights_test a b) (a ≡ b)
 rights-Decides a b =
-    let law = Decides-and (beq a.wk b.wk) (beq a.wq b.wq && (beq a.bk b.bk && beq a.bq b.bq)) (booleans_Decides a.wk b.wk)
-    (Decides-and (beq a.wq b.wq) (beq a.bk b.bk && beq a.bq b.bq) (booleans_Decides a.wq b.wq) (Decides-and (beq a.bk b.bk) (beq a.bq b.bq) (booleans_Decides a.bk b.bk) (booleans_Decides a.bq b.bq))) in (
-      λ e. let same = law.0 e in let one = same.0 in let two = same.1.0 in let three = same.1.1.0 in let four = same.1.1.1 in
-          let whole : rights_of a.wk a.wq a.bk a.bq ≡ rights_of b.wk b.wq b.bk b.bq = cc in whole,
-      λ e. law.1 (ap (λ (r : Rights). r.wk) e, (ap (λ (r : Rights). r.wq) e, (ap (λ (r : Rights). r.bk) e, ap (λ (r : Rights). r.bq) e))),
+    let file = option-Decides eqb Decides-eqb in
+    let law = Decides-and (variant_test a.variant b.variant) _ (variants-Decides a.variant b.variant) (Decides-and (option_eq eqb a.wk b.wk) _ (file a.wk b.wk) (Decides-and (option_eq eqb a.wq b.wq) _ (file a.wq b.wq)
+    (Decides-and (option_eq eqb a.bk b.bk) (option_eq eqb a.bq b.bq) (file a.bk b.bk) (file a.bq b.bq)))) in (
+      λ e. let same = law.0 e in let v = same.0 in let one = same.1.0 in let two = same.1.1.0 in let three = same.1.1.1.0 in let four = same.1.1.1.1 in
+          let whole : rights_of a.variant a.wk a.wq a.bk a.bq ≡ rights_of b.variant b.wk b.wq b.bk b.bq = cc in whole,
+      λ e. law.1 (ap (λ (r : Rights). r.variant) e, (ap (λ (r : Rights). r.wk) e, (ap (λ (r : Rights). r.wq) e, (ap (λ (r : Rights). r.bk) e, ap (λ (r : Rights). r.bq) e)))),
     )
 
 abbrev sets : ℕ → ℕ → ℕ → ℕ → ℕ → ℕ → ℕ → ℕ → Inside

@@ -1,15 +1,18 @@
 -- The consequences of being a position: its parts, put together again, are it, and where its en passant square lies.
-use Rattle.std.proofs.Common.{◌≡◌, ◌+◌, ℕ, Bool, true, false, ◌&&◌, ◌||◌, not, refl, ap, subst, sym, Option, Some, None, Ok, arith, leb, eqb, min, max}
+use Rattle.std.proofs.Common.{◌≡◌, ◌+◌, ℕ, true, ◌&&◌, refl, ap, subst, sym, Option, Some, None, Ok, arith, leb, eqb, min, max}
 use Rattle.std.specs.Prelude.{IfSome, count_by}
 use Rattle.std.proofs.lemmas.Bool.{eq-eqb, le-leb, eqb-true, and_parts}
 use Rattle.chess_board.specs.declared.board.Side.{Side}
 use Rattle.chess_board.specs.declared.board.Side.TheVariants.{White, Black}
 use Rattle.chess_board.specs.declared.board.Rights.{Rights}
-use Rattle.chess_board.specs.Board.{Pieces, piece_at, other, is_of_side, is_king, is_rook, is_pawn, is_vacant, rank_of_square, squares}
+use Rattle.chess_board.specs.declared.board.Variant.{Variant}
+use Rattle.chess_board.specs.declared.board.Wing.{Wing}
+use Rattle.chess_board.specs.declared.board.Wing.TheVariants.{HSide, ASide}
+use Rattle.chess_board.specs.Board.{Pieces, piece_at, other, is_of_side, is_king, is_pawn, is_vacant, rank_of_square, squares}
 use Rattle.chess_board.specs.Attack.{is_pawn_strike, is_ahead}
 use Rattle.chess_board.specs.Position.{Position}
 use Rattle.chess_board.specs.Rules.{is_en_passant, is_legal, is_at, fifth_rank, sixth_rank, beside}
-use Rattle.chess_board.specs.Play.{ArePieces, AreRights, IsPosition, Takeable, can_take, fits_board, fits_kings, at_home, rights_at_home, position_if_built, with_legal_en_passant, settled_at, is_supported, top_count}
+use Rattle.chess_board.specs.Play.{ArePieces, AreRights, IsPosition, Takeable, can_take, fits_board, fits_kings, right_at_home, rights_at_home, position_if_built, with_legal_en_passant, settled_at, is_supported, top_count}
 use Rattle.chess_board.proofs.Below.{some_below-found}
 
 pub board_fits : (pieces : Pieces) → ArePieces pieces → fits_board pieces ≡ true
@@ -28,24 +31,22 @@ kings_fit p is =
     let quiet = is.quiet in
     rw (white, black, quiet) refl
 
-home_same : (pieces : Pieces) (right : Bool) (side : Side) (king rook : ℕ) → is_supported pieces right side king rook ≡ true → at_home pieces right side king rook ≡ right
-home_same pieces right side king rook h = go right (is_king side (piece_at pieces king) && is_rook side (piece_at pieces rook)) h
-  where
-    go : (a b : Bool) → (not a || b) ≡ true → (a && b) ≡ a
-    go true true e = refl
-    go true false e = absurd (cc)
-    go false b e = refl
+home_same : (variant : Variant) (pieces : Pieces) (side : Side) (wing : Wing) (right : Option ℕ) → is_supported variant pieces side wing right ≡ true → right_at_home variant pieces side wing right ≡ right
+home_same variant pieces side wing None h = refl
+home_same variant pieces side wing (Some rook) h = rw h refl
 
-abbrev rights_of : Bool → Bool → Bool → Bool → Rights
-rights_of a b c d = record { wk = a; wq = b; bk = c; bq = d }
+abbrev rights_of : Variant → Option ℕ → Option ℕ → Option ℕ → Option ℕ → Rights
+rights_of variant a b c d = record { variant = variant; wk = a; wq = b; bk = c; bq = d }
 
 rights_same : (pieces : Pieces) (rights : Rights) → AreRights pieces rights → rights_at_home pieces rights ≡ rights
 rights_same pieces rights are =
-    let a = home_same pieces rights.wk White 4 7 are.wk in
-    let b = home_same pieces rights.wq White 4 0 are.wq in
-    let c = home_same pieces rights.bk Black 60 63 are.bk in
-    let d = home_same pieces rights.bq Black 60 56 are.bq in
-    let whole : rights_of (at_home pieces rights.wk White 4 7) (at_home pieces rights.wq White 4 0) (at_home pieces rights.bk Black 60 63) (at_home pieces rights.bq Black 60 56) ≡ rights_of rights.wk rights.wq rights.bk rights.bq = cc in
+    let variant = rights.variant in
+    let home = right_at_home variant pieces in
+    let a : home White HSide rights.wk ≡ rights.wk = home_same variant pieces White HSide rights.wk (are White HSide) in
+    let b : home White ASide rights.wq ≡ rights.wq = home_same variant pieces White ASide rights.wq (are White ASide) in
+    let c : home Black HSide rights.bk ≡ rights.bk = home_same variant pieces Black HSide rights.bk (are Black HSide) in
+    let d : home Black ASide rights.bq ≡ rights.bq = home_same variant pieces Black ASide rights.bq (are Black ASide) in
+    let whole : rights_of variant (home White HSide rights.wk) (home White ASide rights.wq) (home Black HSide rights.bk) (home Black ASide rights.bq) ≡ rights_of variant rights.wk rights.wq rights.bk rights.bq = cc in
     whole
 
 settled_same : (p : Position) (o : Option ℕ) → Takeable p o → settled_at p o ≡ p

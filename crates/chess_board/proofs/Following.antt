@@ -1,27 +1,27 @@
 -- The position after a legal move, in the words of the Laws.
-use Rattle.std.proofs.Common.{◌≡◌, ◌≢◌, ◌+◌, ◌-◌, ◌≤◌, ◌<◌, ◌⊎◌, ℕ, Bool, true, false, ◌&&◌, ◌||◌, cond, refl, inl, inr, ⊎_elim, ap, subst, sym, ◌∙◌, Option, Some, None, length, set, arith, get_or-set_other, get_or-set_same, length-set, min}
-use Rattle.std.specs.Prelude.{◌↔◌, IsTrue}
+use Rattle.std.proofs.Common.{◌≡◌, ◌≢◌, ◌+◌, ◌<◌, ◌⊎◌, ℕ, true, false, ◌&&◌, ◌||◌, cond, refl, inl, inr, ⊎_elim, ap, subst, sym, ◌∙◌, Option, Some, None, is_some, length, set, arith, get_or-set_other, get_or-set_same, length-set, min}
+use Rattle.std.specs.Prelude.{◌↔◌}
 use Rattle.std.specs.Bool.{Decides}
 use Rattle.std.proofs.lemmas.Bool.{false≢true, false_from_ne_true}
-use Rattle.std.proofs.lemmas.Bool.Decides.{Decides-and, Decides-not, Decides-eqb}
+use Rattle.std.proofs.lemmas.Bool.Decides.{Decides-and, Decides-or, Decides-eqb}
 use Rattle.chess_board.specs.declared.board.Side.{Side}
 use Rattle.chess_board.specs.declared.board.Side.TheVariants.{White, Black}
 use Rattle.chess_board.specs.declared.board.Kind.{Kind}
 use Rattle.chess_board.specs.declared.board.Kind.TheVariants.{Pawn, Knight, Bishop, Rook, Queen, King}
-use Rattle.chess_board.specs.Board.{Occupant, Pieces, piece_at, other, is_vacant, is_pawn_kind, rank_of_square, files_apart, on_the_way}
+use Rattle.chess_board.specs.declared.board.Wing.{Wing}
+use Rattle.chess_board.specs.declared.board.Wing.TheVariants.{HSide, ASide}
+use Rattle.chess_board.specs.Board.{Occupant, Pieces, piece_at, other, same_side, is_of_side, is_king_kind, is_pawn_kind, rank_of_square, square_at, files_apart, on_the_way}
 use Rattle.chess_board.specs.Position.{Position}
-use Rattle.chess_board.specs.Rules.{becomes, pieces_after_step, pieces_without_en_passant, pieces_after_castling, pieces_beside_move, pieces_after, king_home, beside, second_rank, is_en_passant, is_double_step, may_castle_short, may_castle_long}
-use Rattle.chess_board.specs.Laws.{Ahead, IsOf, TakesEnPassant, CastlesShort, CastlesLong, IsLegal}
-use Rattle.chess_board.specs.Play.{IsPosition, keeps, rights_after, square_passed_by_pawn, half_after, kind_on, follow, with_legal_en_passant, position_after, top_count}
-use Rattle.chess_board.specs.Played.{Hops, TakesBeside, MovesPieces, LeavesHome, PawnPassesSquare, Plays, PlayLaw}
+use Rattle.chess_board.specs.Rules.{becomes, first_rank, right_of, castling_of, castling_rook, pieces_after_step, pieces_after_as, pieces_without_en_passant, pieces_beside_move, pieces_after, beside, second_rank, is_en_passant, is_double_step}
+use Rattle.chess_board.specs.Laws.{Ahead, IsOf, IsOnFile, MayLand, TakesEnPassant, Castles, IsCastling, IsLegal}
+use Rattle.chess_board.specs.Play.{IsPosition, is_lost, right_after, rights_after, square_passed_by_pawn, half_after, kind_on, follow, with_legal_en_passant, position_after, top_count}
+use Rattle.chess_board.specs.Played.{TakesBeside, MovesPieces, CastlesPieces, KeepsRight, PawnPassesSquare, Plays, PlayLaw}
+use Rattle.chess_board.proofs.Bools.{same_side-is, same_side-refl}
 use Rattle.chess_board.proofs.Moved.{man_at-moved}
 use Rattle.chess_board.proofs.Relations.{AheadAt}
-use Rattle.chess_board.proofs.Legal.{EnPassantAt, ShortAt, LongAt, pawn_kind}
+use Rattle.chess_board.proofs.Legal.{EnPassantAt, CastlingAt, OnFileAt, Of, castling_on, king_kind, pawn_kind}
+use Rattle.chess_board.proofs.Castled.{castled-king, castled-rook, castled-lifted, castled-other, castling_can, castling_square, length-castled, lifted, lifted_king, lifted_rook, two_pieces}
 use Rattle.chess_board.proofs.Settled.{settled-only, settled-passant}
-
-home_range : (side : Side) → (4 ≤ king_home side) × (king_home side ≤ 60)
-home_range White = (omega arith, omega arith)
-home_range Black = (omega arith, omega arith)
 
 other-differs : (side : Side) → side ≢ other side
 other-differs White e = absurd (cc)
@@ -42,53 +42,27 @@ length-moved pieces side piece from to promotion = length-set _ to _ ∙ length-
 -- what else changes
 length-prepared : (p : Position) (piece : Kind) (from to : ℕ) → length (pieces_beside_move p piece from to) ≡ length p.pieces
 length-prepared p Pawn from to = elim (is_en_passant p from to) as (λ v. length (pieces_without_en_passant p.pieces v (beside from to)) ≡ length p.pieces) [ true ↦ length-set p.pieces (beside from to) None | false ↦ refl ]
-length-prepared p King from to =
-    let home = king_home p.side in
-    elim (may_castle_short p from to) as (λ v. length (pieces_after_castling p.pieces p.side home v (may_castle_long p from to)) ≡ length p.pieces) [
-      | true ↦ length-moved p.pieces p.side Rook (home + 3) (home + 1) None
-      | false ↦ elim (may_castle_long p from to) as (λ v. length (pieces_after_castling p.pieces p.side home false v) ≡ length p.pieces) [ true ↦ length-moved p.pieces p.side Rook (home - 4) (home - 1) None | false ↦ refl ]
-    ]
+length-prepared p King from to = refl
 length-prepared p Knight from to = refl
 length-prepared p Bishop from to = refl
 length-prepared p Rook from to = refl
 length-prepared p Queen from to = refl
 
--- castling short and castling long are different moves
-short_or_long : (p : Position) (from to : ℕ) → CastlesLong p from to → may_castle_short p from to ≡ false
-short_or_long p from to long = false_from_ne_true _ (λ e. let short = (ShortAt p from to).0 e in let a = short.0.1 in let b = long.0.1 in absurd (omega arith))
-
-hopped-short : (p : Position) (from to : ℕ) → CastlesShort p from to → pieces_beside_move p King from to ≡ pieces_after_step p.pieces p.side Rook (king_home p.side + 3) (king_home p.side + 1) None
-hopped-short p from to short = let e = (ShortAt p from to).1 short in rw e refl
-
-hopped-long : (p : Position) (from to : ℕ) → CastlesLong p from to → pieces_beside_move p King from to ≡ pieces_after_step p.pieces p.side Rook (king_home p.side - 4) (king_home p.side - 1) None
-hopped-long p from to long = let s = short_or_long p from to long in let e = (LongAt p from to).1 long in rw (s, e) refl
-
 taken-passant : (p : Position) (from to : ℕ) → TakesEnPassant p from to → pieces_beside_move p Pawn from to ≡ set p.pieces (beside from to) None
 taken-passant p from to takes = let e = (EnPassantAt p from to).1 takes in rw e refl
 
 -- squares that no rule speaks of stay
-prepared-others : (p : Position) (piece : Kind) (from to s : ℕ) → (TakesBeside p piece from to → s ≢ beside from to) →
-    ((corner crossed : ℕ) → Hops p piece from to corner crossed → (s ≢ corner) × (s ≢ crossed)) → piece_at (pieces_beside_move p piece from to) s ≡ piece_at p.pieces s
-prepared-others p Pawn from to s beside_off hop_off =
+prepared-others : (p : Position) (piece : Kind) (from to s : ℕ) → (TakesBeside p piece from to → s ≢ beside from to) → piece_at (pieces_beside_move p piece from to) s ≡ piece_at p.pieces s
+prepared-others p Pawn from to s beside_off =
     elim (is_en_passant p from to) as (λ v. is_en_passant p from to ≡ v → piece_at (pieces_without_en_passant p.pieces v (beside from to)) s ≡ piece_at p.pieces s) [
       | true ↦ λ e. get_or-set_other p.pieces (beside from to) s None None (beside_off (refl, (EnPassantAt p from to).0 e))
       | false ↦ λ _. refl
     ] refl
-prepared-others p King from to s beside_off hop_off =
-    let home = king_home p.side in
-    elim (may_castle_short p from to) as (λ v. may_castle_short p from to ≡ v → piece_at (pieces_after_castling p.pieces p.side home v (may_castle_long p from to)) s ≡ piece_at p.pieces s) [
-      | true ↦ λ e. let off = hop_off (home + 3) (home + 1) (refl, inl ((ShortAt p from to).0 e, refl, refl)) in
-          man_at-moved p.pieces p.side Rook (home + 3) (home + 1) None s off.0 off.1
-      | false ↦ λ _. elim (may_castle_long p from to) as (λ v. may_castle_long p from to ≡ v → piece_at (pieces_after_castling p.pieces p.side home false v) s ≡ piece_at p.pieces s) [
-        | true ↦ λ e. let off = hop_off (home - 4) (home - 1) (refl, inr ((LongAt p from to).0 e, refl, refl)) in
-            man_at-moved p.pieces p.side Rook (home - 4) (home - 1) None s off.0 off.1
-        | false ↦ λ _. refl
-      ] refl
-    ] refl
-prepared-others p Knight from to s beside_off hop_off = refl
-prepared-others p Bishop from to s beside_off hop_off = refl
-prepared-others p Rook from to s beside_off hop_off = refl
-prepared-others p Queen from to s beside_off hop_off = refl
+prepared-others p King from to s beside_off = refl
+prepared-others p Knight from to s beside_off = refl
+prepared-others p Bishop from to s beside_off = refl
+prepared-others p Rook from to s beside_off = refl
+prepared-others p Queen from to s beside_off = refl
 
 -- the pawn captured en passant is gone
 en_passant_gone : (p : Position) (piece : Kind) (from to : ℕ) (promotion : Option Kind) → length p.pieces ≡ 64 → from < 64 → to < 64 → piece_at p.pieces from ≡ Some (p.side, piece) → TakesBeside p piece from to →
@@ -108,50 +82,97 @@ en_passant_gone p piece from to promotion whole f t occupant takes =
     side_in side None = side
     side_in side (Some occupant) = occupant.0
 
--- the rook has hopped
-rook_hopped : (p : Position) (piece : Kind) (from to : ℕ) (promotion : Option Kind) (corner crossed : ℕ) → length p.pieces ≡ 64 → Hops p piece from to corner crossed →
-    (piece_at (pieces_after_step (pieces_beside_move p piece from to) p.side piece from to promotion) corner ≡ None) × (piece_at (pieces_after_step (pieces_beside_move p piece from to) p.side piece from to promotion) crossed ≡ Some (p.side, Rook))
-rook_hopped p piece from to promotion corner crossed whole hops =
-    let range = home_range p.side in
-    ⊎_elim (λ (h : CastlesShort p from to × (corner ≡ king_home p.side + 3) × (crossed ≡ king_home p.side + 1)).
-    let at = h.0.0 in let a0 = at.0 in let a1 = at.1 in let c = h.1 in let d = h.2 in
-    let ready : pieces_beside_move p piece from to ≡ pieces_after_step p.pieces p.side Rook corner crossed None = subst (λ (k : Kind). pieces_beside_move p k from to ≡ pieces_after_step p.pieces p.side Rook corner crossed None) (sym hops.0) (rw (c, d) (hopped-short p from to h.0)) in
-    hop_of ready (omega arith) (omega arith) (omega arith) (omega arith) (omega arith) (rw whole (omega arith)) (rw whole (omega arith)))
-    (λ (h : CastlesLong p from to × (corner ≡ king_home p.side - 4) × (crossed ≡ king_home p.side - 1)).
-    let at = h.0.0 in let a0 = at.0 in let a1 = at.1 in let c = h.1 in let d = h.2 in
-    let ready : pieces_beside_move p piece from to ≡ pieces_after_step p.pieces p.side Rook corner crossed None = subst (λ (k : Kind). pieces_beside_move p k from to ≡ pieces_after_step p.pieces p.side Rook corner crossed None) (sym hops.0) (rw (c, d) (hopped-long p from to h.0)) in
-    hop_of ready (omega arith) (omega arith) (omega arith) (omega arith) (omega arith) (rw whole (omega arith)) (rw whole (omega arith)))
-    hops.1
+-- a move that is no castling
+no_castling : (p : Position) (piece : Kind) (from to : ℕ) → (¬ IsCastling p piece from to) → castling_of p piece from to ≡ None
+no_castling p piece from to h = none (castling_of p piece from to) (λ e. h ((CastlingAt p piece from to).0 e))
   where
-    hop_of : pieces_beside_move p piece from to ≡ pieces_after_step p.pieces p.side Rook corner crossed None → corner ≢ from → corner ≢ to → crossed ≢ from → crossed ≢ to → corner ≢ crossed → corner < length p.pieces → crossed < length p.pieces →
-        (piece_at (pieces_after_step (pieces_beside_move p piece from to) p.side piece from to promotion) corner ≡ None) × (piece_at (pieces_after_step (pieces_beside_move p piece from to) p.side piece from to promotion) crossed ≡ Some (p.side, Rook))
-    hop_of ready cf ct xf xt cx cl xl = (
-      man_at-moved (pieces_beside_move p piece from to) p.side piece from to promotion corner cf ct ∙ (rw ready (moved-left p.pieces p.side Rook corner crossed None cl cx)),
-      man_at-moved (pieces_beside_move p piece from to) p.side piece from to promotion crossed xf xt ∙ (rw ready (moved-arrived p.pieces p.side Rook corner crossed None xl)),
-    )
+    none : (o : Option Wing) → (is_some o ≡ true → ⊥) → o ≡ None
+    none None h = refl
+    none (Some wing) h = absurd (h refl)
 
-moves_pieces : (p : Position) (from to : ℕ) (promotion : Option Kind) → length p.pieces ≡ 64 → from < 64 → to < 64 → (m : IsLegal p from to promotion) → MovesPieces p m.piece from to promotion (pieces_after p m.piece from to promotion)
+moves_pieces : (p : Position) (from to : ℕ) (promotion : Option Kind) → length p.pieces ≡ 64 → from < 64 → to < 64 → (m : IsLegal p from to promotion) → (¬ IsCastling p m.piece from to) → MovesPieces p m.piece from to promotion (pieces_after p m.piece from to promotion)
 unfolding pieces_after
-moves_pieces p from to promotion whole f t m =
+moves_pieces p from to promotion whole f t m plain =
     let ready = pieces_beside_move p m.piece from to in
     let same = length-prepared p m.piece from to in
     let low : from < length ready = rw (same, whole) f in
     let low' : to < length ready = rw (same, whole) t in
-    let apart : from ≢ to = λ e. m.landing.0 (subst (λ (occupant : Occupant). IsOf p.side occupant) (sym (subst (λ (i : ℕ). piece_at p.pieces i ≡ Some (p.side, m.piece)) e m.occupant)) refl) in
-    record {
-      whole = length-moved ready p.side m.piece from to promotion ∙ (same ∙ whole);
+    let landing : MayLand p.side (piece_at p.pieces to) = ⊎_elim (λ (l : MayLand p.side (piece_at p.pieces to)). l) (λ (c : IsCastling p m.piece from to). absurd (plain c)) m.landing in
+    let apart : from ≢ to = λ e. landing.0 (subst (λ (occupant : Occupant). IsOf p.side occupant) (sym (subst (λ (i : ℕ). piece_at p.pieces i ≡ Some (p.side, m.piece)) e m.occupant)) refl) in
+    rw (no_castling p m.piece from to plain) (record {
       left = moved-left ready p.side m.piece from to promotion low apart;
       arrived = moved-arrived ready p.side m.piece from to promotion low';
       taken = en_passant_gone p m.piece from to promotion whole f t m.occupant;
-      hopped = λ corner crossed hops. rook_hopped p m.piece from to promotion corner crossed whole hops;
-      others = λ s nf nt beside_off hop_off. man_at-moved ready p.side m.piece from to promotion s nf nt ∙ prepared-others p m.piece from to s beside_off hop_off;
-    }
+      others = λ s nf nt beside_off. man_at-moved ready p.side m.piece from to promotion s nf nt ∙ prepared-others p m.piece from to s beside_off;
+    })
+
+-- castling
+castles_pieces : (p : Position) (wing : Wing) (from to : ℕ) (promotion : Option Kind) → IsPosition p → from < 64 → (m : IsLegal p from to promotion) → m.piece ≡ King → (c : Castles p wing from to) → CastlesPieces p wing from c.rook (pieces_after p m.piece from to promotion)
+unfolding pieces_after
+castles_pieces p wing from to promotion is f m king c =
+    let there : piece_at p.pieces from ≡ Some (p.side, King) = subst (λ (k : Kind). piece_at p.pieces from ≡ Some (p.side, k)) king m.occupant in
+    let can = castling_can p wing from to is.pieces is.rights f there c in
+    let rook = castling_rook p wing in
+    let at : rook ≡ square_at c.rook (first_rank p.side) = castling_square p wing c.rook c.right in
+    let whole = is.pieces.whole in
+    let on : castling_of p m.piece from to ≡ Some wing = subst (λ (k : Kind). castling_of p k from to ≡ Some wing) (sym king) (castling_on p wing from to c) in
+    let apart = two_pieces p.pieces p.side from rook can.king_there can.rook_there in
+    let kl : from < length p.pieces = rw whole f in
+    let rl : rook < length p.pieces = rw whole can.rook_low in
+    rw on (record {
+      king_there = castled-king p.pieces p.side wing from rook whole;
+      rook_there = castled-rook p.pieces p.side wing from rook whole;
+      left = λ s is nk nr. castled-lifted p.pieces p.side wing from rook s nk nr
+          ∙ ⊎_elim (λ (e : s ≡ from). ap (piece_at (lifted p.pieces from rook)) e ∙ lifted_king p.pieces from rook kl (λ e. apart (sym e)))
+          (λ (e : s ≡ square_at c.rook (first_rank p.side)). ap (piece_at (lifted p.pieces from rook)) (e ∙ sym at) ∙ lifted_rook p.pieces from rook rl) is;
+      others = λ s a b nk nr. castled-other p.pieces p.side wing from rook s a (λ e. b (e ∙ at)) nk nr;
+    })
+
+length-after : (p : Position) (piece : Kind) (from to : ℕ) (promotion : Option Kind) → length (pieces_after p piece from to promotion) ≡ length p.pieces
+unfolding pieces_after
+length-after p piece from to promotion =
+    elim (castling_of p piece from to) as (λ v. length (pieces_after_as p piece from to promotion v) ≡ length p.pieces) [
+      | None ↦ length-moved (pieces_beside_move p piece from to) p.side piece from to promotion ∙ length-prepared p piece from to
+      | Some wing ↦ length-castled p.pieces p.side wing from (castling_rook p wing)
+    ]
 
 -- a right that is kept
-KeepsAt : (right : Bool) (king rook from to : ℕ) → Decides (keeps right king rook from to) (IsTrue right × LeavesHome king rook from to)
-KeepsAt right king rook from to =
-    Decides-and right _ (λ e. e, λ e. e)
-    (Decides-and _ _ (Decides-and _ _ (Decides-not _ (Decides-eqb from king)) (Decides-not _ (Decides-eqb to king))) (Decides-and _ _ (Decides-not _ (Decides-eqb from rook)) (Decides-not _ (Decides-eqb to rook))))
+SideIs : (a b : Side) → Decides (same_side a b) (a ≡ b)
+SideIs a b = (same_side-is a b, λ e. subst (λ (s : Side). same_side a s ≡ true) e (same_side-refl a))
+
+KingIs : (piece : Kind) → Decides (is_king_kind piece) (piece ≡ King)
+KingIs piece = (king_kind piece, λ e. rw e refl)
+
+LostAt : (mover : Side) (piece : Kind) (from to : ℕ) (side : Side) (rook : ℕ) → Decides (is_lost mover piece from to side rook) (((mover ≡ side) × (piece ≡ King)) ⊎ (IsOnFile side rook from ⊎ IsOnFile side rook to))
+LostAt mover piece from to side rook =
+    Decides-or _ _ (Decides-and _ _ (SideIs mover side) (KingIs piece)) (Decides-or _ _ (OnFileAt side rook from) (OnFileAt side rook to))
+
+right_keeps : (p : Position) (piece : Kind) (from to : ℕ) (side : Side) (right : Option ℕ) (rook : ℕ) → (right_after p.side piece from to side right ≡ Some rook) ↔ ((right ≡ Some rook) × KeepsRight p.side piece from to side rook)
+right_keeps p piece from to side None rook = (λ e. absurd (cc), λ h. let e = h.0 in absurd (cc))
+right_keeps p piece from to side (Some own) rook =
+    let law = LostAt p.side piece from to side own in
+    elim (is_lost p.side piece from to side own) as (λ v. is_lost p.side piece from to side own ≡ v → (cond v None (Some own) ≡ Some rook) ↔ ((Some own ≡ Some rook) × KeepsRight p.side piece from to side rook)) [
+      | true ↦ λ e. (
+        λ never. absurd (cc),
+        λ h. let same : own ≡ rook = let q = h.0 in cc in
+            let keeps : KeepsRight p.side piece from to side own = subst (λ (r : ℕ). KeepsRight p.side piece from to side r) (sym same) h.1 in
+            absurd (⊎_elim (λ k. keeps.0 k) (λ on. ⊎_elim (λ a. keeps.1.0 a) (λ b. keeps.1.1 b) on) (law.0 e)),
+      )
+      | false ↦ λ e. (
+        λ same. (
+          same,
+          let r : own ≡ rook = cc in subst (λ (r : ℕ). KeepsRight p.side piece from to side r) r
+              (λ k. false≢true (sym e ∙ law.1 (inl k)), (λ a. false≢true (sym e ∙ law.1 (inr (inl a))), λ b. false≢true (sym e ∙ law.1 (inr (inr b))))),
+        ),
+        λ h. h.0,
+      )
+    ] refl
+
+rights_keep : (p : Position) (piece : Kind) (from to : ℕ) (side : Side) (wing : Wing) (rook : ℕ) → (right_of (rights_after p piece from to) side wing ≡ Some rook) ↔ ((right_of p.rights side wing ≡ Some rook) × KeepsRight p.side piece from to side rook)
+rights_keep p piece from to White HSide rook = right_keeps p piece from to White p.rights.wk rook
+rights_keep p piece from to White ASide rook = right_keeps p piece from to White p.rights.wq rook
+rights_keep p piece from to Black HSide rook = right_keeps p piece from to Black p.rights.bk rook
+rights_keep p piece from to Black ASide rook = right_keeps p piece from to Black p.rights.bq rook
 
 PawnIs : (piece : Kind) → Decides (is_pawn_kind piece) (piece ≡ Pawn)
 PawnIs piece = (pawn_kind piece, λ e. rw e refl)
@@ -170,44 +191,38 @@ passed-is side piece from to at =
     option_same : {a b : ℕ} → Some a ≡ Some b → a ≡ b
     option_same {a} {b} e = cc
 
-begins : (p : Position) (piece : Kind) (to : ℕ) → (piece ≡ Pawn) ⊎ (piece_at p.pieces to ≢ None) → half_after p piece to ≡ 0
+begins : (p : Position) (piece : Kind) (to : ℕ) → (piece ≡ Pawn) ⊎ IsOf (other p.side) (piece_at p.pieces to) → half_after p piece to ≡ 0
 begins p piece to h =
-    ⊎_elim (λ (e : piece ≡ Pawn). rw e refl)
-    (λ (full : piece_at p.pieces to ≢ None).
-    let test : is_vacant (piece_at p.pieces to) ≡ false = filled (piece_at p.pieces to) full in
-    rw test (elim (is_pawn_kind piece) as (λ v. cond (v || true) 0 (min (p.half + 1) top_count) ≡ 0) [ true ↦ refl | false ↦ refl ]))
-    h
-  where
-    filled : (occupant : Occupant) → occupant ≢ None → is_vacant occupant ≡ false
-    filled None h = absurd (h refl)
-    filled (Some occupant) h = refl
+    let law = Decides-or (is_pawn_kind piece) (is_of_side (other p.side) (piece_at p.pieces to)) (PawnIs piece) (Of (other p.side) (piece_at p.pieces to)) in
+    rw (law.1 h) refl
 
-counts : (p : Position) (piece : Kind) (to : ℕ) → piece ≢ Pawn → piece_at p.pieces to ≡ None → half_after p piece to ≡ min (p.half + 1) top_count
+counts : (p : Position) (piece : Kind) (to : ℕ) → piece ≢ Pawn → (¬ IsOf (other p.side) (piece_at p.pieces to)) → half_after p piece to ≡ min (p.half + 1) top_count
 counts p piece to officer empty =
-    let test : is_pawn_kind piece ≡ false = false_from_ne_true _ (λ e. officer (pawn_kind piece e)) in
-    rw (test, empty) refl
+    let law = Decides-or (is_pawn_kind piece) (is_of_side (other p.side) (piece_at p.pieces to)) (PawnIs piece) (Of (other p.side) (piece_at p.pieces to)) in
+    let test : (is_pawn_kind piece || is_of_side (other p.side) (piece_at p.pieces to)) ≡ false = false_from_ne_true _ (λ e. absurd (⊎_elim officer empty (law.0 e))) in
+    rw test refl
 
 plays : (p : Position) (from to : ℕ) (promotion : Option Kind) → IsPosition p → from < 64 → to < 64 → (m : IsLegal p from to promotion) → Plays p from to promotion (with_legal_en_passant (follow p m.piece from to promotion))
 plays p from to promotion is f t m =
     let q = follow p m.piece from to promotion in
     let only = settled-only q in
-    let rights : (with_legal_en_passant q).rights ≡ rights_after p.rights from to = ap (λ (x : Position). x.rights) only in
+    let rights : (with_legal_en_passant q).rights ≡ rights_after p m.piece from to = ap (λ (x : Position). x.rights) only in
     let pieces : (with_legal_en_passant q).pieces ≡ pieces_after p m.piece from to promotion = ap (λ (x : Position). x.pieces) only in
     let half : (with_legal_en_passant q).half ≡ half_after p m.piece to = ap (λ (x : Position). x.half) only in
     record {
       piece = m.piece;
       occupant = m.occupant;
-      pieces = rw pieces (moves_pieces p from to promotion is.pieces.whole f t m);
+      whole = ap length pieces ∙ (length-after p m.piece from to promotion ∙ is.pieces.whole);
+      moved = λ plain. rw pieces (moves_pieces p from to promotion is.pieces.whole f t m plain);
+      castled = λ wing king c. rw pieces (castles_pieces p wing from to promotion is f m king c);
       side = ap (λ (x : Position). x.side) only;
-      white_short = rw rights (KeepsAt p.rights.wk 4 7 from to);
-      white_long = rw rights (KeepsAt p.rights.wq 4 0 from to);
-      black_short = rw rights (KeepsAt p.rights.bk 60 63 from to);
-      black_long = rw rights (KeepsAt p.rights.bq 60 56 from to);
+      rights = λ side wing rook. rw rights (rights_keep p m.piece from to side wing rook);
       passant = λ at. let here = settled-passant q at in let law = passed-is p.side m.piece from to at in
           (λ h. let parts = here.0 h in (law.0 parts.0, parts.1), λ h. here.1 (law.1 h.0, h.1));
       begun = λ h. half ∙ begins p m.piece to h;
       counted = λ officer empty. half ∙ counts p m.piece to officer empty;
       full = ap (λ (x : Position). x.full) only;
+      variant = ap (λ (x : Position). x.rights.variant) only;
     }
 
 pub play-law : PlayLaw

@@ -23,7 +23,7 @@ abbrev line : ℕ → ℕ → Bool
 line f r = ltb 0 (max f r) && ((f == 0) || (r == 0))
 
 abbrev close : ℕ → ℕ → Bool
-close f r = leb f 2 && leb r 1
+close f r = leb f 1 && leb r 1
 
 -- the shapes, each with the kinds that have it
 abbrev jumps : Bool → Kind → Bool
@@ -60,8 +60,8 @@ ahead_apart : (side : Side) (rank to : ℕ) → is_ahead side rank to 1 ≡ true
 ahead_apart White rank to e = let n = eqb-true to (rank + 1) e in omega arith
 ahead_apart Black rank to e = let n = eqb-true rank (to + 1) e in omega arith
 
-close_is : (f r : ℕ) → f ≤ 2 → r ≤ 1 → close f r ≡ true
-close_is f r a b = rw (le-leb f 2 a, le-leb r 1 b) refl
+close_is : (f r : ℕ) → f ≤ 1 → r ≤ 1 → close f r ≡ true
+close_is f r a b = rw (le-leb f 1 a, le-leb r 1 b) refl
 
 shaped : (pieces : Pieces) (side : Side) (piece : Kind) (from at : ℕ) → reaches pieces side piece from at ≡ true →
     fits (jump (files_apart from at) (ranks_apart from at)) (slant (files_apart from at) (ranks_apart from at)) (line (files_apart from at) (ranks_apart from at)) (close (files_apart from at) (ranks_apart from at)) piece ≡ true

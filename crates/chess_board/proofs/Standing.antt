@@ -1,23 +1,30 @@
 -- The facts of every position, and the answers of `build`, in the words of the Laws.
 use Rattle.std.proofs.Common.{◌≡◌, ◌≢◌, ◌≤◌, ◌<◌, ℕ, Bool, true, false, ◌&&◌, ◌||◌, not, cond, refl, ap, subst, sym, ◌∙◌, Option, Some, None, Ok, Err, leb, eqb, min, max}
-use Rattle.std.specs.Prelude.{IsTrue, IfSome, count_by}
+use Rattle.std.specs.Prelude.{◌↔◌, IfSome, count_by, nat_lt}
 use Rattle.std.specs.Bool.{Decides}
-use Rattle.std.proofs.lemmas.Bool.{false≢true, le-leb, leb-true}
+use Rattle.std.proofs.lemmas.Bool.{false≢true, le-leb, leb-true, lt-ltb}
 use Rattle.std.proofs.lemmas.Bool.Decides.{Decides-and, Decides-not, Decides-eqb}
 use Rattle.chess_board.specs.declared.board.Side.{Side}
 use Rattle.chess_board.specs.declared.board.Side.TheVariants.{White, Black}
 use Rattle.chess_board.specs.declared.board.Kind.TheVariants.{Pawn, Knight, Bishop, Rook, Queen, King}
 use Rattle.chess_board.specs.declared.board.BuildFault.TheVariants.{Board, Kings}
-use Rattle.chess_board.specs.Board.{Occupant, Pieces, piece_at, other, is_of_side, is_king, is_rook, rank_of_square, each_square, squares}
+use Rattle.chess_board.specs.declared.board.Rights.{Rights}
+use Rattle.chess_board.specs.declared.board.Variant.{Variant}
+use Rattle.chess_board.specs.declared.board.Variant.TheVariants.{Normal, Fischer}
+use Rattle.chess_board.specs.declared.board.Wing.{Wing}
+use Rattle.chess_board.specs.declared.board.Wing.TheVariants.{HSide, ASide}
+use Rattle.chess_board.specs.Board.{Occupant, Pieces, piece_at, other, is_of_side, is_king, is_rook, rank_of_square, square_at, some_below, each_square, squares}
 use Rattle.chess_board.specs.Attack.{is_checked}
 use Rattle.chess_board.specs.Position.{Position}
 use Rattle.chess_board.specs.Laws.{CanCaptureEnPassant}
-use Rattle.chess_board.specs.Play.{IsPosition, Takeable, fits_board, fits_kings, at_home, rights_at_home, position_if_built, with_legal_en_passant, is_supported, is_end_rank, is_any_pawn, top_count}
-use Rattle.chess_board.specs.Lawful.{AreHome, NoEndPawn, FitsBoard, FitsKings, PositionInvariant, Settles, Builds}
-use Rattle.chess_board.proofs.Below.{each_below-at, each_below-all, squares-is}
+use Rattle.chess_board.specs.Rules.{first_rank, corner_file, right_of, is_beyond}
+use Rattle.chess_board.specs.Play.{IsPosition, Takeable, fits_board, fits_kings, begins_on, is_king_for, is_at_home, right_at_home, rights_at_home, position_if_built, with_legal_en_passant, is_end_rank, is_any_pawn, top_count}
+use Rattle.chess_board.specs.Lawful.{BeginOn, AreHome, NoEndPawn, FitsBoard, FitsKings, PositionInvariant, Settles, Builds}
+use Rattle.chess_board.proofs.Below.{each_below-at, each_below-all, some_below-found, some_below-hit, squares-is}
 use Rattle.chess_board.proofs.Bools.{same_side-refl}
-use Rattle.chess_board.proofs.Keeps.{rook-is, supports}
-use Rattle.chess_board.proofs.Legal.{KingAt, checked-law}
+use Rattle.chess_board.proofs.Keeps.{rook-is}
+use Rattle.chess_board.proofs.Castled.{home_parts, right_home}
+use Rattle.chess_board.proofs.Legal.{BeyondAt, KingAt, checked-law}
 use Rattle.chess_board.proofs.Settled.{take-law, settled-only, settled-passant}
 use Rattle.chess_board.proofs.Facts.{board_fits, kings_fit}
 
@@ -89,16 +96,43 @@ RookAt side occupant = (
   λ e. let own = same_side-refl side in let is : is_rook side (Some (side, Rook)) ≡ true = rw own refl in subst (λ (m : Occupant). is_rook side m ≡ true) (sym e) is,
 )
 
-HomeAt : (pieces : Pieces) (side : Side) (king rook : ℕ) → Decides (is_king side (piece_at pieces king) && is_rook side (piece_at pieces rook)) (AreHome pieces side king rook)
-HomeAt pieces side king rook = Decides-and _ _ (KingAt side (piece_at pieces king)) (RookAt side (piece_at pieces rook))
+BeginAt : (variant : Variant) (wing : Wing) (king rook : ℕ) → Decides (begins_on variant wing king rook) (BeginOn variant wing king rook)
+BeginAt Normal wing king rook = Decides-and _ _ (Decides-eqb king 4) (Decides-eqb rook (corner_file wing))
+BeginAt Fischer wing king rook = (λ _. tt, λ _. refl)
 
-RightAt : (pieces : Pieces) (right : Bool) (side : Side) (king rook : ℕ) → Decides (at_home pieces right side king rook) (IsTrue right × AreHome pieces side king rook)
-RightAt pieces right side king rook = Decides-and right (is_king side (piece_at pieces king) && is_rook side (piece_at pieces rook)) (λ e. e, λ e. e) (HomeAt pieces side king rook)
+pub HomeAt : (variant : Variant) (pieces : Pieces) (side : Side) (wing : Wing) (rook : ℕ) → Decides (is_at_home variant pieces side wing rook) (AreHome variant pieces side wing rook)
+unfolding is_at_home
+HomeAt variant pieces side wing rook =
+    let king_test = λ (king : ℕ). is_king side (piece_at pieces (square_at king (first_rank side))) in
+    let at = λ (king : ℕ). Decides-and (king_test king) (is_beyond wing king rook && begins_on variant wing king rook) (KingAt side (piece_at pieces (square_at king (first_rank side))))
+    (Decides-and (is_beyond wing king rook) (begins_on variant wing king rook) (BeyondAt wing king rook) (BeginAt variant wing king rook)) in
+    let tower = RookAt side (piece_at pieces (square_at rook (first_rank side))) in (
+      λ e.
+          let h = home_parts variant pieces side wing rook e in
+          let found = some_below-found 8 (is_king_for variant pieces side wing rook) h.kings in
+          let king = (at found.0).0 found.2 in
+          record { inside = h.inside; rook_there = tower.0 h.rook_there; king = found.0; king_inside = found.1; king_there = king.0; beyond = king.1.0; begin = king.1.1 },
+      λ h.
+          let low : nat_lt rook 8 ≡ true = lt-ltb rook 8 h.inside in
+          let there = tower.1 h.rook_there in
+          let kings : some_below 8 (is_king_for variant pieces side wing rook) ≡ true = some_below-hit 8 h.king (is_king_for variant pieces side wing rook) h.king_inside ((at h.king).1 (h.king_there, (h.beyond, h.begin))) in
+          rw (low, there) kings,
+    )
 
-supported : (pieces : Pieces) (right : Bool) (side : Side) (king rook : ℕ) → is_supported pieces right side king rook ≡ true → IsTrue right → AreHome pieces side king rook
-supported pieces right side king rook e has =
-    let tests = supports pieces right side king rook e has in
-    ((KingAt side (piece_at pieces king)).0 tests.0, (RookAt side (piece_at pieces rook)).0 tests.1)
+RightAt : (variant : Variant) (pieces : Pieces) (side : Side) (wing : Wing) (right : Option ℕ) (rook : ℕ) → (right_at_home variant pieces side wing right ≡ Some rook) ↔ ((right ≡ Some rook) × AreHome variant pieces side wing rook)
+RightAt variant pieces side wing None rook = (λ e. absurd (cc), λ h. let e = h.0 in absurd (cc))
+RightAt variant pieces side wing (Some own) rook =
+    let law = HomeAt variant pieces side wing own in
+    elim (is_at_home variant pieces side wing own) as (λ v. is_at_home variant pieces side wing own ≡ v → (cond v (Some own) None ≡ Some rook) ↔ ((Some own ≡ Some rook) × AreHome variant pieces side wing rook)) [
+      | true ↦ λ e. (λ same. let r : own ≡ rook = cc in (same, subst (λ (n : ℕ). AreHome variant pieces side wing n) r (law.0 e)), λ h. h.0)
+      | false ↦ λ e. (λ never. absurd (cc), λ h. let q = h.0 in let r : rook ≡ own = cc in absurd (false≢true (sym e ∙ law.1 (subst (λ (n : ℕ). AreHome variant pieces side wing n) r h.1))))
+    ] refl
+
+RightsAt : (pieces : Pieces) (rights : Rights) (side : Side) (wing : Wing) (rook : ℕ) → (right_of (rights_at_home pieces rights) side wing ≡ Some rook) ↔ ((right_of rights side wing ≡ Some rook) × AreHome rights.variant pieces side wing rook)
+RightsAt pieces rights White HSide rook = RightAt rights.variant pieces White HSide rights.wk rook
+RightsAt pieces rights White ASide rook = RightAt rights.variant pieces White ASide rights.wq rook
+RightsAt pieces rights Black HSide rook = RightAt rights.variant pieces Black HSide rights.bk rook
+RightsAt pieces rights Black ASide rook = RightAt rights.variant pieces Black ASide rights.bq rook
 
 takeable : (p : Position) (o : Option ℕ) → Takeable p o → IfSome o (CanCaptureEnPassant p)
 takeable p None t = tt
@@ -109,10 +143,7 @@ lawful-is p is = record {
   whole = is.pieces.whole;
   board = (board-law p.pieces).0 (board_fits p.pieces is.pieces);
   kings = (kings-law p.pieces p.side).0 (kings_fit p is);
-  white_short = supported p.pieces p.rights.wk White 4 7 is.rights.wk;
-  white_long = supported p.pieces p.rights.wq White 4 0 is.rights.wq;
-  black_short = supported p.pieces p.rights.bk Black 60 63 is.rights.bk;
-  black_long = supported p.pieces p.rights.bq Black 60 56 is.rights.bq;
+  rights = λ side wing rook held. (HomeAt p.rights.variant p.pieces side wing rook).0 (right_home p side wing rook is.rights held);
   passant = takeable p p.passant is.passant;
   half = is.half;
   full = is.full;
@@ -130,13 +161,11 @@ settles given =
     record {
       pieces = ap (λ (p : Position). p.pieces) only;
       side = ap (λ (p : Position). p.side) only;
-      white_short = rw rights (RightAt pieces given.rights.wk White 4 7);
-      white_long = rw rights (RightAt pieces given.rights.wq White 4 0);
-      black_short = rw rights (RightAt pieces given.rights.bk Black 60 63);
-      black_long = rw rights (RightAt pieces given.rights.bq Black 60 56);
+      rights = λ side wing rook. rw rights (RightsAt pieces given.rights side wing rook);
       passant = λ at. settled-passant q at;
       half = ap (λ (p : Position). p.half) only;
       full = ap (λ (p : Position). p.full) only;
+      variant = ap (λ (p : Position). p.rights.variant) only;
     }
 
 pub builds-is : (given : Position) → Builds given (position_if_built given)

@@ -1,7 +1,7 @@
 //! Laws about the definitions that contracts cite, each a clause of a function that does nothing.
 ghost use Rattle.std.specs.Prelude.{◌≡◌, ◌↔◌, ◌≤◌, IsTrue, length};
 ghost use Rattle.chess_board.specs.Laws.{AttacksLaw, LegalLaw};
-ghost use Rattle.chess_board.specs.Lawful.{BuildLaw};
+ghost use Rattle.chess_board.specs.Lawful.{BuildLaw, NormalCastlingLaw};
 ghost use Rattle.chess_board.specs.Played.{PlayLaw};
 ghost use Rattle.chess_board.specs.Text.{text_of_move, LegalIsWritten, MoveTextReadsBack, SpellsOneMove};
 
@@ -32,6 +32,11 @@ pub fn attacks_are_lawful()
 /// The test for legal moves decides the relation of the Laws (article 3.10.1).
 pub fn legality_is_lawful()
     ensures { LegalLaw }
+{}
+
+/// In normal chess castling is that of article 3.8.2, square by square.
+pub fn normal_castling_is_lawful()
+    ensures { NormalCastlingLaw }
 {}
 
 /// The answer of `Position::build` is what the Laws say.

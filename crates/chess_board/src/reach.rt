@@ -27,7 +27,7 @@ fn row(table: &[u64; 64], from: Square) -> u64
     table[from.index as usize]
 }
 
-/// The squares that a piece could go to on an empty board, or castle to.
+/// The squares that a piece could go to on an empty board, but for castling.
 pub(crate) fn ways_of(side: Side, kind: Kind, from: Square) -> u64
     ensures { IsSetOf (form side kind from.index) result }
 {

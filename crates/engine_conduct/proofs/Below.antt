@@ -7,7 +7,6 @@ use Rattle.protocol_tokens.specs.Tokens.{tokens}
 use Rattle.chess_board.specs.declared.board.Move.{Move}
 use Rattle.chess_board.specs.Position.{Position}
 use Rattle.uci_lines.specs.Engine.{engine_message}
-use Rattle.uci_interface_lines.specs.Lines.{Line, position_line_in}
 use Rattle.session_judge.specs.declared.listener.Listener.{Listener}
 use Rattle.session_judge.specs.declared.listener.Listener.TheVariants as listeners
 use Rattle.engine_conduct.specs.declared.known.Due.{Due}
@@ -27,9 +26,9 @@ use Rattle.engine_conduct.specs.declared.search.OpenSearch.TheVariants as search
 use Rattle.engine_conduct.specs.declared.words.EngineWord.{EngineWord}
 use Rattle.engine_conduct.specs.declared.words.EngineWord.TheVariants as engines
 use Rattle.engine_conduct.specs.Conduct.{Conduct, after_long_by, conduct_after, heard, is_hearing, list_by, list_or}
-use Rattle.engine_conduct.specs.Known.{after_choice, after_declared, after_heard_order, after_line, asked_boot, asked_ready, asked_search, fewer, search_left, told_boot, told_ready, told_search}
-use Rattle.engine_conduct.specs.Orders.{declared_set, order_heard, position_placed, variant_set}
-use Rattle.engine_conduct.specs.Searches.{began_search, hit_in, lost_place, search_hit, search_stopped, stopped_in}
+use Rattle.engine_conduct.specs.Known.{after_choice, known_after_declared, after_heard_order, after_line, asked_boot, asked_ready, asked_search, castling_declared, fewer, search_left, told_boot, told_ready, told_search}
+use Rattle.engine_conduct.specs.Orders.{declared_set, order_heard, position_placed, variant_played, variant_set}
+use Rattle.engine_conduct.specs.Searches.{began_search, pondering_hit, lost_place, search_hit, search_stopped, stopped_in}
 use Rattle.engine_conduct.specs.Words.{engine_word_in}
 
 -- ONE KNOWS LESS THAN ANOTHER
@@ -100,7 +99,7 @@ stopped_below s l t k h = absurd h
 hit_below : (s : OpenSearch) (l : List Move) (t : OpenSearch) (k : List Move) → SearchBelow s l t k → SearchBelow (search_hit s) l (search_hit t) k
 hit_below searches.Mixed l t k h = tt
 hit_below searches.None l searches.None k h = tt
-hit_below (searches.Alone s) l (searches.Alone t) k h = record { pondering = ap hit_in h.pondering; end = h.end; at = h.at }
+hit_below (searches.Alone s) l (searches.Alone t) k h = record { pondering = ap pondering_hit h.pondering; end = h.end; at = h.at }
 hit_below s l t k h = absurd h
 
 lost_below : (s : OpenSearch) (l : List Move) (t : OpenSearch) (k : List Move) → SearchBelow s l t k → SearchBelow (lost_place s) l (lost_place t) k
@@ -130,21 +129,20 @@ begun_below n m p q l k line e h =
     (cond (i == 0) (began_search q (tokens line)) searches.Mixed) (list_or (list_by (orders.Word words.Go) q line) k))
     e (begun_at (n == 0) p q l k line h)
 
-placed_at : (z : Bool) (castling : Castling) (g h : PlayedGame) (said : Option Line) → GameBelow g h
-    → PlaceBelow (cond z (position_placed castling g said) None) (cond z (position_placed castling h said) None)
-placed_at false castling g h said e = inl refl
-placed_at true castlings.Chess960 g h said e = inl refl
-placed_at true castlings.Standard games.Other h said e = inl refl
-placed_at true castlings.Standard games.Chess games.Chess said e = inr refl
-placed_at true castlings.Standard games.Chess games.Other said (inl e) = absurd (cc)
-placed_at true castlings.Standard games.Chess games.Other said (inr e) = absurd (cc)
+placed_at : (z : Bool) (castling : Castling) (g h : PlayedGame) (line : List ℕ) → GameBelow g h
+    → PlaceBelow (cond z (position_placed (variant_played castling g) line) None) (cond z (position_placed (variant_played castling h) line) None)
+placed_at false castling g h line e = inl refl
+placed_at true castling games.Other h line e = inl refl
+placed_at true castling games.Chess games.Chess line e = inr refl
+placed_at true castling games.Chess games.Other line (inl e) = absurd (cc)
+placed_at true castling games.Chess games.Other line (inr e) = absurd (cc)
 
-placed_below : (n m : ℕ) (c d : Castling) (g h : PlayedGame) (said : Option Line) → n ≡ m → c ≡ d → GameBelow g h
-    → PlaceBelow (cond (n == 0) (position_placed c g said) None) (cond (m == 0) (position_placed d h said) None)
-placed_below n m c d g h said e f x =
-    subst (λ (i : ℕ). PlaceBelow (cond (n == 0) (position_placed c g said) None) (cond (i == 0) (position_placed d h said) None)) e
-    (subst (λ (i : Castling). PlaceBelow (cond (n == 0) (position_placed c g said) None) (cond (n == 0) (position_placed i h said) None)) f
-    (placed_at (n == 0) c g h said x))
+placed_below : (n m : ℕ) (c d : Castling) (g h : PlayedGame) (line : List ℕ) → n ≡ m → c ≡ d → GameBelow g h
+    → PlaceBelow (cond (n == 0) (position_placed (variant_played c g) line) None) (cond (m == 0) (position_placed (variant_played d h) line) None)
+placed_below n m c d g h line e f x =
+    subst (λ (i : ℕ). PlaceBelow (cond (n == 0) (position_placed (variant_played c g) line) None) (cond (i == 0) (position_placed (variant_played d h) line) None)) e
+    (subst (λ (i : Castling). PlaceBelow (cond (n == 0) (position_placed (variant_played c g) line) None) (cond (n == 0) (position_placed (variant_played i h) line) None)) f
+    (placed_at (n == 0) c g h line x))
 
 pub choice_below : (a b : Conduct) (choice : Option GameChoice) → Below a b
     → Below (record { known = after_choice a.known choice; listed = a.listed }) (record { known = after_choice b.known choice; listed = b.listed })
@@ -154,6 +152,15 @@ choice_below a b (Some (choices.Castling c)) h = record {
   listener = h.listener;
   due = h.due;
   castling = refl;
+  game = h.game;
+  placed = inl refl;
+  search = lost_below a.known.search a.listed b.known.search b.listed h.search;
+}
+choice_below a b (Some choices.Declared) h = record {
+  heard_so = h.heard_so;
+  listener = h.listener;
+  due = h.due;
+  castling = ap castling_declared h.castling;
   game = h.game;
   placed = inl refl;
   search = lost_below a.known.search a.listed b.known.search b.listed h.search;
@@ -179,7 +186,7 @@ word_below a b n m words.Position line h = λ e. record {
   due = h.due;
   castling = h.castling;
   game = h.game;
-  placed = placed_below a.known.due.answers b.known.due.answers a.known.castling b.known.castling a.known.game b.known.game (position_line_in line) (ap (λ (d : Due). d.answers) h.due) h.castling h.game;
+  placed = placed_below a.known.due.answers b.known.due.answers a.known.castling b.known.castling a.known.game b.known.game line (ap (λ (d : Due). d.answers) h.due) h.castling h.game;
   search = h.search;
 }
 word_below a b n m words.Go line h = λ e. record {
@@ -235,9 +242,9 @@ declared_at true a b choice h = choice_below a b choice h
 declared_at false a b choice h = record { heard_so = h.heard_so; listener = h.listener; due = h.due; castling = h.castling; game = h.game; placed = h.placed; search = h.search }
 
 declared_below : (a b : Conduct) (choice : Option GameChoice) → Below a b
-    → Below (record { known = after_declared a.known choice; listed = a.listed }) (record { known = after_declared b.known choice; listed = b.listed })
+    → Below (record { known = known_after_declared a.known choice; listed = a.listed }) (record { known = known_after_declared b.known choice; listed = b.listed })
 declared_below a b choice h =
-    subst (λ (d : Due). Below (record { known = after_declared a.known choice; listed = a.listed }) (record { known = cond (nat_lt 0 d.boots) (after_choice b.known choice) b.known; listed = b.listed }))
+    subst (λ (d : Due). Below (record { known = known_after_declared a.known choice; listed = a.listed }) (record { known = cond (nat_lt 0 d.boots) (after_choice b.known choice) b.known; listed = b.listed }))
     h.due (declared_at (nat_lt 0 a.known.due.boots) a b choice h)
 
 pub told_below : (a b : Conduct) (w : Option EngineWord) (line : List ℕ) → Below a b → Below (told a w line) (told b w line)

@@ -23,15 +23,16 @@ use Rattle.engine_conduct.specs.declared.search.OpenSearch.{OpenSearch}
 use Rattle.engine_conduct.specs.declared.search.OpenSearch.TheVariants as searches
 use Rattle.engine_conduct.specs.declared.words.EngineWord.{EngineWord}
 use Rattle.engine_conduct.specs.declared.words.EngineWord.TheVariants as engines
-use Rattle.engine_conduct.specs.Broken.{breaks_declared, breaks_late, breaks_move, breaks_ponder, breaks_pv, breaks_searchmoves, breaks_unasked, is_best, line_breaks}
+use Rattle.engine_conduct.specs.Broken.{breaks_declared, breaks_late, breaks_move, breaks_ponder, breaks_pv, breaks_searchmoves, breaks_unasked, is_best_word, line_breaks}
 use Rattle.engine_conduct.specs.Conduct.{Conduct, after_long_by, broken_by_mark, conduct, conduct_after, first_broken, heard, line_broken}
-use Rattle.engine_conduct.specs.Innocent.{HeardSooner, IsFaultless, IsHeardSooner, IsInnocent, Keeps, KeepsUci, LineKeeps, MarkKeeps, NoInnocentIsBlamed, is_read, is_said, lived, marks_of}
+use Rattle.engine_conduct.specs.Innocent.{HeardSoonerTimes, IsFaultless, IsOrderHeardSooner, IsInnocent, Keeps, KeepsUci, LineKeeps, MarkKeeps, NoInnocentIsBlamed, is_read, is_said, lived, log_marks}
 use Rattle.engine_conduct.specs.Known.{after_choice, after_heard_order, after_line, more, fewer}
 use Rattle.engine_conduct.specs.Orders.{declared_set, order_heard, variant_set}
 use Rattle.engine_conduct.specs.Searches.{is_bound, place_by, search_place}
 use Rattle.engine_conduct.specs.Words.{engine_word_in}
 use Rattle.engine_conduct.proofs.Below.{Below, KnowsLess, SearchBelow, deaf_when, heard_when, hears, mark_below, same_below}
-use Rattle.engine_conduct.proofs.Swaps.{InRange, swaps_all}
+use Rattle.engine_conduct.proofs.Answered.{InRange}
+use Rattle.engine_conduct.proofs.Swaps.{swaps_all}
 
 -- WHO KNOWS LESS BLAMES LESS
 
@@ -83,7 +84,7 @@ word_less a b w line h k =
       is_asked = ap (λ (d : Due). breaks_unasked d w) h.due ∙ k.is_asked;
       is_searching = ap (λ (d : Due). breaks_late d w line) h.due ∙ k.is_searching;
       declares = ap (λ (d : Due). breaks_declared d w line) h.due ∙ k.declares;
-      goes_on = goes_below (is_best w) (is_bound a.known.search) (is_bound b.known.search) (bound_below a.known.search a.listed b.known.search b.listed h.search) k.goes_on;
+      goes_on = goes_below (is_best_word w) (is_bound a.known.search) (is_bound b.known.search) (bound_below a.known.search a.listed b.known.search b.listed h.search) k.goes_on;
       is_legal = move_less (search_place a.known.search) a.listed (search_place b.known.search) b.listed w line p k.is_legal;
       shows_legal = pv_less (search_place a.known.search) a.listed (search_place b.known.search) b.listed w line p k.shows_legal;
       is_allowed = listed_less (search_place a.known.search) a.listed (search_place b.known.search) b.listed w line p k.is_allowed;
@@ -159,6 +160,7 @@ later d n c = record { boots = omega (arith, c.boots); readies = omega (arith, c
 choice_counts : (k : Known) (x : Option GameChoice) (n : ℕ) → Counts k.due n → Counts (after_choice k x).due n
 choice_counts k None n c = c
 choice_counts k (Some (choices.Castling y)) n c = c
+choice_counts k (Some choices.Declared) n c = c
 choice_counts k (Some (choices.Game y)) n c = c
 
 order_counts : (k : Known) (o : HeardOrder) (text : List ℕ) (n : ℕ) → Counts k.due n → Counts (after_heard_order k 0 o text).due (suc n)
@@ -252,29 +254,29 @@ once_at listener behind before order said i h o s =
     (goes_behind listener behind (order ∷ said ∷ before) (said ∷ order ∷ before) i
     (record { innocent = ((here.0.0, order_keeps c order o), w.keeps); less = w.less })).innocent
 
-once : (listener : Listener) (life heard : List Mark) → IsInnocent listener life → length life < 18446744073709551615 → IsHeardSooner life heard → IsInnocent listener heard
+once : (listener : Listener) (life heard : List Mark) → IsInnocent listener life → length life < 18446744073709551615 → IsOrderHeardSooner life heard → IsInnocent listener heard
 once listener life heard i h s =
     subst (IsInnocent listener) (sym s.heard_is)
     (once_at listener s.behind s.before s.order s.told (subst (IsInnocent listener) s.life_is i) (subst (λ (l : List Mark). length l < 18446744073709551615) s.life_is h) s.is_order s.is_line)
 
-as_long : (life heard : List Mark) → IsHeardSooner life heard → length life ≡ length heard
+as_long : (life heard : List Mark) → IsOrderHeardSooner life heard → length life ≡ length heard
 as_long life heard s = ap length s.life_is ∙ length_swapped s.behind s.order s.told s.before ∙ sym (ap length s.heard_is)
 
-often : (listener : Listener) (n : ℕ) (life heard : List Mark) → IsInnocent listener life → length life < 18446744073709551615 → HeardSooner n life heard → IsInnocent listener heard
+often : (listener : Listener) (n : ℕ) (life heard : List Mark) → IsInnocent listener life → length life < 18446744073709551615 → HeardSoonerTimes n life heard → IsInnocent listener heard
 often listener zero life heard i h s = subst (IsInnocent listener) s i
 often listener (suc n) life heard i h s =
     often listener n s.0 heard (once listener life s.0 i h s.1) (subst (λ (l : ℕ). l < 18446744073709551615) (as_long life s.0 s.1) h) s.2
 
 -- THE LOG
 
-log_less : (listener : Listener) (log : List Entry) → KnowsLess (conduct listener log) (lived listener (marks_of log))
+log_less : (listener : Listener) (log : List Entry) → KnowsLess (conduct listener log) (lived listener (log_marks log))
 log_less listener [] = same_below (conduct listener [])
-log_less listener (entry ∷ log) = mark_below (conduct listener log) (lived listener (marks_of log)) entry.line 0 entry.mark (log_less listener log)
+log_less listener (entry ∷ log) = mark_below (conduct listener log) (lived listener (log_marks log)) entry.line 0 entry.mark (log_less listener log)
 
-faultless : (listener : Listener) (log : List Entry) → IsInnocent listener (marks_of log) → IsFaultless listener log
+faultless : (listener : Listener) (log : List Entry) → IsInnocent listener (log_marks log) → IsFaultless listener log
 faultless listener [] i = tt
 faultless listener (entry ∷ log) i =
-    (faultless listener log i.0, unbroken (conduct listener log) entry.mark (keeps_less (conduct listener log) (lived listener (marks_of log)) entry.mark (log_less listener log) i.1))
+    (faultless listener log i.0, unbroken (conduct listener log) entry.mark (keeps_less (conduct listener log) (lived listener (log_marks log)) entry.mark (log_less listener log) i.1))
 
 pub no_innocent_is_blamed : NoInnocentIsBlamed
 no_innocent_is_blamed listener life n heard log i s e h =

@@ -1,4 +1,9 @@
 pub mod Below
+pub mod OtherWords
+pub mod Milder
+pub mod Thinking
 pub mod Kept
+pub mod Answered
+pub mod OptionsSwap
 pub mod Swaps
 pub mod Innocence

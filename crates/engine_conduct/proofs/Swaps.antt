@@ -1,289 +1,28 @@
 -- An order may be heard before a line of the engine that was written before it was read: less is known then.
-use Rattle.std.proofs.Common.{◌≡◌, ◌⊎◌, inl, inr, ℕ, ◌+◌, ◌<◌, List, length, Bool, true, false, cond, ◌||◌, Option, Some, None, refl, sym, ap, subst, ◌∙◌, arith, lt-ltb}
-use Rattle.std.proofs.lemmas.Bool.{eqb-false}
-use Rattle.std.specs.Prelude.{◌==◌, nat_lt, codes}
-use Rattle.std.specs.Str.{str_eq_ignore_ascii_case}
+use Rattle.std.proofs.Common.{◌≡◌, inr, ℕ, List, Bool, true, false, cond, Option, Some, None, refl, sym, ap, subst, ◌∙◌}
+use Rattle.std.specs.Prelude.{nat_lt}
 use Rattle.line_io.specs.Event as events
 use Rattle.script_lines.specs.Marks.{Mark, Happens, ToEngine}
-use Rattle.protocol_tokens.specs.Tokens.{rest_after_token, tokens}
-use Rattle.chess_board.specs.declared.board.Move.{Move}
-use Rattle.chess_board.specs.Position.{Position}
 use Rattle.uci_lines.specs.Engine.{engine_message}
-use Rattle.uci_lines.specs.Messages.{EngineMsg, OptionKind, OptionLine, Check, Combo}
-use Rattle.uci_interface_lines.specs.Lines.{position_line_in}
 use Rattle.session_judge.specs.declared.listener.Listener.{Listener}
 use Rattle.session_judge.specs.declared.listener.Listener.TheVariants as listeners
-use Rattle.engine_conduct.specs.declared.known.Due.{Due}
 use Rattle.engine_conduct.specs.declared.known.Known.{Known}
 use Rattle.engine_conduct.specs.declared.known.LongLines.TheVariants as long_lines
-use Rattle.engine_conduct.specs.declared.orders.AskedWord.{AskedWord}
-use Rattle.engine_conduct.specs.declared.orders.AskedWord.TheVariants as words
 use Rattle.engine_conduct.specs.declared.orders.HeardOrder.{HeardOrder}
 use Rattle.engine_conduct.specs.declared.orders.HeardOrder.TheVariants as orders
-use Rattle.engine_conduct.specs.declared.orders.PlayedGame.TheVariants as games
-use Rattle.engine_conduct.specs.declared.orders.GameOption.{GameOption}
-use Rattle.engine_conduct.specs.declared.orders.GameOption.TheVariants as options
 use Rattle.engine_conduct.specs.declared.orders.GameChoice.{GameChoice}
 use Rattle.engine_conduct.specs.declared.orders.GameChoice.TheVariants as choices
-use Rattle.engine_conduct.specs.declared.search.OpenSearch.{OpenSearch}
-use Rattle.engine_conduct.specs.declared.search.OpenSearch.TheVariants as searches
 use Rattle.engine_conduct.specs.declared.words.EngineWord.{EngineWord}
 use Rattle.engine_conduct.specs.declared.words.EngineWord.TheVariants as engines
 use Rattle.engine_conduct.specs.Conduct.{Conduct, after_long_by, conduct_after, heard, is_hearing}
-use Rattle.engine_conduct.specs.Defaults.{behind_kind, breaks_check, breaks_default, is_no_truth, is_off_option}
-use Rattle.engine_conduct.specs.Innocent.{KeepsUci, Keeps, LineKeeps, is_read, is_said}
-use Rattle.engine_conduct.specs.Known.{after_choice, fewer, more, search_left, told_search}
-use Rattle.engine_conduct.specs.Orders.{declared_by_kind, declared_set, is_plain_game, option_named, order_heard, position_placed, variant_set}
-use Rattle.engine_conduct.specs.Searches.{began_search, lost_place, search_hit, search_stopped}
-use Rattle.engine_conduct.specs.Words.{behind_word, engine_word_in}
-use Rattle.engine_conduct.proofs.Below.{Below, KnowsLess, SearchBelow, deaf_when, heard_when, hears, order_below, ordered, same_below, search_same, told, told_below}
-use Rattle.engine_conduct.proofs.Kept.{chose, kept_order, or_first, or_second}
-
--- COUNTS
-
--- no count is at its end
-pub record InRange (d : Due) : Type 0 where
-  pub boots : d.boots < 18446744073709551615
-  pub readies : d.readies < 18446744073709551615
-  pub answers : d.answers < 18446744073709551615
-
-more_is : (n : ℕ) → n < 18446744073709551615 → more n ≡ n + 1
-more_is n h = ap (λ (z : Bool). cond z (n + 1) 18446744073709551615) (lt-ltb n 18446744073709551615 h)
-
-fewer_more : (n : ℕ) → n < 18446744073709551615 → fewer (more n) ≡ n
-fewer_more n h = ap fewer (more_is n h) ∙ omega arith
-
-more_fewer : (n : ℕ) → n < 18446744073709551615 → (n == 0) ≡ false → more (fewer n) ≡ n
-more_fewer n h e =
-    let some : n ≡ 0 → ⊥ = eqb-false n 0 e in
-    more_is (fewer n) (omega (arith, h)) ∙ omega (arith, some)
-
-swaps : (n : ℕ) → n < 18446744073709551615 → (n == 0) ≡ false → fewer (more n) ≡ more (fewer n)
-swaps n h e = fewer_more n h ∙ sym (more_fewer n h e)
-
--- `uciok` AND `readyok`
-
-same : (a b : Conduct) → a ≡ b → KnowsLess a b
-same a b e = subst (λ (c : Conduct). KnowsLess a c) e (same_below a)
-
-boot_choice : (c : Conduct) (choice : Option GameChoice) (line : List ℕ) → told (chose c choice) (Some engines.UciOk) line ≡ chose (told c (Some engines.UciOk) line) choice
-boot_choice c None line = refl
-boot_choice c (Some (choices.Castling x)) line = refl
-boot_choice c (Some (choices.Game x)) line = refl
-
-boot_word : (c : Conduct) (o : AskedWord) (text line : List ℕ) → InRange c.known.due → (c.known.due.boots == 0) ≡ false
-    → told (ordered c 0 (orders.Word o) text) (Some engines.UciOk) line ≡ ordered (told c (Some engines.UciOk) line) 0 (orders.Word o) text
-boot_word c words.Uci text line r e =
-    ap (λ (n : ℕ). record { known = record (c.known) { due = record { boots = n; readies = c.known.due.readies; answers = c.known.due.answers } }; listed = c.listed })
-    (swaps c.known.due.boots r.boots e)
-boot_word c words.SetOption text line r e = boot_choice c (variant_set text) line
-boot_word c o text line r e = refl
-
-ready_choice : (c : Conduct) (choice : Option GameChoice) (line : List ℕ) → told (chose c choice) (Some engines.ReadyOk) line ≡ chose (told c (Some engines.ReadyOk) line) choice
-ready_choice c None line = refl
-ready_choice c (Some (choices.Castling x)) line = refl
-ready_choice c (Some (choices.Game x)) line = refl
-
-ready_word : (c : Conduct) (o : AskedWord) (text line : List ℕ) → InRange c.known.due → (c.known.due.readies == 0) ≡ false
-    → told (ordered c 0 (orders.Word o) text) (Some engines.ReadyOk) line ≡ ordered (told c (Some engines.ReadyOk) line) 0 (orders.Word o) text
-ready_word c words.IsReady text line r e =
-    ap (λ (n : ℕ). record { known = record (c.known) { due = record { boots = c.known.due.boots; readies = n; answers = c.known.due.answers } }; listed = c.listed })
-    (swaps c.known.due.readies r.readies e)
-ready_word c words.SetOption text line r e = ready_choice c (variant_set text) line
-ready_word c o text line r e = refl
-
--- `bestmove`
-
-left_by : (z : Bool) (f : OpenSearch → OpenSearch) (s : OpenSearch) → f searches.None ≡ searches.None → cond z searches.None (f s) ≡ f (cond z searches.None s)
-left_by true f s e = sym e
-left_by false f s e = refl
-
--- the engine searches on, with another search
-abbrev turned : Conduct → (OpenSearch → OpenSearch) → Conduct
-turned c f = record { known = record (c.known) { search = f c.known.search }; listed = c.listed }
-
-best_turned : (c : Conduct) (f : OpenSearch → OpenSearch) (line : List ℕ) → f searches.None ≡ searches.None → told (turned c f) (Some engines.Best) line ≡ turned (told c (Some engines.Best) line) f
-best_turned c f line e =
-    ap (λ (s : OpenSearch). record { known = record (c.known) { search = s; due = told_search c.known.due }; listed = c.listed })
-    (left_by (fewer c.known.due.answers == 0) f c.known.search e)
-
-best_choice : (c : Conduct) (choice : Option GameChoice) (line : List ℕ) → told (chose c choice) (Some engines.Best) line ≡ chose (told c (Some engines.Best) line) choice
-best_choice c None line = refl
-best_choice c (Some (choices.Castling x)) line =
-    ap (λ (s : OpenSearch). record { known = record (c.known) { castling = x; placed = None; search = s; due = told_search c.known.due }; listed = c.listed })
-    (left_by (fewer c.known.due.answers == 0) lost_place c.known.search refl)
-best_choice c (Some (choices.Game x)) line =
-    ap (λ (s : OpenSearch). record { known = record (c.known) { game = x; placed = None; search = s; due = told_search c.known.due }; listed = c.listed })
-    (left_by (fewer c.known.due.answers == 0) lost_place c.known.search refl)
-
--- A `go` before the answer is due begins a search of which nothing is known.
-mixed_left : (n : ℕ) (s : OpenSearch) → n < 18446744073709551615 → (n == 0) ≡ false → search_left (fewer (more n)) (cond (n == 0) s searches.Mixed) ≡ searches.Mixed
-mixed_left n s h e =
-    ap (λ (i : ℕ). search_left i (cond (n == 0) s searches.Mixed)) (fewer_more n h)
-    ∙ ap (λ (z : Bool). cond z searches.None (cond z s searches.Mixed)) e
-
-below_mixed : (s : OpenSearch) (l : List Move) (t : OpenSearch) (k : List Move) → s ≡ searches.Mixed → SearchBelow s l t k
-below_mixed s l t k e = subst (λ (u : OpenSearch). SearchBelow u l t k) (sym e) tt
-
-best_word : (c : Conduct) (o : AskedWord) (text line : List ℕ) → InRange c.known.due → (c.known.due.answers == 0) ≡ false
-    → KnowsLess (told (ordered c 0 (orders.Word o) text) (Some engines.Best) line) (ordered (told c (Some engines.Best) line) 0 (orders.Word o) text)
-best_word c words.SetOption text line r e = same _ _ (best_choice c (variant_set text) line)
-best_word c words.Stop text line r e = same _ _ (best_turned c search_stopped line refl)
-best_word c words.PonderHit text line r e = same _ _ (best_turned c search_hit line refl)
-best_word c words.Position text line r e = λ i. record {
-  heard_so = i;
-  listener = refl;
-  due = refl;
-  castling = refl;
-  game = inr refl;
-  placed = inl (ap (λ (z : Bool). cond z (position_placed c.known.castling c.known.game (position_line_in text)) None) e);
-  search = search_same _ c.listed;
-}
-best_word c words.Go text line r e = λ i. record {
-  heard_so = i;
-  listener = refl;
-  due = ap (λ (n : ℕ). record { boots = c.known.due.boots; readies = c.known.due.readies; answers = n }) (swaps c.known.due.answers r.answers e);
-  castling = refl;
-  game = inr refl;
-  placed = inr refl;
-  search = below_mixed _ _ _ _ (mixed_left c.known.due.answers (began_search c.known.placed (tokens text)) r.answers e);
-}
-best_word c o text line r e = same_below _
-
--- `option`
-
--- An option that keeps to UCI chooses no game, or another than chess.
-check_off : (name : List ℕ) (default : Option (List (List ℕ))) → is_off_option name ≡ true → breaks_check name true default ≡ true
-check_off name None e = e
-check_off name (Some ts) e = by (is_no_truth ts) where
-  by : (z : Bool) → (z || is_off_option name) ≡ true
-  by true = refl
-  by false = e
-
-abbrev ChoosesOther : Option GameChoice → Type 0
-ChoosesOther choice = (choice ≡ None) ⊎ (choice ≡ Some (choices.Game games.Other))
-
-other_game : (z : Bool) → ChoosesOther (cond z None (Some (choices.Game games.Other)))
-other_game true = inl refl
-other_game false = inr refl
-
-by_kind : (o : Option GameOption) (name : List ℕ) (kind : OptionKind) (ts : List (List ℕ)) → (o ≡ Some options.Chess960 → is_off_option name ≡ true) → breaks_default (OptionLine name kind) ts ≡ false
-    → ChoosesOther (declared_by_kind o kind)
-by_kind (Some options.Chess960) name (Check true) ts off h = let x = check_off name (behind_word (codes "default") ts) (off refl) in absurd (cc)
-by_kind (Some options.Chess960) name kind ts off h = inl refl
-by_kind (Some options.Variant) name (Combo default values) ts off h = other_game (length default == 0 || is_plain_game default)
-by_kind (Some options.Variant) name kind ts off h = inl refl
-by_kind None name kind ts off h = inl refl
-
-named_first : (z y : Bool) → cond z (Some options.Chess960) (cond y (Some options.Variant) None) ≡ Some options.Chess960 → z ≡ true
-named_first true y e = refl
-named_first false true e = absurd (cc)
-named_first false false e = absurd (cc)
-
-named_off : (name : List ℕ) → option_named name ≡ Some options.Chess960 → is_off_option name ≡ true
-named_off name e =
-    ap (λ (z : Bool). z || str_eq_ignore_ascii_case name (codes "UCI_ShowCurrLine") || str_eq_ignore_ascii_case name (codes "UCI_ShowRefutations") || str_eq_ignore_ascii_case name (codes "UCI_LimitStrength"))
-    (named_first (str_eq_ignore_ascii_case name (codes "UCI_Chess960")) (str_eq_ignore_ascii_case name (codes "UCI_Variant") || str_eq_ignore_ascii_case name (codes "Variant")) e)
-
-chooses_other : (m : EngineMsg) (ts : List (List ℕ)) → breaks_default m ts ≡ false → ChoosesOther (declared_set m)
-chooses_other (OptionLine name kind) ts h = by_kind (option_named name) name kind ts (named_off name) h
-chooses_other m ts h = inl refl
-
-abbrev other : Option GameChoice
-other = Some (choices.Game games.Other)
-
-other_choice : (c : Conduct) (y : Option GameChoice) → KnowsLess (chose (chose c y) other) (chose (chose c other) y)
-other_choice c None = same_below _
-other_choice c (Some (choices.Castling x)) = same_below _
-other_choice c (Some (choices.Game g)) = λ i. record {
-  heard_so = i;
-  listener = refl;
-  due = refl;
-  castling = refl;
-  game = inl refl;
-  placed = inl refl;
-  search = search_same _ c.listed;
-}
-
-lost_begun : (z : Bool) (p : Option Position) (ts : List (List ℕ)) (l k : List Move) → SearchBelow (lost_place (cond z (began_search p ts) searches.Mixed)) l (cond z (began_search None ts) searches.Mixed) k
-lost_begun true p ts l k = record { pondering = refl; end = refl; at = inl refl }
-lost_begun false p ts l k = tt
-
-lost_stop : (s : OpenSearch) (l : List Move) → SearchBelow (lost_place (search_stopped s)) l (search_stopped (lost_place s)) l
-lost_stop (searches.Alone s) l = record { pondering = refl; end = refl; at = inl refl }
-lost_stop searches.None l = tt
-lost_stop searches.Mixed l = tt
-
-lost_hit : (s : OpenSearch) (l : List Move) → SearchBelow (lost_place (search_hit s)) l (search_hit (lost_place s)) l
-lost_hit (searches.Alone s) l = record { pondering = refl; end = refl; at = inl refl }
-lost_hit searches.None l = tt
-lost_hit searches.Mixed l = tt
-
-other_word : (c : Conduct) (o : AskedWord) (text : List ℕ) → KnowsLess (chose (ordered c 0 (orders.Word o) text) other) (ordered (chose c other) 0 (orders.Word o) text)
-other_word c words.SetOption text = other_choice c (variant_set text)
-other_word c words.Position text = λ i. record {
-  heard_so = i;
-  listener = refl;
-  due = refl;
-  castling = refl;
-  game = inr refl;
-  placed = inl refl;
-  search = search_same _ c.listed;
-}
-other_word c words.Go text = λ i. record {
-  heard_so = i;
-  listener = refl;
-  due = refl;
-  castling = refl;
-  game = inr refl;
-  placed = inl refl;
-  search = lost_begun (c.known.due.answers == 0) c.known.placed (tokens text) _ _;
-}
-other_word c words.Stop text = λ i. record {
-  heard_so = i;
-  listener = refl;
-  due = refl;
-  castling = refl;
-  game = inr refl;
-  placed = inl refl;
-  search = lost_stop c.known.search c.listed;
-}
-other_word c words.PonderHit text = λ i. record {
-  heard_so = i;
-  listener = refl;
-  due = refl;
-  castling = refl;
-  game = inr refl;
-  placed = inl refl;
-  search = lost_hit c.known.search c.listed;
-}
-other_word c o text = same_below _
-
-other_order : (c : Conduct) (o : HeardOrder) (text : List ℕ) → KnowsLess (chose (ordered c 0 o text) other) (ordered (chose c other) 0 o text)
-other_order c (orders.Word o) text = other_word c o text
-other_order c o text = same_below _
-
-chose_order : (c : Conduct) (x : Option GameChoice) (o : HeardOrder) (text : List ℕ) → ChoosesOther x → KnowsLess (chose (ordered c 0 o text) x) (ordered (chose c x) 0 o text)
-chose_order c x o text (inl e) = subst (λ (y : Option GameChoice). KnowsLess (chose (ordered c 0 o text) y) (ordered (chose c y) 0 o text)) (sym e) (same_below (ordered c 0 o text))
-chose_order c x o text (inr e) = subst (λ (y : Option GameChoice). KnowsLess (chose (ordered c 0 o text) y) (ordered (chose c y) 0 o text)) (sym e) (other_order c o text)
-
-positive : (n : ℕ) → (n == 0) ≡ false → nat_lt 0 n ≡ true
-positive n e =
-    let some : n ≡ 0 → ⊥ = eqb-false n 0 e in
-    lt-ltb 0 n (omega (arith, some))
-
--- while options are declared
-said_option : (c : Conduct) (line : List ℕ) → (c.known.due.boots == 0) ≡ false → told c (Some engines.Option) line ≡ chose c (declared_set (engine_message line))
-said_option c line e = ap (λ (z : Bool). record { known = cond z (after_choice c.known (declared_set (engine_message line))) c.known; listed = c.listed }) (positive c.known.due.boots e)
-
-option_order : (c : Conduct) (o : HeardOrder) (text line : List ℕ) → KeepsUci c engines.Option line → KnowsLess (told (ordered c 0 o text) (Some engines.Option) line) (ordered (told c (Some engines.Option) line) 0 o text)
-option_order c o text line h =
-    let broken = breaks_default (engine_message line) (behind_kind (behind_word (codes "type") (tokens (rest_after_token line)))) in
-    let d : Conduct = ordered c 0 o text in
-    let x = declared_set (engine_message line) in
-    subst (λ (a : Conduct). KnowsLess a (ordered (told c (Some engines.Option) line) 0 o text)) (sym (said_option d line (or_first (d.known.due.boots == 0) broken (kept_order c o text engines.Option line h).declares)))
-    (subst (λ (a : Conduct). KnowsLess (chose d x) (ordered a 0 o text)) (sym (said_option c line (or_first (c.known.due.boots == 0) broken h.declares)))
-    (chose_order c x o text (chooses_other (engine_message line) (behind_kind (behind_word (codes "type") (tokens (rest_after_token line)))) (or_second (c.known.due.boots == 0) broken h.declares))))
+use Rattle.engine_conduct.specs.Innocent.{Keeps, LineKeeps, is_read, is_said}
+use Rattle.engine_conduct.specs.Known.{after_choice}
+use Rattle.engine_conduct.specs.Orders.{declared_set, order_heard}
+use Rattle.engine_conduct.specs.Words.{engine_word_in}
+use Rattle.engine_conduct.proofs.Below.{Below, KnowsLess, deaf_when, heard_when, hears, order_below, ordered, same_below, search_same, told, told_below}
+use Rattle.engine_conduct.proofs.Kept.{kept_order}
+use Rattle.engine_conduct.proofs.Answered.{InRange, best_word, boot_word, ready_word, same}
+use Rattle.engine_conduct.proofs.OptionsSwap.{option_order}
 
 -- EACH LINE
 
@@ -388,6 +127,7 @@ swaps_long c text e = by (hears d) refl where
 choice_listener : (k : Known) (x : Option GameChoice) → (after_choice k x).listener ≡ k.listener
 choice_listener k None = refl
 choice_listener k (Some (choices.Castling y)) = refl
+choice_listener k (Some choices.Declared) = refl
 choice_listener k (Some (choices.Game y)) = refl
 
 declared_listener : (z : Bool) (k : Known) (x : Option GameChoice) → (cond z (after_choice k x) k).listener ≡ k.listener

@@ -46,14 +46,14 @@ breaks_declared due engines.Option line =
     (behind_kind (behind_word (codes "type") (tokens (rest_after_token line))))
 breaks_declared due word line = false
 
-abbrev pub is_best : EngineWord → Bool
-is_best engines.Best = true
-is_best word = false
+abbrev pub is_best_word : EngineWord → Bool
+is_best_word engines.Best = true
+is_best_word word = false
 
 -- the moves of a `bestmove`
-abbrev pub answer_in : EngineMsg → Option Move × Option Move
-answer_in (says.Best best hint) = (best, hint)
-answer_in m = (None, None)
+abbrev pub moves_answered : EngineMsg → Option Move × Option Move
+moves_answered (says.Best best hint) = (best, hint)
+moves_answered m = (None, None)
 
 abbrev pub illegal_answer : Position → Option Move → Bool
 illegal_answer p (Some m) = not (legal p m)
@@ -74,7 +74,7 @@ unlisted_answer p listed (Some m) = legal p m && is_unlisted listed m
 -- Move: the answer is not legal where the engine searched, or is none though there is a legal move.
 abbrev pub breaks_move : Option (Position × Pondering) → EngineWord → List ℕ → Bool
 breaks_move (Some place) engines.Best line =
-    is_judged place.1 && illegal_answer place.0 (answer_in (engine_message line)).0
+    is_judged place.1 && illegal_answer place.0 (moves_answered (engine_message line)).0
 breaks_move place word line = false
 
 -- Pv: a line of moves that are not legal in their turn.
@@ -86,7 +86,7 @@ breaks_pv place word line = false
 -- SearchMoves: a legal move that was not to be searched.
 abbrev pub breaks_searchmoves : Option (Position × Pondering) → List Move → EngineWord → List ℕ → Bool
 breaks_searchmoves (Some place) listed engines.Best line =
-    unlisted_answer place.0 listed (answer_in (engine_message line)).0
+    unlisted_answer place.0 listed (moves_answered (engine_message line)).0
 breaks_searchmoves (Some place) listed engines.Info line =
     has_unlisted_run place.1 place.0 listed (tokens (rest_after_token line))
 breaks_searchmoves place listed word line = false
@@ -95,7 +95,7 @@ breaks_searchmoves place listed word line = false
 abbrev pub breaks_ponder : Option (Position × Pondering) → EngineWord → List ℕ → Bool
 breaks_ponder (Some place) engines.Best line =
     is_judged place.1
-    && illegal_hint place.0 (answer_in (engine_message line)).0 (answer_in (engine_message line)).1
+    && illegal_hint place.0 (moves_answered (engine_message line)).0 (moves_answered (engine_message line)).1
 breaks_ponder place word line = false
 
 -- The first rule that a line breaks. Infinite: an answer to a search that was to go on.
@@ -105,7 +105,7 @@ line_breaks k listed word line =
     else (if breaks_unasked k.due word then Some rules.Unasked
     else (if breaks_late k.due word line then Some rules.Late
     else (if breaks_declared k.due word line then Some rules.Declared
-    else (if is_best word && is_bound k.search then Some rules.Infinite
+    else (if is_best_word word && is_bound k.search then Some rules.Infinite
     else (if breaks_move (search_place k.search) word line then Some rules.Best
     else (if breaks_pv (search_place k.search) word line then Some rules.Pv
     else (if breaks_searchmoves (search_place k.search) listed word line then Some rules.SearchMoves

@@ -20,7 +20,7 @@ use Rattle.engine_conduct.specs.declared.rule.ConductRule.{ConductRule}
 use Rattle.engine_conduct.specs.declared.rule.ConductRule.TheVariants as rules
 use Rattle.engine_conduct.specs.declared.words.EngineWord.{EngineWord}
 use Rattle.engine_conduct.specs.Broken.{line_breaks}
-use Rattle.engine_conduct.specs.Known.{after_line, after_order, is_gone, nothing_known}
+use Rattle.engine_conduct.specs.Known.{after_line, known_after_order, leaves_early, nothing_known}
 use Rattle.engine_conduct.specs.Listed.{listed_in}
 use Rattle.engine_conduct.specs.Orders.{order_heard}
 use Rattle.engine_conduct.specs.Words.{engine_word_in}
@@ -45,7 +45,7 @@ line_broken k listed None line = None
 line_broken k listed (Some word) line = line_breaks k listed word line
 
 abbrev pub end_broken : Known → Option ConductRule
-end_broken k = if is_gone k then Some rules.Gone else None
+end_broken k = if leaves_early k then Some rules.Gone else None
 
 -- the rule that a mark breaks, of an engine that is judged
 abbrev pub broken_by_mark : Known → List Move → Mark → Option ConductRule
@@ -58,9 +58,13 @@ broken_by_mark k listed mark = None
 abbrev pub first_broken : Conduct → Mark → Option ConductRule
 first_broken c mark = if is_hearing c.known.hearing then broken_by_mark c.known c.listed mark else None
 
-abbrev pub fault_in : ℕ → Option ConductRule → Option ConductFault
-fault_in line None = None
-fault_in line (Some rule) = Some (record { line = line; rule = rule })
+abbrev pub fault_at_line : ℕ → Option ConductRule → Option ConductFault
+fault_at_line line None = None
+fault_at_line line (Some rule) = Some (record { line = line; rule = rule })
+
+-- the fault that a mark is, in the line with this number
+abbrev pub fault_of_mark : Conduct → ℕ → Mark → Option ConductFault
+fault_of_mark c line mark = fault_at_line line (first_broken c mark)
 
 -- AFTER A MARK
 
@@ -89,18 +93,18 @@ after_long_by listeners.Bridge k number = k
 abbrev pub after_long : Known → ℕ → Known
 after_long k number = after_long_by k.listener k number
 
-abbrev pub over : Known → Known
-over k = record k { hearing = hearings.Over }
+abbrev pub judging_over : Known → Known
+judging_over k = record k { hearing = hearings.Over }
 
 abbrev pub known_after : Known → ℕ → Mark → Known
-known_after k number (ToEngine line) = after_order k number line
+known_after k number (ToEngine line) = known_after_order k number line
 known_after k number (Happens (events.Engine line)) = after_line k (engine_word_in line) line
 known_after k number (Happens events.EngineLong) = record k { long = long_lines.Some }
 known_after k number (Happens events.IfaceLong) = after_long k number
-known_after k number (Happens events.EngineEnd) = over k
-known_after k number (Happens events.EngineLost) = over k
-known_after k number (Happens events.IfaceEnd) = over k
-known_after k number (Happens events.IfaceLost) = over k
+known_after k number (Happens events.EngineEnd) = judging_over k
+known_after k number (Happens events.EngineLost) = judging_over k
+known_after k number (Happens events.IfaceEnd) = judging_over k
+known_after k number (Happens events.IfaceLost) = judging_over k
 known_after k number mark = k
 
 abbrev pub heard : Known → List Move → ℕ → Mark → Conduct

@@ -10,7 +10,7 @@ use Rattle.engine_conduct.specs.declared.words.EngineWord.{EngineWord}
 use Rattle.engine_conduct.specs.declared.words.EngineWord.TheVariants as engines
 use Rattle.engine_conduct.specs.declared.words.InfoWord.{InfoWord}
 use Rattle.engine_conduct.specs.declared.words.InfoWord.TheVariants as infos
-use Rattle.engine_conduct.specs.Words.{info_word, is_move_text, is_null_move, is_number}
+use Rattle.engine_conduct.specs.Words.{info_word, spells_move, is_null_move, is_number}
 
 -- digits, perhaps behind a sign
 abbrev pub is_signed_number : List ℕ → Bool
@@ -36,12 +36,12 @@ begins_score (unit ∷ ts) =
 -- "currmove <move>", in long algebraic notation
 abbrev pub begins_move : List (List ℕ) → Bool
 begins_move [] = false
-begins_move (t ∷ ts) = is_move_text t || is_null_move t
+begins_move (t ∷ ts) = spells_move t || is_null_move t
 
 -- "pv <move1> ... <movei>", which may be empty
 abbrev pub begins_line : List (List ℕ) → Bool
 begins_line [] = true
-begins_line (t ∷ ts) = is_move_text t || is_null_move t || is_some (info_word t)
+begins_line (t ∷ ts) = spells_move t || is_null_move t || is_some (info_word t)
 
 -- "currline <cpunr> <move1> ... <movei>": the number is left out "if there is just one cpu"
 abbrev pub behind_number : List (List ℕ) → List (List ℕ)
@@ -64,22 +64,22 @@ is_told None ts = true
 is_told (Some word) ts = is_followed word ts
 
 -- `string`, behind which "the rest of the line" is a text
-abbrev pub is_text : Option InfoWord → Bool
-is_text (Some infos.Text) = true
-is_text word = false
+abbrev pub is_text_word : Option InfoWord → Bool
+is_text_word (Some infos.Text) = true
+is_text_word word = false
 
 -- each word before the first `string` has what must stand behind it
 abbrev pub all_followed : List (List ℕ) → Bool
 all_followed [] = true
 all_followed (t ∷ ts) =
-    if is_text (info_word t) then true
+    if is_text_word (info_word t) then true
     else (if not (is_told (info_word t) ts) then false else all_followed ts)
 
 -- a word is among the tokens before the first `string`
 abbrev pub tells : List ℕ → List (List ℕ) → Bool
 tells word [] = false
 tells word (t ∷ ts) =
-    if is_text (info_word t) then false else (if is_word word t then true else tells word ts)
+    if is_text_word (info_word t) then false else (if is_word word t then true else tells word ts)
 
 -- `seldepth`: "if the engine sends seldepth there must also be a depth present in the same string"
 abbrev pub breaks_info_form : List (List ℕ) → Bool

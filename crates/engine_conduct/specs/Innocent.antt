@@ -5,8 +5,9 @@ use Rattle.line_io.specs.Event as events
 use Rattle.script_lines.specs.Marks.{Mark, Happens, ToEngine}
 use Rattle.session_judge.specs.Clean.{Entry}
 use Rattle.session_judge.specs.declared.listener.Listener.{Listener}
+use Rattle.session_judge.specs.declared.talk.TheConstants.{LAST_NUMBER}
 use Rattle.engine_conduct.specs.declared.words.EngineWord.{EngineWord}
-use Rattle.engine_conduct.specs.Broken.{breaks_declared, breaks_late, breaks_move, breaks_ponder, breaks_pv, breaks_searchmoves, breaks_unasked, is_best}
+use Rattle.engine_conduct.specs.Broken.{breaks_declared, breaks_late, breaks_move, breaks_ponder, breaks_pv, breaks_searchmoves, breaks_unasked, is_best_word}
 use Rattle.engine_conduct.specs.Conduct.{Conduct, conduct, conduct_after, first_broken, is_hearing}
 use Rattle.engine_conduct.specs.Forms.{breaks_form}
 use Rattle.engine_conduct.specs.Searches.{is_bound, search_place}
@@ -23,7 +24,7 @@ pub record KeepsUci (read : Conduct) (word : EngineWord) (line : List ℕ) : Typ
   -- "once at engine startup after the uci", "an integer in a certain range", "a predefined value"
   pub declares : breaks_declared read.known.due word line ≡ false
   -- "Do not exit the search without being told so in this mode!"
-  pub goes_on : (is_best word && is_bound read.known.search) ≡ false
+  pub goes_on : (is_best_word word && is_bound read.known.search) ≡ false
   -- "found the move best in this position"
   pub is_legal : breaks_move (search_place read.known.search) word line ≡ false
   -- "the best line found"
@@ -77,7 +78,7 @@ is_said (Happens events.EngineLost) = true
 is_said mark = false
 
 -- An order is heard before a line of the engine that was written before the order was read.
-pub record IsHeardSooner (life heard : List Mark) : Type 0 where
+pub record IsOrderHeardSooner (life heard : List Mark) : Type 0 where
   pub behind : List Mark
   pub before : List Mark
   pub order : Mark
@@ -88,10 +89,10 @@ pub record IsHeardSooner (life heard : List Mark) : Type 0 where
   pub is_line : is_said told ≡ true
 
 -- so, one after the other, this number of times
-abbrev pub HeardSooner : ℕ → List Mark → List Mark → Type 0
-HeardSooner zero life heard = life ≡ heard
-HeardSooner (suc n) life heard =
-    (between : List Mark) × IsHeardSooner life between × HeardSooner n between heard
+abbrev pub HeardSoonerTimes : ℕ → List Mark → List Mark → Type 0
+HeardSoonerTimes zero life heard = life ≡ heard
+HeardSoonerTimes (suc n) life heard =
+    (between : List Mark) × IsOrderHeardSooner life between × HeardSoonerTimes n between heard
 
 -- No line of a log is blamed.
 abbrev pub IsFaultless : Listener → List Entry → Type 0
@@ -100,14 +101,14 @@ IsFaultless listener (entry ∷ log) =
     IsFaultless listener log × (first_broken (conduct listener log) entry.mark ≡ None)
 
 -- the marks of a log
-abbrev pub marks_of : List Entry → List Mark
-marks_of log = map (λ (entry : Entry). entry.mark) log
+abbrev pub log_marks : List Entry → List Mark
+log_marks log = map (λ (entry : Entry). entry.mark) log
 
 -- In no log of an innocent engine is a line blamed, however much sooner its orders are heard than
--- read. (A log has fewer lines than the greatest number that counts them.)
+-- read. (A log has fewer lines than the last number that counts them.)
 abbrev pub NoInnocentIsBlamed : Type 0
 NoInnocentIsBlamed =
     (listener : Listener) (life : List Mark) (n : ℕ) (heard : List Mark) (log : List Entry)
-    → IsInnocent listener life → HeardSooner n life heard → marks_of log ≡ heard
-    → length life < 18446744073709551615
+    → IsInnocent listener life → HeardSoonerTimes n life heard → log_marks log ≡ heard
+    → length life < LAST_NUMBER
     → IsFaultless listener log

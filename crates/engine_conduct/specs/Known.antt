@@ -4,7 +4,6 @@ use Rattle.std.specs.Prelude.{if◌then◌else◌, is_some, Option, Some, None}
 use Rattle.protocol_tokens.specs.Tokens.{tokens}
 use Rattle.chess_board.specs.Position.{Position}
 use Rattle.uci_lines.specs.Engine.{engine_message}
-use Rattle.uci_interface_lines.specs.Lines.{position_line_in}
 use Rattle.session_judge.specs.Crossings.{next_search_number}
 use Rattle.session_judge.specs.declared.listener.Listener.{Listener}
 use Rattle.session_judge.specs.declared.listener.Listener.TheVariants as listeners
@@ -17,6 +16,7 @@ use Rattle.engine_conduct.specs.declared.orders.AskedWord.{AskedWord}
 use Rattle.engine_conduct.specs.declared.orders.AskedWord.TheVariants as words
 use Rattle.engine_conduct.specs.declared.orders.HeardOrder.{HeardOrder}
 use Rattle.engine_conduct.specs.declared.orders.HeardOrder.TheVariants as orders
+use Rattle.engine_conduct.specs.declared.orders.Castling.{Castling}
 use Rattle.engine_conduct.specs.declared.orders.Castling.TheVariants as castlings
 use Rattle.engine_conduct.specs.declared.orders.PlayedGame.TheVariants as games
 use Rattle.engine_conduct.specs.declared.orders.GameChoice.{GameChoice}
@@ -25,7 +25,7 @@ use Rattle.engine_conduct.specs.declared.search.OpenSearch.{OpenSearch}
 use Rattle.engine_conduct.specs.declared.search.OpenSearch.TheVariants as searches
 use Rattle.engine_conduct.specs.declared.words.EngineWord.{EngineWord}
 use Rattle.engine_conduct.specs.declared.words.EngineWord.TheVariants as engines
-use Rattle.engine_conduct.specs.Orders.{declared_set, order_heard, position_placed, variant_set}
+use Rattle.engine_conduct.specs.Orders.{declared_set, order_heard, position_placed, variant_played, variant_set}
 use Rattle.engine_conduct.specs.Searches.{began_search, lost_place, search_hit, search_place, search_stopped}
 
 -- one more, up to the last number
@@ -62,7 +62,7 @@ nothing_known listener = record {
   hearing = hearings.Judged;
   long = long_lines.None;
   due = record { boots = 0; readies = 0; answers = 0 };
-  castling = castlings.Standard;
+  castling = castlings.Usual;
   game = games.Chess;
   placed = None;
   search = searches.None;
@@ -71,13 +71,21 @@ nothing_known listener = record {
 
 -- ORDERS
 
-abbrev pub chosen : Known → GameChoice → Known
-chosen k (choices.Castling castling) = record k { castling = castling }
-chosen k (choices.Game game) = record k { game = game }
+-- Chess960 is on by the default of an option. Behind an order that set the option it is not known
+-- which of both holds.
+abbrev pub castling_declared : Castling → Castling
+castling_declared castlings.Usual = castlings.Declared
+castling_declared castlings.Declared = castlings.Declared
+castling_declared castling = castlings.Unclear
+
+abbrev pub game_chosen : Known → GameChoice → Known
+game_chosen k (choices.Castling castling) = record k { castling = castling }
+game_chosen k choices.Declared = record k { castling = castling_declared k.castling }
+game_chosen k (choices.Game game) = record k { game = game }
 
 -- A choice of the game leaves no position, and none to a search.
 abbrev pub replaced : Known → GameChoice → Known
-replaced k choice = record (chosen k choice) { placed = None; search = lost_place k.search }
+replaced k choice = record (game_chosen k choice) { placed = None; search = lost_place k.search }
 
 abbrev pub after_choice : Known → Option GameChoice → Known
 after_choice k None = k
@@ -86,21 +94,21 @@ after_choice k (Some choice) = replaced k choice
 -- An engine that is searching may pass over a `position`.
 abbrev pub placed_in : Known → List ℕ → Option Position
 placed_in k line =
-    if k.due.answers == 0 then position_placed k.castling k.game (position_line_in line) else None
+    if k.due.answers == 0 then position_placed (variant_played k.castling k.game) line else None
 
 -- A `go` begins a search at the last position. Where an answer to another is due it is not known
 -- which one the engine is in.
-abbrev pub begun : Known → List ℕ → OpenSearch
-begun k line = if k.due.answers == 0 then began_search k.placed (tokens line) else searches.Mixed
+abbrev pub search_begun : Known → List ℕ → OpenSearch
+search_begun k line = if k.due.answers == 0 then began_search k.placed (tokens line) else searches.Mixed
 
 -- how many searches had no position
 abbrev pub unplaced_after : Bool → ℕ → ℕ
 unplaced_after has_place n = if has_place then n else more n
 
-abbrev pub after_go : Known → List ℕ → Known
-after_go k line = record k {
-  search = begun k line;
-  unplaced = unplaced_after (is_some (search_place (begun k line))) k.unplaced;
+abbrev pub known_after_go : Known → List ℕ → Known
+known_after_go k line = record k {
+  search = search_begun k line;
+  unplaced = unplaced_after (is_some (search_place (search_begun k line))) k.unplaced;
   due = asked_search k.due;
 }
 
@@ -110,7 +118,7 @@ after_word k words.IsReady line = record k { due = asked_ready k.due }
 after_word k words.SetOption line = after_choice k (variant_set line)
 after_word k words.NewGame line = record k { placed = None }
 after_word k words.Position line = record k { placed = placed_in k line }
-after_word k words.Go line = after_go k line
+after_word k words.Go line = known_after_go k line
 after_word k words.Stop line = record k { search = search_stopped k.search }
 after_word k words.PonderHit line = record k { search = search_hit k.search }
 after_word k words.Quit line = record k { hearing = hearings.Over }
@@ -122,14 +130,14 @@ after_heard_order k number orders.Foreign line = record k { hearing = hearings.N
 after_heard_order k number orders.Blank line = k
 
 -- after an order, in the line with this number
-abbrev pub after_order : Known → ℕ → List ℕ → Known
-after_order k number line = after_heard_order k number (order_heard line) line
+abbrev pub known_after_order : Known → ℕ → List ℕ → Known
+known_after_order k number line = after_heard_order k number (order_heard line) line
 
 -- ANSWERS
 
 -- The default of an option chooses the game too, while options are declared.
-abbrev pub after_declared : Known → Option GameChoice → Known
-after_declared k choice = if nat_lt 0 k.due.boots then after_choice k choice else k
+abbrev pub known_after_declared : Known → Option GameChoice → Known
+known_after_declared k choice = if nat_lt 0 k.due.boots then after_choice k choice else k
 
 -- No search is left where no answer is due.
 abbrev pub search_left : ℕ → OpenSearch → OpenSearch
@@ -145,7 +153,7 @@ abbrev pub after_engine_word : Known → EngineWord → List ℕ → Known
 after_engine_word k engines.UciOk line = record k { due = told_boot k.due }
 after_engine_word k engines.ReadyOk line = record k { due = told_ready k.due }
 after_engine_word k engines.Best line = after_best k
-after_engine_word k engines.Option line = after_declared k (declared_set (engine_message line))
+after_engine_word k engines.Option line = known_after_declared k (declared_set (engine_message line))
 after_engine_word k word line = k
 
 abbrev pub after_line : Known → Option EngineWord → List ℕ → Known
@@ -154,14 +162,14 @@ after_line k (Some word) line = after_engine_word k word line
 
 -- THE END
 
-abbrev pub is_due : Due → Bool
-is_due due = nat_lt 0 due.boots || nat_lt 0 due.readies || nat_lt 0 due.answers
+abbrev pub is_any_due : Due → Bool
+is_any_due due = nat_lt 0 due.boots || nat_lt 0 due.readies || nat_lt 0 due.answers
 
 abbrev pub gone_by : Listener → LongLines → Due → Bool
-gone_by listeners.Bridge long_lines.None due = is_due due
+gone_by listeners.Bridge long_lines.None due = is_any_due due
 gone_by listener long due = false
 
 -- Gone: the engine ends while an answer is due. Behind a tap it may have been cut off, and a long line
 -- may have been the answer.
-abbrev pub is_gone : Known → Bool
-is_gone k = gone_by k.listener k.long k.due
+abbrev pub leaves_early : Known → Bool
+leaves_early k = gone_by k.listener k.long k.due

@@ -27,9 +27,13 @@ abbrev pub listed_from : Position → List Move → List Move → List Move
 listed_from p listed [] = listed
 listed_from p listed (m ∷ moves) = listed_from p (add_listed p listed m) moves
 
+-- with the moves with which these tokens begin
+abbrev pub listed_with_run : Position → List Move → List (List ℕ) → List Move
+listed_with_run p listed ts = listed_from p listed (longest_move_run ts)
+
 abbrev pub listed_behind : Position → Option (List (List ℕ)) → List Move
 listed_behind p None = []
-listed_behind p (Some ts) = listed_from p [] (longest_move_run ts)
+listed_behind p (Some ts) = listed_with_run p [] ts
 
 -- the legal ones of the move texts directly behind the first `searchmoves`
 abbrev pub listed_in : Position → List (List ℕ) → List Move

@@ -3,10 +3,13 @@ use Rattle.std.specs.Prelude.{ℕ, List, [], ◌∷◌, length, codes, Bool, tru
 use Rattle.std.specs.Prelude.{◌==◌, if◌then◌else◌, Option, Some, None}
 use Rattle.std.specs.Str.{str_eq_ignore_ascii_case}
 use Rattle.protocol_tokens.specs.Tokens.{first_token, rest_after_token, tokens}
+use Rattle.chess_board.specs.declared.board.Variant.{Variant}
+use Rattle.chess_board.specs.declared.board.Variant.TheVariants.{Normal, Fischer}
 use Rattle.chess_board.specs.Position.{Position}
 use Rattle.uci_lines.specs.Cuts.{is_word}
 use Rattle.uci_lines.specs.Messages.{EngineMsg, OptionKind, OptionLine, Check, Combo}
-use Rattle.uci_interface_lines.specs.Lines.{Line}
+use Rattle.uci_interface_lines.specs.Lines.{position_line_by}
+use Rattle.session_judge.specs.DialogueEvents.{end_of}
 use Rattle.engine_conduct.specs.declared.orders.AskedWord.{AskedWord}
 use Rattle.engine_conduct.specs.declared.orders.AskedWord.TheVariants as words
 use Rattle.engine_conduct.specs.declared.orders.HeardOrder.{HeardOrder}
@@ -19,7 +22,7 @@ use Rattle.engine_conduct.specs.declared.orders.GameOption.{GameOption}
 use Rattle.engine_conduct.specs.declared.orders.GameOption.TheVariants as options
 use Rattle.engine_conduct.specs.declared.orders.GameChoice.{GameChoice}
 use Rattle.engine_conduct.specs.declared.orders.GameChoice.TheVariants as choices
-use Rattle.engine_conduct.specs.Words.{has_token, only_token}
+use Rattle.engine_conduct.specs.Words.{has_token, token_alone}
 
 -- the word with which an order begins
 abbrev pub order_word : List ℕ → Option AskedWord
@@ -58,33 +61,33 @@ is_plain_game name =
     str_eq_ignore_ascii_case name (codes "chess") || str_eq_ignore_ascii_case name (codes "normal")
     || str_eq_ignore_ascii_case name (codes "standard")
 
-abbrev pub castling_of : Option (List ℕ) → Castling
-castling_of None = castlings.Chess960
-castling_of (Some t) = if is_word (codes "false") t then castlings.Standard else castlings.Chess960
+abbrev pub castling_named : Option (List ℕ) → Castling
+castling_named None = castlings.Chess960
+castling_named (Some t) = if is_word (codes "false") t then castlings.Standard else castlings.Chess960
 
-abbrev pub game_of : Option (List ℕ) → PlayedGame
-game_of None = games.Other
-game_of (Some t) = if is_plain_game t then games.Chess else games.Other
+abbrev pub game_named : Option (List ℕ) → PlayedGame
+game_named None = games.Other
+game_named (Some t) = if is_plain_game t then games.Chess else games.Other
 
-abbrev pub set_by : GameOption → Option (List ℕ) → GameChoice
-set_by options.Chess960 value = choices.Castling (castling_of value)
-set_by options.Variant value = choices.Game (game_of value)
+abbrev pub choice_set_by : GameOption → Option (List ℕ) → GameChoice
+choice_set_by options.Chess960 value = choices.Castling (castling_named value)
+choice_set_by options.Variant value = choices.Game (game_named value)
 
-abbrev pub value_in : List (List ℕ) → Option (List (List ℕ))
-value_in [] = Some []
-value_in (t ∷ ts) = if is_word (codes "value") t then Some ts else None
+abbrev pub value_behind : List (List ℕ) → Option (List (List ℕ))
+value_behind [] = Some []
+value_behind (t ∷ ts) = if is_word (codes "value") t then Some ts else None
 
-abbrev pub set_to : Option GameOption → Option (List (List ℕ)) → Option GameChoice
-set_to None value = None
-set_to (Some option) None = None
-set_to (Some option) (Some ts) = Some (set_by option (only_token ts))
+abbrev pub choice_set_to : Option GameOption → Option (List (List ℕ)) → Option GameChoice
+choice_set_to None value = None
+choice_set_to (Some option) None = None
+choice_set_to (Some option) (Some ts) = Some (choice_set_by option (token_alone ts))
 
 -- "setoption name <id> value <x>"
 abbrev pub variant_set_in : List (List ℕ) → Option GameChoice
 variant_set_in [] = None
 variant_set_in (word ∷ []) = None
 variant_set_in (word ∷ name ∷ ts) =
-    if not (is_word (codes "name") word) then None else set_to (option_named name) (value_in ts)
+    if not (is_word (codes "name") word) then None else choice_set_to (option_named name) (value_behind ts)
 
 abbrev pub variant_set : List ℕ → Option GameChoice
 variant_set line = variant_set_in (tokens (rest_after_token line))
@@ -95,7 +98,7 @@ declared_game default =
     if length default == 0 || is_plain_game default then None else Some (choices.Game games.Other)
 
 abbrev pub declared_by_kind : Option GameOption → OptionKind → Option GameChoice
-declared_by_kind (Some options.Chess960) (Check true) = Some (choices.Castling castlings.Chess960)
+declared_by_kind (Some options.Chess960) (Check true) = Some choices.Declared
 declared_by_kind (Some options.Variant) (Combo default values) = declared_game default
 declared_by_kind option kind = None
 
@@ -105,23 +108,31 @@ declared_set m = None
 
 -- POSITIONS AND SEARCHES
 
-abbrev pub end_of : Option Line → Option Position
-end_of None = None
-end_of (Some said) = Some said.end
+-- by whose rules kings castle, if it is known
+abbrev pub castling_variant : Castling → Option Variant
+castling_variant castlings.Usual = Some Normal
+castling_variant castlings.Standard = Some Normal
+castling_variant castlings.Declared = Some Fischer
+castling_variant castlings.Chess960 = Some Fischer
+castling_variant castlings.Unclear = None
 
--- Where Chess960 or another game is on there is none: of Chess960 this is to change once the board
--- has its rules.
-abbrev pub position_placed : Castling → PlayedGame → Option Line → Option Position
-position_placed castlings.Standard games.Chess said = end_of said
-position_placed castling game said = None
+-- the rules by which positions are read, if they are known: those of another game are not
+abbrev pub variant_played : Castling → PlayedGame → Option Variant
+variant_played castling games.Chess = castling_variant castling
+variant_played castling games.Other = None
+
+-- the position of a `position` line by these rules
+abbrev pub position_placed : Option Variant → List ℕ → Option Position
+position_placed None line = None
+position_placed (Some variant) line = end_of (position_line_by variant line)
 
 -- "go ponder"
-abbrev pub is_pondering : List (List ℕ) → Bool
-is_pondering ts = has_token (codes "ponder") ts
+abbrev pub begins_pondering : List (List ℕ) → Bool
+begins_pondering ts = has_token (codes "ponder") ts
 
 -- "go infinite", and nothing that limits the search
-abbrev pub is_free : List (List ℕ) → Bool
-is_free ts =
+abbrev pub is_unlimited : List (List ℕ) → Bool
+is_unlimited ts =
     has_token (codes "infinite") ts && not (has_token (codes "depth") ts)
     && not (has_token (codes "nodes") ts) && not (has_token (codes "mate") ts)
     && not (has_token (codes "movetime") ts)

@@ -9,7 +9,7 @@ use Rattle.engine_conduct.specs.declared.search.Pondering.{Pondering}
 use Rattle.engine_conduct.specs.declared.search.Pondering.TheVariants as ponderings
 use Rattle.engine_conduct.specs.declared.words.InfoWord.{InfoWord}
 use Rattle.engine_conduct.specs.declared.words.InfoWord.TheVariants as infos
-use Rattle.engine_conduct.specs.Forms.{behind_number, is_text}
+use Rattle.engine_conduct.specs.Forms.{behind_number, is_text_word}
 use Rattle.engine_conduct.specs.Listed.{is_unlisted}
 use Rattle.engine_conduct.specs.Words.{info_word}
 
@@ -32,7 +32,7 @@ run_behind pondering word ts = []
 abbrev pub has_illegal_run : Pondering → Position → List (List ℕ) → Bool
 has_illegal_run pondering p [] = false
 has_illegal_run pondering p (t ∷ ts) =
-    if is_text (info_word t) then false
+    if is_text_word (info_word t) then false
     else (if not (are_legal (Some p) (longest_move_run (run_behind pondering (info_word t) ts))) then true
     else has_illegal_run pondering p ts)
 
@@ -44,6 +44,6 @@ starts_unlisted p listed (m ∷ moves) = legal p m && is_unlisted listed m
 abbrev pub has_unlisted_run : Pondering → Position → List Move → List (List ℕ) → Bool
 has_unlisted_run pondering p listed [] = false
 has_unlisted_run pondering p listed (t ∷ ts) =
-    if is_text (info_word t) then false
+    if is_text_word (info_word t) then false
     else (if starts_unlisted p listed (longest_move_run (run_behind pondering (info_word t) ts)) then true
     else has_unlisted_run pondering p listed ts)

@@ -7,13 +7,13 @@ use Rattle.engine_conduct.specs.declared.search.SearchEnd.{SearchEnd}
 use Rattle.engine_conduct.specs.declared.search.SearchEnd.TheVariants as search_ends
 use Rattle.engine_conduct.specs.declared.search.OpenSearch.{OpenSearch}
 use Rattle.engine_conduct.specs.declared.search.OpenSearch.TheVariants as searches
-use Rattle.engine_conduct.specs.Orders.{is_free, is_pondering}
+use Rattle.engine_conduct.specs.Orders.{is_unlimited, begins_pondering}
 
 abbrev pub pondering_of : List (List ℕ) → Pondering
-pondering_of ts = if is_pondering ts then ponderings.Open else ponderings.No
+pondering_of ts = if begins_pondering ts then ponderings.Open else ponderings.No
 
 abbrev pub search_end_of : List (List ℕ) → SearchEnd
-search_end_of ts = if is_free ts then search_ends.Stop else search_ends.Own
+search_end_of ts = if is_unlimited ts then search_ends.Stop else search_ends.Own
 
 -- a search at a position, if there is one, by the tokens of its `go`
 abbrev pub began_search : Option Position → List (List ℕ) → OpenSearch
@@ -32,13 +32,13 @@ search_stopped s = s
 
 -- `ponderhit`: "the user has played the expected move"; of a search that was stopped before it counts
 -- for nothing
-abbrev pub hit_in : Pondering → Pondering
-hit_in ponderings.Open = ponderings.Hit
-hit_in p = p
+abbrev pub pondering_hit : Pondering → Pondering
+pondering_hit ponderings.Open = ponderings.Hit
+pondering_hit p = p
 
 abbrev pub search_hit : OpenSearch → OpenSearch
 search_hit (searches.Alone s) =
-    searches.Alone (record { at = s.at; pondering = hit_in s.pondering; end = s.end })
+    searches.Alone (record { at = s.at; pondering = pondering_hit s.pondering; end = s.end })
 search_hit s = s
 
 -- another game may have been chosen
@@ -47,9 +47,9 @@ lost_place (searches.Alone s) =
     searches.Alone (record { at = None; pondering = s.pondering; end = s.end })
 lost_place s = s
 
-abbrev pub is_open : Pondering → Bool
-is_open ponderings.Open = true
-is_open p = false
+abbrev pub is_open_pondering : Pondering → Bool
+is_open_pondering ponderings.Open = true
+is_open_pondering p = false
 
 abbrev pub goes_to_stop : SearchEnd → Bool
 goes_to_stop search_ends.Stop = true
@@ -57,7 +57,7 @@ goes_to_stop end = false
 
 -- A search that ponders goes on until `stop` or `ponderhit`, an infinite one until `stop`.
 abbrev pub is_bound : OpenSearch → Bool
-is_bound (searches.Alone s) = is_open s.pondering || goes_to_stop s.end
+is_bound (searches.Alone s) = is_open_pondering s.pondering || goes_to_stop s.end
 is_bound s = false
 
 -- A search that does not ponder is judged by its moves, and one that does only after `ponderhit`.

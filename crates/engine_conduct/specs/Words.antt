@@ -51,8 +51,8 @@ info_word t =
 abbrev pub is_number : List ℕ → Bool
 is_number t = nat_lt 0 (length t) && list_all is_ascii_digit t
 
-abbrev pub is_move_text : List ℕ → Bool
-is_move_text t = is_some (move_spelled_by t)
+abbrev pub spells_move : List ℕ → Bool
+spells_move t = is_some (move_spelled_by t)
 
 abbrev pub is_null_move : List ℕ → Bool
 is_null_move t = is_word (codes "0000") t
@@ -66,6 +66,6 @@ behind_word word [] = None
 behind_word word (t ∷ ts) = if is_word word t then Some ts else behind_word word ts
 
 -- the token of a list that has one
-abbrev pub only_token : List (List ℕ) → Option (List ℕ)
-only_token (t ∷ []) = Some t
-only_token ts = None
+abbrev pub token_alone : List (List ℕ) → Option (List ℕ)
+token_alone (t ∷ []) = Some t
+token_alone ts = None

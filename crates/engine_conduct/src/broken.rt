@@ -2,7 +2,7 @@
 ghost use Rattle.std.specs.Prelude.{◌≡◌};
 ghost use Rattle.protocol_tokens.specs.Tokens.{tokens};
 ghost use Rattle.uci_lines.specs.Engine.{engine_message};
-ghost use Rattle.engine_conduct.specs.Broken.{breaks_declared, breaks_late, breaks_move, breaks_ponder, breaks_pv, breaks_searchmoves, breaks_unasked, illegal_answer, illegal_hint, is_best, line_breaks, tells_thinking, unlisted_answer};
+ghost use Rattle.engine_conduct.specs.Broken.{breaks_declared, breaks_late, breaks_move, breaks_ponder, breaks_pv, breaks_searchmoves, breaks_unasked, illegal_answer, illegal_hint, is_best_word, line_breaks, tells_thinking, unlisted_answer};
 
 use crate::declared::breaks_default;
 use crate::form::{breaks_form, tells};
@@ -55,15 +55,15 @@ fn breaks_declared(known: &Known, word: EngineWord, line: &[u8]) -> bool
     }
 }
 
-fn is_best(word: EngineWord) -> bool
-    ensures { result ≡ is_best word }
+fn is_best_word(word: EngineWord) -> bool
+    ensures { result ≡ is_best_word word }
 {
     matches!(word, EngineWord::Best)
 }
 
 // The moves of a `bestmove`: the move, and the one to ponder on.
-fn answer_in(line: &[u8]) -> (Option<Move>, Option<Move>)
-    ensures { result ≡ answer_in (engine_message line.now) }
+fn moves_answered(line: &[u8]) -> (Option<Move>, Option<Move>)
+    ensures { result ≡ moves_answered (engine_message line.now) }
 {
     match read_engine(line) {
         EngineMsg::Best { best, hint } => (best, hint),
@@ -71,7 +71,7 @@ fn answer_in(line: &[u8]) -> (Option<Move>, Option<Move>)
     }
 }
 
-ghost use Rattle.engine_conduct.specs.Broken.{answer_in};
+ghost use Rattle.engine_conduct.specs.Broken.{moves_answered};
 
 fn illegal_answer(at: &Position, best: Option<Move>) -> bool
     ensures { result ≡ illegal_answer at.now best }
@@ -108,7 +108,7 @@ fn breaks_move(known: &Known, word: EngineWord, line: &[u8]) -> bool
 {
     match (word, known.search.place()) {
         (EngineWord::Best, Some((at, pondering))) => {
-            pondering.is_judged() && illegal_answer(&at, answer_in(line).0)
+            pondering.is_judged() && illegal_answer(&at, moves_answered(line).0)
         }
         _ => false,
     }
@@ -131,7 +131,7 @@ fn breaks_searchmoves(known: &Known, listed: &[Move], word: EngineWord, line: &[
     ensures { result ≡ breaks_searchmoves (search_place known.now.search) listed.now word line.now }
 {
     match (word, known.search.place()) {
-        (EngineWord::Best, Some((at, _))) => unlisted_answer(&at, listed, answer_in(line).0),
+        (EngineWord::Best, Some((at, _))) => unlisted_answer(&at, listed, moves_answered(line).0),
         (EngineWord::Info, Some((at, pondering))) => {
             has_unlisted_run(pondering, &at, listed, behind_first(line))
         }
@@ -144,7 +144,7 @@ fn breaks_ponder(known: &Known, word: EngineWord, line: &[u8]) -> bool
 {
     match (word, known.search.place()) {
         (EngineWord::Best, Some((at, pondering))) => {
-            let (best, hint) = answer_in(line);
+            let (best, hint) = moves_answered(line);
             pondering.is_judged() && illegal_hint(&at, best, hint)
         }
         _ => false,
@@ -168,7 +168,7 @@ pub(crate) fn line_breaks(
         Some(ConductRule::Late)
     } else if breaks_declared(known, word, line) {
         Some(ConductRule::Declared)
-    } else if is_best(word) && known.search.is_bound() {
+    } else if is_best_word(word) && known.search.is_bound() {
         Some(ConductRule::Infinite)
     } else if breaks_move(known, word, line) {
         Some(ConductRule::Best)

@@ -2,10 +2,10 @@
 ghost use Rattle.std.specs.Prelude.{◌≡◌};
 ghost use Rattle.protocol_tokens.specs.Tokens.{tokens, rest_after_token};
 ghost use Rattle.engine_conduct.specs.Words.{is_number};
-ghost use Rattle.engine_conduct.specs.Forms.{all_followed, begins_line, begins_move, begins_number, begins_score, behind_number, breaks_form, breaks_info_form, is_declaration, is_followed, is_id, is_signed_number, is_text, tells};
+ghost use Rattle.engine_conduct.specs.Forms.{all_followed, begins_line, begins_move, begins_number, begins_score, behind_number, breaks_form, breaks_info_form, is_declaration, is_followed, is_id, is_signed_number, is_text_word, tells};
 
 use crate::words::{
-    EngineWord, InfoWord, behind_first, info_word, is_move_text, is_null_move, is_number, is_word,
+    EngineWord, InfoWord, behind_first, info_word, is_null_move, is_number, is_word, spells_move,
 };
 use protocol_tokens::next_token;
 use uci_lines::{EngineMsg, read_engine};
@@ -59,7 +59,7 @@ fn begins_move(text: &[u8]) -> bool
     ensures { result ≡ begins_move (tokens text.now) }
 {
     match next_token(text) {
-        Some((token, _)) => is_move_text(token) || is_null_move(token),
+        Some((token, _)) => spells_move(token) || is_null_move(token),
         None => false,
     }
 }
@@ -69,9 +69,7 @@ fn begins_line(text: &[u8]) -> bool
     ensures { result ≡ begins_line (tokens text.now) }
 {
     match next_token(text) {
-        Some((token, _)) => is_move_text(token)
-            || is_null_move(token)
-            || info_word(token).is_some(),
+        Some((token, _)) => spells_move(token) || is_null_move(token) || info_word(token).is_some(),
         None => true,
     }
 }
@@ -114,8 +112,8 @@ fn is_told(word: Option<InfoWord>, text: &[u8]) -> bool
 ghost use Rattle.engine_conduct.specs.Forms.{is_told};
 
 /// True if what is behind a token is free text.
-pub(crate) fn is_text(word: Option<InfoWord>) -> bool
-    ensures { result ≡ is_text word }
+pub(crate) fn is_text_word(word: Option<InfoWord>) -> bool
+    ensures { result ≡ is_text_word word }
 {
     matches!(word, Some(InfoWord::Text))
 }
@@ -126,7 +124,7 @@ fn all_followed(text: &[u8]) -> bool
     let mut others = text;
     while let Some((token, behind)) = next_token(others) {
         let word = info_word(token);
-        if is_text(word) {
+        if is_text_word(word) {
             return true;
         }
         if !is_told(word, behind) {
@@ -143,7 +141,7 @@ pub(crate) fn tells(text: &[u8], word: &str) -> bool
 {
     let mut others = text;
     while let Some((token, behind)) = next_token(others) {
-        if is_text(info_word(token)) {
+        if is_text_word(info_word(token)) {
             return false;
         }
         if is_word(token, word) {

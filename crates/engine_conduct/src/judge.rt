@@ -3,7 +3,7 @@ ghost use Rattle.std.specs.Prelude.{◌≡◌, ◌∷◌, [], List};
 ghost use Rattle.script_lines.specs.Marks.{plain_mark};
 ghost use Rattle.session_judge.specs.Clean.{Entry};
 ghost use Rattle.session_judge.specs.declared.listener.Listener.{Listener as AnyListener};
-ghost use Rattle.engine_conduct.specs.Conduct.{broken_by_mark, conduct, conduct_after, fault_in, first_broken, is_hearing, known_after, listed_after, opens_list};
+ghost use Rattle.engine_conduct.specs.Conduct.{broken_by_mark, conduct, conduct_after, fault_at_line, fault_of_mark, is_hearing, known_after, listed_after, opens_list};
 
 use crate::broken::line_breaks;
 use crate::known::{Hearing, Known, LongLines};
@@ -63,9 +63,8 @@ fn broken_by_mark(known: &Known, listed: &[Move], mark: &Mark) -> Option<Conduct
             Some(word) => line_breaks(known, listed, word, line),
             None => None,
         },
-        Mark::Event(Event::EngineEnd) | Mark::Event(Event::EngineLost) if known.is_gone() => Some(
-            ConductRule::Gone,
-        ),
+        Mark::Event(Event::EngineEnd) | Mark::Event(Event::EngineLost) if known.leaves_early() =>
+            Some(ConductRule::Gone),
         _ => None,
     }
 }
@@ -90,7 +89,7 @@ fn known_after(known: Known, number: u64, mark: &Mark) -> Known
     ensures { result ≡ known_after known number (plain_mark mark.now) }
 {
     match mark {
-        Mark::ToEngine(line) => known.after_order(number, line),
+        Mark::ToEngine(line) => known.known_after_order(number, line),
         Mark::Event(Event::Engine(line)) => known.after_line(engine_word_in(line), line),
         Mark::Event(Event::EngineLong) => Known {
             long: LongLines::Some,
@@ -108,8 +107,8 @@ fn known_after(known: Known, number: u64, mark: &Mark) -> Known
     }
 }
 
-fn fault_in(line: u64, rule: Option<ConductRule>) -> Option<ConductFault>
-    ensures { result ≡ fault_in line rule }
+fn fault_at_line(line: u64, rule: Option<ConductRule>) -> Option<ConductFault>
+    ensures { result ≡ fault_at_line line rule }
 {
     match rule {
         Some(rule) => Some(ConductFault { line, rule }),
@@ -143,12 +142,12 @@ impl EngineJudge {
 
     /// Hears a mark, in the line with this number, and blames the line if it breaks a rule.
     pub fn hear(&mut self, line: u64, mark: &Mark) -> Option<ConductFault>
-        ensures fault { result ≡ fault_in line (first_broken self.old (plain_mark mark.now)) }
+        ensures fault { result ≡ fault_of_mark self.old line (plain_mark mark.now) }
         ensures after { self.new ≡ conduct_after self.old line (plain_mark mark.now) }
         // A line is blamed for a rule exactly if that is the first which it breaks by the marks before it.
         ensures exact { (listener : AnyListener) (log : List Entry)
             → self.old ≡ conduct listener log
-            → result ≡ fault_in line (first_broken (conduct listener log) (plain_mark mark.now)) }
+            → result ≡ fault_of_mark (conduct listener log) line (plain_mark mark.now) }
         ensures goes_on { (listener : AnyListener) (log : List Entry)
             → self.old ≡ conduct listener log
             → self.new
@@ -160,7 +159,7 @@ impl EngineJudge {
         let rule = broken_by_mark(&self.known, self.listed.as_slice(), mark);
         self.open_list(mark);
         self.known = known_after(self.known, line, mark);
-        fault_in(line, rule)
+        fault_at_line(line, rule)
     }
 
     /// The line from which on nothing was judged, since an order may have made the engine say anything.

@@ -1,11 +1,11 @@
 // What is known of an engine, by the orders that were written to it and by its answers.
 ghost use Rattle.std.specs.Prelude.{◌≡◌, is_some};
 ghost use Rattle.engine_conduct.specs.Searches.{search_place};
-ghost use Rattle.engine_conduct.specs.Known.{after_order, after_word, asked_boot, asked_ready, asked_search, begun, chosen, fewer, is_due, is_gone, more, nothing_known, placed_in, replaced, told_boot, told_ready, told_search, unplaced_after};
+ghost use Rattle.engine_conduct.specs.Known.{known_after_order, after_word, asked_boot, asked_ready, asked_search, castling_declared, search_begun, game_chosen, fewer, is_any_due, leaves_early, more, nothing_known, placed_in, replaced, told_boot, told_ready, told_search, unplaced_after};
 
 use crate::orders::{
     AskedWord, Castling, GameChoice, HeardOrder, PlayedGame, declared_set, order_heard,
-    position_placed, variant_set,
+    position_placed, variant_played, variant_set,
 };
 use crate::search::{OpenSearch, began_search};
 use crate::words::EngineWord;
@@ -50,6 +50,16 @@ pub struct Known {
     pub placed: Option<Position>,
     pub search: OpenSearch,
     pub unplaced: u64,
+}
+
+// Chess960 is on by the default of an option, unless an order set the option before.
+fn castling_declared(castling: Castling) -> Castling
+    ensures { result ≡ castling_declared castling }
+{
+    match castling {
+        Castling::Usual | Castling::Declared => Castling::Declared,
+        _ => Castling::Unclear,
+    }
 }
 
 fn more(count: u64) -> u64
@@ -157,7 +167,7 @@ impl Known {
                 readies: 0,
                 answers: 0,
             },
-            castling: Castling::Standard,
+            castling: Castling::Usual,
             game: PlayedGame::Chess,
             placed: None,
             search: OpenSearch::None,
@@ -192,11 +202,15 @@ impl Known {
     }
 
     // A choice of the game.
-    fn chosen(self, choice: GameChoice) -> Known
-        ensures { result ≡ chosen self choice }
+    fn game_chosen(self, choice: GameChoice) -> Known
+        ensures { result ≡ game_chosen self choice }
     {
         match choice {
             GameChoice::Castling(castling) => Known { castling, ..self },
+            GameChoice::Declared => Known {
+                castling: castling_declared(self.castling),
+                ..self
+            },
             GameChoice::Game(game) => Known { game, ..self },
         }
     }
@@ -206,7 +220,7 @@ impl Known {
         ensures { result ≡ replaced self choice }
     {
         let search = self.search.lost_place();
-        let chosen = self.chosen(choice);
+        let chosen = self.game_chosen(choice);
         Known {
             placed: None,
             search,
@@ -228,15 +242,15 @@ impl Known {
         ensures { result ≡ placed_in self.now line.now }
     {
         if self.due.answers == 0 {
-            position_placed(self.castling, self.game, line)
+            position_placed(variant_played(self.castling, self.game), line)
         } else {
             None
         }
     }
 
     // The search that a `go` begins.
-    fn begun(&self, line: &[u8]) -> OpenSearch
-        ensures { result ≡ begun self.now line.now }
+    fn search_begun(&self, line: &[u8]) -> OpenSearch
+        ensures { result ≡ search_begun self.now line.now }
     {
         if self.due.answers == 0 {
             began_search(self.placed, line)
@@ -245,10 +259,10 @@ impl Known {
         }
     }
 
-    fn after_go(self, line: &[u8]) -> Known
-        ensures { result ≡ after_go self line.now }
+    fn known_after_go(self, line: &[u8]) -> Known
+        ensures { result ≡ known_after_go self line.now }
     {
-        let search = self.begun(line);
+        let search = self.search_begun(line);
         let unplaced = unplaced_after(has_place(&search), self.unplaced);
         let due = self.due.asked_search();
         Known {
@@ -275,7 +289,7 @@ impl Known {
             AskedWord::SetOption => self.after_choice(variant_set(line)),
             AskedWord::NewGame => self.with_placed(None),
             AskedWord::Position => self.after_position(line),
-            AskedWord::Go => self.after_go(line),
+            AskedWord::Go => self.known_after_go(line),
             AskedWord::Stop => self.with_search(self.search.stopped()),
             AskedWord::PonderHit => self.with_search(self.search.hit()),
             AskedWord::Quit => self.with_hearing(Hearing::Over),
@@ -284,8 +298,8 @@ impl Known {
     }
 
     /// After an order, in the line with this number.
-    pub(crate) fn after_order(self, number: u64, line: &[u8]) -> Known
-        ensures { result ≡ after_order self number line.now }
+    pub(crate) fn known_after_order(self, number: u64, line: &[u8]) -> Known
+        ensures { result ≡ known_after_order self number line.now }
     {
         match order_heard(line) {
             HeardOrder::Word(word) => self.after_word(word, line),
@@ -295,8 +309,8 @@ impl Known {
     }
 
     // The default of an option may choose the game, while options are declared.
-    fn after_declared(self, choice: Option<GameChoice>) -> Known
-        ensures { result ≡ after_declared self choice }
+    fn known_after_declared(self, choice: Option<GameChoice>) -> Known
+        ensures { result ≡ known_after_declared self choice }
     {
         if self.due.boots > 0 {
             self.after_choice(choice)
@@ -328,7 +342,7 @@ impl Known {
             EngineWord::UciOk => self.with_due(self.due.told_boot()),
             EngineWord::ReadyOk => self.with_due(self.due.told_ready()),
             EngineWord::Best => self.after_best(),
-            EngineWord::Option => self.after_declared(declared_set(line)),
+            EngineWord::Option => self.known_after_declared(declared_set(line)),
             EngineWord::Id | EngineWord::Info => self,
         }
     }
@@ -343,21 +357,21 @@ impl Known {
         }
     }
 
-    fn is_due(&self) -> bool
-        ensures { result ≡ is_due self.now.due }
+    fn is_any_due(&self) -> bool
+        ensures { result ≡ is_any_due self.now.due }
     {
         self.due.boots > 0 || self.due.readies > 0 || self.due.answers > 0
     }
 
     /// True if the engine's end breaks the rule `gone`.
-    pub(crate) fn is_gone(&self) -> bool
-        ensures { result ≡ is_gone self.now }
+    pub(crate) fn leaves_early(&self) -> bool
+        ensures { result ≡ leaves_early self.now }
     {
         match (self.listener, self.long) {
-            (Listener::Bridge, LongLines::None) => self.is_due(),
+            (Listener::Bridge, LongLines::None) => self.is_any_due(),
             _ => false,
         }
     }
 }
 
-ghost use Rattle.engine_conduct.specs.Known.{after_best, after_choice, after_declared, after_engine_word, after_go, after_line};
+ghost use Rattle.engine_conduct.specs.Known.{after_best, after_choice, known_after_declared, after_engine_word, known_after_go, after_line};

@@ -3,8 +3,7 @@ ghost use Rattle.std.specs.Prelude.{◌≡◌, ◌≤◌, length};
 ghost use Rattle.std.specs.List.{list_any};
 ghost use Rattle.protocol_tokens.specs.Tokens.{tokens};
 ghost use Rattle.search_epochs.specs.Tickets.{same_move};
-ghost use Rattle.uci_lines.specs.Moves.{longest_move_run};
-ghost use Rattle.engine_conduct.specs.Listed.{add_listed, is_listed, is_unlisted, listed_from, listed_in};
+ghost use Rattle.engine_conduct.specs.Listed.{add_listed, is_listed, is_unlisted, listed_in, listed_with_run};
 ghost use Rattle.engine_conduct.specs.declared.listed.TheConstants.{MOST_LISTED};
 
 use crate::words::behind_word;
@@ -54,8 +53,9 @@ fn add_listed(at: &Position, listed: &mut ListedMoves, m: Move)
     }
 }
 
+// Adds the moves with which a text begins.
 fn add_run(at: &Position, listed: &mut ListedMoves, text: &[u8])
-    ensures { listed.new.items ≡ listed_from at.now listed.old.items (longest_move_run (tokens text.now)) }
+    ensures { listed.new.items ≡ listed_with_run at.now listed.old.items (tokens text.now) }
 {
     let mut others = text;
     while let Some((m, behind)) = next_move(others) {

@@ -2,13 +2,12 @@
 ghost use Rattle.std.specs.Prelude.{◌≡◌};
 ghost use Rattle.std.specs.Option.{option_map};
 ghost use Rattle.protocol_tokens.specs.Tokens.{tokens};
-ghost use Rattle.uci_interface_lines.specs.Lines.{position_line_in};
-ghost use Rattle.engine_conduct.specs.Orders.{castling_of, declared_game, declared_set, game_of, is_free, is_plain_game, is_pondering, option_named, order_heard, order_word, position_placed, set_by, value_in, variant_set, variant_set_in};
+ghost use Rattle.engine_conduct.specs.Orders.{castling_named, castling_variant, declared_game, declared_set, game_named, is_unlimited, is_plain_game, begins_pondering, option_named, order_heard, order_word, position_placed, choice_set_by, value_behind, variant_played, variant_set, variant_set_in};
 
-use crate::words::{behind_first, has_token, is_word, only_token};
-use chess_board::Position;
+use crate::words::{behind_first, has_token, is_word, token_alone};
+use chess_board::{Position, Variant};
 use protocol_tokens::{next_token, split_token};
-use uci_interface_lines::spoken;
+use uci_interface_lines::spoken_by;
 use uci_lines::{EngineMsg, OptionKind, read_engine};
 
 /// The words with which orders begin.
@@ -39,8 +38,16 @@ pub(crate) enum HeardOrder {
 /// Whether the rules of Chess960 are on.
 #[derive(Clone, Copy, PartialEq, Eq)]
 pub enum Castling {
+    /// Off: nothing was said.
+    Usual,
+    /// On by the default of an option.
+    Declared,
+    /// Off by an order.
     Standard,
+    /// On by an order.
     Chess960,
+    /// An option was declared to be on behind an order that set it: on or off.
+    Unclear,
 }
 
 /// Chess, or another game that an engine plays too.
@@ -60,7 +67,10 @@ pub(crate) enum GameOption {
 /// What is chosen by such an option.
 #[derive(Clone, Copy)]
 pub(crate) enum GameChoice {
+    /// By an order, the rules of castling.
     Castling(Castling),
+    /// By a default, those of Chess960.
+    Declared,
     Game(PlayedGame),
 }
 
@@ -124,38 +134,38 @@ fn is_plain_game(name: &[u8]) -> bool
         || name.eq_ignore_ascii_case(b"standard")
 }
 
-fn castling_of(value: &[u8]) -> Castling
-    ensures { result ≡ castling_of (only_token (tokens value.now)) }
+fn castling_named(value: &[u8]) -> Castling
+    ensures { result ≡ castling_named (token_alone (tokens value.now)) }
 {
-    match only_token(value) {
+    match token_alone(value) {
         Some(token) if is_word(token, "false") => Castling::Standard,
         _ => Castling::Chess960,
     }
 }
 
-ghost use Rattle.engine_conduct.specs.Words.{only_token};
+ghost use Rattle.engine_conduct.specs.Words.{token_alone};
 
-fn game_of(value: &[u8]) -> PlayedGame
-    ensures { result ≡ game_of (only_token (tokens value.now)) }
+fn game_named(value: &[u8]) -> PlayedGame
+    ensures { result ≡ game_named (token_alone (tokens value.now)) }
 {
-    match only_token(value) {
+    match token_alone(value) {
         Some(token) if is_plain_game(token) => PlayedGame::Chess,
         _ => PlayedGame::Other,
     }
 }
 
-fn set_by(option: GameOption, value: &[u8]) -> GameChoice
-    ensures { result ≡ set_by option (only_token (tokens value.now)) }
+fn choice_set_by(option: GameOption, value: &[u8]) -> GameChoice
+    ensures { result ≡ choice_set_by option (token_alone (tokens value.now)) }
 {
     match option {
-        GameOption::Chess960 => GameChoice::Castling(castling_of(value)),
-        GameOption::Variant => GameChoice::Game(game_of(value)),
+        GameOption::Chess960 => GameChoice::Castling(castling_named(value)),
+        GameOption::Variant => GameChoice::Game(game_named(value)),
     }
 }
 
 // The value, which is what follows `value`, or nothing.
-fn value_in(text: &[u8]) -> Option<&[u8]>
-    ensures { option_map (λ t. tokens t.now) result ≡ value_in (tokens text.now) }
+fn value_behind(text: &[u8]) -> Option<&[u8]>
+    ensures { option_map (λ t. tokens t.now) result ≡ value_behind (tokens text.now) }
 {
     match next_token(text) {
         Some((word, others)) if is_word(word, "value") => Some(others),
@@ -173,8 +183,8 @@ fn variant_set_in(text: &[u8]) -> Option<GameChoice>
         return None;
     }
     let option = option_named(name)?;
-    let value = value_in(others)?;
-    Some(set_by(option, value))
+    let value = value_behind(others)?;
+    Some(choice_set_by(option, value))
 }
 
 /// What a `setoption` line chooses, if it sets an option that chooses the game.
@@ -202,9 +212,7 @@ pub(crate) fn declared_set(line: &[u8]) -> Option<GameChoice>
         return None;
     };
     match (option_named(option.name)?, option.kind) {
-        (GameOption::Chess960, OptionKind::Check { on: true }) => Some(GameChoice::Castling(
-            Castling::Chess960,
-        )),
+        (GameOption::Chess960, OptionKind::Check { on: true }) => Some(GameChoice::Declared),
         (GameOption::Variant, OptionKind::Combo { default, values: _ }) => declared_game(default),
         _ => None,
     }
@@ -212,30 +220,47 @@ pub(crate) fn declared_set(line: &[u8]) -> Option<GameChoice>
 
 ghost use Rattle.uci_lines.specs.Engine.{engine_message};
 
-/// The position of a `position` line. The one place where the rules of Chess960 are to be read: as long as the board
-/// does not have them there is no position while they are on.
-pub(crate) fn position_placed(castling: Castling, game: PlayedGame, line: &[u8]) -> Option<Position>
-    ensures { result ≡ position_placed castling game (position_line_in line.now) }
+// By whose rules kings castle, if it is known.
+fn castling_variant(castling: Castling) -> Option<Variant>
+    ensures { result ≡ castling_variant castling }
 {
-    match (castling, game) {
-        (Castling::Standard, PlayedGame::Chess) => match spoken(line) {
-            Some(said) => Some(said.end),
-            None => None,
-        },
-        _ => None,
+    match castling {
+        Castling::Usual | Castling::Standard => Some(Variant::Normal),
+        Castling::Declared | Castling::Chess960 => Some(Variant::Fischer),
+        Castling::Unclear => None,
+    }
+}
+
+/// The rules by which positions are read, if they are known.
+pub(crate) fn variant_played(castling: Castling, game: PlayedGame) -> Option<Variant>
+    ensures { result ≡ variant_played castling game }
+{
+    match game {
+        PlayedGame::Chess => castling_variant(castling),
+        PlayedGame::Other => None,
+    }
+}
+
+/// The position of a `position` line by these rules.
+pub(crate) fn position_placed(variant: Option<Variant>, line: &[u8]) -> Option<Position>
+    ensures { result ≡ position_placed variant line.now }
+{
+    match spoken_by(variant?, line) {
+        Some(said) => Some(said.end),
+        None => None,
     }
 }
 
 /// True if a `go` begins a search on the move that the other side is expected to make.
-pub(crate) fn is_pondering(line: &[u8]) -> bool
-    ensures { result ≡ is_pondering (tokens line.now) }
+pub(crate) fn begins_pondering(line: &[u8]) -> bool
+    ensures { result ≡ begins_pondering (tokens line.now) }
 {
     has_token(line, "ponder")
 }
 
 /// True if a `go` says `infinite`, and nothing that ends the search.
-pub(crate) fn is_free(line: &[u8]) -> bool
-    ensures { result ≡ is_free (tokens line.now) }
+pub(crate) fn is_unlimited(line: &[u8]) -> bool
+    ensures { result ≡ is_unlimited (tokens line.now) }
 {
     has_token(line, "infinite")
         && !has_token(line, "depth")

@@ -4,7 +4,7 @@ ghost use Rattle.protocol_tokens.specs.Tokens.{tokens};
 ghost use Rattle.uci_lines.specs.Moves.{longest_move_run};
 ghost use Rattle.engine_conduct.specs.Runs.{are_legal, has_illegal_run, has_unlisted_run, run_behind, starts_unlisted};
 
-use crate::form::{behind_number, is_text};
+use crate::form::{behind_number, is_text_word};
 use crate::listed::is_unlisted;
 use crate::search::Pondering;
 use crate::words::{InfoWord, info_word};
@@ -47,7 +47,7 @@ pub(crate) fn has_illegal_run(pondering: Pondering, at: &Position, text: &[u8]) 
     let mut others = text;
     while let Some((token, behind)) = next_token(others) {
         let word = info_word(token);
-        if is_text(word) {
+        if is_text_word(word) {
             return false;
         }
         if !are_legal(at, run_behind(pondering, word, behind)) {
@@ -80,7 +80,7 @@ pub(crate) fn has_unlisted_run(
     let mut others = text;
     while let Some((token, behind)) = next_token(others) {
         let word = info_word(token);
-        if is_text(word) {
+        if is_text_word(word) {
             return false;
         }
         if starts_unlisted(at, listed, run_behind(pondering, word, behind)) {

@@ -1,9 +1,9 @@
 // The search whose answer is due.
 ghost use Rattle.std.specs.Prelude.{◌≡◌};
 ghost use Rattle.protocol_tokens.specs.Tokens.{tokens};
-ghost use Rattle.engine_conduct.specs.Searches.{began_search, hit_in, is_bound, is_judged, lost_place, pondering_of, search_hit, search_place, search_stopped, stopped_in};
+ghost use Rattle.engine_conduct.specs.Searches.{began_search, pondering_hit, is_bound, is_judged, lost_place, pondering_of, search_hit, search_place, search_stopped, stopped_in};
 
-use crate::orders::{is_free, is_pondering};
+use crate::orders::{begins_pondering, is_unlimited};
 use chess_board::Position;
 
 /// A search on the move that the other side is expected to make.
@@ -46,7 +46,7 @@ pub enum OpenSearch {
 fn pondering_of(line: &[u8]) -> Pondering
     ensures { result ≡ pondering_of (tokens line.now) }
 {
-    if is_pondering(line) {
+    if begins_pondering(line) {
         Pondering::Open
     } else {
         Pondering::No
@@ -56,7 +56,7 @@ fn pondering_of(line: &[u8]) -> Pondering
 fn search_end_of(line: &[u8]) -> SearchEnd
     ensures { result ≡ search_end_of (tokens line.now) }
 {
-    if is_free(line) {
+    if is_unlimited(line) {
         SearchEnd::Stop
     } else {
         SearchEnd::Own
@@ -87,7 +87,7 @@ impl Pondering {
     }
 
     fn hit(self) -> Pondering
-        ensures { result ≡ hit_in self }
+        ensures { result ≡ pondering_hit self }
     {
         match self {
             Pondering::Open => Pondering::Hit,

@@ -6,7 +6,7 @@ ghost use Rattle.std.specs.Option.{option_map};
 ghost use Rattle.protocol_tokens.specs.Tokens.{tokens, first_token, rest_after_token};
 ghost use Rattle.uci_lines.specs.Cuts.{is_word};
 ghost use Rattle.uci_lines.specs.Orders.{optional_now};
-ghost use Rattle.engine_conduct.specs.Words.{behind_word, engine_word, engine_word_in, has_token, info_word, is_move_text, is_number, is_null_move, only_token};
+ghost use Rattle.engine_conduct.specs.Words.{behind_word, engine_word, engine_word_in, has_token, info_word, spells_move, is_number, is_null_move, token_alone};
 
 use chess_board::read_move;
 use protocol_tokens::{next_token, split_token};
@@ -137,8 +137,8 @@ pub(crate) fn is_number(token: &[u8]) -> bool
 }
 
 /// True if a token spells a move.
-pub(crate) fn is_move_text(token: &[u8]) -> bool
-    ensures { result ≡ is_move_text token.now }
+pub(crate) fn spells_move(token: &[u8]) -> bool
+    ensures { result ≡ spells_move token.now }
 {
     read_move(token).is_some()
 }
@@ -179,8 +179,8 @@ pub(crate) fn behind_word<'a>(text: &'a [u8], word: &str) -> Option<&'a [u8]>
 }
 
 /// The token of a text that has one alone.
-pub(crate) fn only_token(text: &[u8]) -> Option<&[u8]>
-    ensures { optional_now result ≡ only_token (tokens text.now) }
+pub(crate) fn token_alone(text: &[u8]) -> Option<&[u8]>
+    ensures { optional_now result ≡ token_alone (tokens text.now) }
 {
     let (token, others) = next_token(text)?;
     match next_token(others) {

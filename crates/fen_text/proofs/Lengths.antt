@@ -1,12 +1,14 @@
 -- The greatest length of a written text.
-use Rattle.std.proofs.Common.{◌≡◌, ℕ, suc, zero, ◌*◌, ◌≤◌, List, [], ◌∷◌, ◌++◌, Bool, true, false, ◌||◌, cond, length, drop, decimal, Option, Some, None, arith, length-append, lit<}
+use Rattle.std.proofs.Common.{◌≡◌, ℕ, suc, zero, ◌*◌, ◌≤◌, List, [], ◌∷◌, ◌++◌, Bool, true, false, ◌||◌, cond, length, drop, decimal, Option, Some, None, is_some, arith, length-append, lit<}
 use Rattle.std.proofs.lemmas.Fmt.{length-decimal-le}
 use Rattle.std.proofs.lemmas.List.{length-take}
 use Rattle.chess_board.specs.declared.board.Side.{Side}
 use Rattle.chess_board.specs.declared.board.Side.TheVariants.{White, Black}
 use Rattle.chess_board.specs.declared.board.Rights.{Rights}
+use Rattle.chess_board.specs.declared.board.Variant.{Variant}
+use Rattle.chess_board.specs.declared.board.Variant.TheVariants.{Normal, Fischer}
 use Rattle.chess_board.specs.Board.{Pieces}
-use Rattle.fen_text.specs.Written.{rank_text, rank_row, lower_ranks, board_text, top_rank, side_text, letter_if, rights_text, en_passant_text, position_fen, FenIsShort}
+use Rattle.fen_text.specs.Written.{rank_text, rank_row, lower_ranks, board_text, top_rank, side_text, right_text, rights_text, en_passant_text, position_fen, FenIsShort}
 use Rattle.fen_text.proofs.Rows.{length-rank_text}
 
 length-rank : (pieces : Pieces) (rank : ℕ) → length (rank_text 0 (rank_row pieces rank)) ≤ 8
@@ -35,22 +37,23 @@ length-side : (side : Side) → length (side_text side) ≡ 1
 length-side White = omega arith
 length-side Black = omega arith
 
-length-if : (right : Bool) (letter : ℕ) → length (letter_if right letter) ≤ 1
-length-if true letter = omega arith
-length-if false letter = omega arith
+length-right : (variant : Variant) (wing a : ℕ) (right : Option ℕ) → length (right_text variant wing a right) ≤ 1
+length-right variant wing a None = omega arith
+length-right Normal wing a (Some file) = omega arith
+length-right Fischer wing a (Some file) = omega arith
 
 length-rights : (rights : Rights) → length (rights_text rights) ≤ 4
-length-rights rights = go ((rights.wk || rights.wq) || (rights.bk || rights.bq))
+length-rights rights = go ((is_some rights.wk || is_some rights.wq) || (is_some rights.bk || is_some rights.bq))
   where
     letters : List ℕ
-    letters = letter_if rights.wk 75 ++ (letter_if rights.wq 81 ++ (letter_if rights.bk 107 ++ letter_if rights.bq 113))
+    letters = right_text rights.variant 75 65 rights.wk ++ (right_text rights.variant 81 65 rights.wq ++ (right_text rights.variant 107 97 rights.bk ++ right_text rights.variant 113 97 rights.bq))
 
     few : length letters ≤ 4
     few =
-        let wk = length-if rights.wk 75 in
-        let wq = length-if rights.wq 81 in
-        let bk = length-if rights.bk 107 in
-        let bq = length-if rights.bq 113 in
+        let wk = length-right rights.variant 75 65 rights.wk in
+        let wq = length-right rights.variant 81 65 rights.wq in
+        let bk = length-right rights.variant 107 97 rights.bk in
+        let bq = length-right rights.variant 113 97 rights.bq in
         simp length-append (omega arith)
 
     go : (some : Bool) → length (cond some letters (45 ∷ [])) ≤ 4

@@ -3,5 +3,11 @@ pub mod Rows
 pub mod Cut
 pub mod Boards
 pub mod Others
+pub mod Letters
+pub mod Named
+pub mod FischerText
+pub mod Field
 pub mod Back
+pub mod Normal
+pub mod Variants
 pub mod Lengths

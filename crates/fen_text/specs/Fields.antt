@@ -1,10 +1,11 @@
 -- The other fields of a position text.
 use Rattle.std.specs.Prelude.{ℕ, ◌-◌, Bool, true, false, ◌&&◌, ◌||◌, ◌==◌, nat_le, if◌then◌else◌}
-use Rattle.std.specs.Prelude.{List, [], ◌∷◌, length, count_by, Option, Some, None}
+use Rattle.std.specs.Prelude.{List, [], ◌∷◌, count_by, Option, Some, None}
 use Rattle.std.specs.List.{list_all}
 use Rattle.chess_board.specs.declared.board.Side.{Side}
 use Rattle.chess_board.specs.declared.board.Side.TheVariants.{White, Black}
 use Rattle.chess_board.specs.declared.board.Rights.{Rights}
+use Rattle.chess_board.specs.declared.board.Variant.TheVariants.{Normal}
 use Rattle.chess_board.specs.Board.{square_at}
 use Rattle.protocol_tokens.specs.Numbers.{digits}
 use Rattle.protocol_tokens.specs.Bytes.{dash}
@@ -26,13 +27,18 @@ at_most_once letter field =
     if count_by (λ b. b == letter) field == 0 then Some false
     else (if count_by (λ b. b == letter) field == 1 then Some true else None)
 
+-- the file of the rook whose right is held
+abbrev pub file_if : Bool → ℕ → Option ℕ
+file_if held file = if held then Some file else None
+
+-- the rights of normal chess: the rooks are on the files h and a
 abbrev pub all_four : Option Bool → Option Bool → Option Bool → Option Bool → Option Rights
 all_four (Some wk) (Some wq) (Some bk) (Some bq) =
-    Some (record { wk = wk; wq = wq; bk = bk; bq = bq })
+    Some (record { variant = Normal; wk = file_if wk 7; wq = file_if wq 0; bk = file_if bk 7; bq = file_if bq 0 })
 all_four _ _ _ _ = None
 
 abbrev pub no_rights : Rights
-no_rights = record { wk = false; wq = false; bk = false; bq = false }
+no_rights = record { variant = Normal; wk = None; wq = None; bk = None; bq = None }
 
 -- letters of KQkq, each at most once, in any order
 abbrev pub letters_of : List ℕ → Option Rights

@@ -3,10 +3,10 @@ ghost use Rattle.std.specs.Prelude.{◌≡◌, ◌==◌, length, Option, map, co
 ghost use Rattle.std.specs.List.{slice_get, list_all};
 ghost use Rattle.std.specs.Option.{option_map, option_and_then};
 ghost use Rattle.fen_text.specs.Seen.{optional_bytes};
-ghost use Rattle.fen_text.specs.Fields.{side_of, is_right, at_most_once, letters_of, rights_of, en_passant_of, count_of, count_or};
+ghost use Rattle.fen_text.specs.Fields.{side_of, is_right, at_most_once, file_if, letters_of, rights_of, en_passant_of, count_of, count_or};
 ghost use Rattle.protocol_tokens.specs.Tokens.{tokens};
 
-use chess_board::{Rights, Side, Square};
+use chess_board::{Rights, Side, Square, Variant};
 use protocol_tokens::{is_white, read_digits};
 
 /// The field with this number, counted from 0.
@@ -51,6 +51,14 @@ fn are_rights(field: &[u8]) -> bool
     field.iter().all(|b| is_right(*b))
 }
 
+/// The file of the rook whose right is held.
+fn file_if(held: bool, file: u8) -> Option<u8>
+    ensures { result ≡ file_if held file }
+{
+    if held { Some(file) } else { None }
+}
+
+/// The rights of normal chess: the rooks are on the files h and a.
 fn read_letters(field: &[u8]) -> Option<Rights>
     ensures { result ≡ letters_of field.now }
 {
@@ -61,7 +69,13 @@ fn read_letters(field: &[u8]) -> Option<Rights>
     let wq = at_most_once(b'Q', field)?;
     let bk = at_most_once(b'k', field)?;
     let bq = at_most_once(b'q', field)?;
-    Some(Rights { wk, wq, bk, bq })
+    Some(Rights {
+        variant: Variant::Normal,
+        wk: file_if(wk, 7),
+        wq: file_if(wq, 0),
+        bk: file_if(bk, 7),
+        bq: file_if(bq, 0),
+    })
 }
 
 pub(crate) fn read_rights(field: Option<&[u8]>) -> Option<Rights>
@@ -70,10 +84,11 @@ pub(crate) fn read_rights(field: Option<&[u8]>) -> Option<Rights>
     match field? {
         [] => None,
         [b'-'] => Some(Rights {
-            wk: false,
-            wq: false,
-            bk: false,
-            bq: false,
+            variant: Variant::Normal,
+            wk: None,
+            wq: None,
+            bk: None,
+            bq: None,
         }),
         letters => read_letters(letters),
     }

@@ -7,7 +7,7 @@ ghost use Rattle.chess_board.specs.Play.{fits_board};
 ghost use Rattle.fen_text.specs.Squares.{kind_of_letter, piece_of_letter, squares_of, squares_in, pieces_if_both, HasMoreThan, rank_in_text, ranks_in, is_slash, pieces_in_field, board_in_field};
 
 use arrayvec::{ArrayVec, CapacityError};
-use chess_board::{BuildFault, Kind, Position, Rights, Side};
+use chess_board::{BuildFault, Kind, Position, Rights, Side, Variant};
 
 /// The occupant of a square.
 pub(crate) type Occupant = Option<(Side, Kind)>;
@@ -106,10 +106,11 @@ fn fits(pieces: &[Occupant; 64]) -> bool
     ensures { result ≡ fits_board pieces.now }
 {
     let rights = Rights {
-        wk: false,
-        wq: false,
-        bk: false,
-        bq: false,
+        variant: Variant::Normal,
+        wk: None,
+        wq: None,
+        bk: None,
+        bq: None,
     };
     let built = Position::build(pieces, Side::White, rights, None, 0, 1);
     !matches!(built, Err(BuildFault::Board))

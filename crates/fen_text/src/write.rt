@@ -1,14 +1,15 @@
 //! Writing a text.
-ghost use Rattle.std.specs.Prelude.{◌≡◌, ◌+◌, ◌*◌, ◌<◌, ◌≤◌, ◌∷◌, ◌++◌, [], length, Ok, decimal};
+ghost use Rattle.std.specs.Prelude.{◌≡◌, ◌+◌, ◌*◌, ◌<◌, ◌≤◌, ◌∷◌, ◌++◌, [], length, Some, Ok, IfSome, decimal};
 ghost use Rattle.std.specs.Option.{option_map};
+ghost use Rattle.chess_board.specs.declared.board.Variant.TheVariants.{Normal};
 ghost use Rattle.chess_board.specs.Board.{Pieces};
 ghost use Rattle.chess_board.specs.Play.{IsPosition, top_count};
-ghost use Rattle.fen_text.specs.Fen.{position_of};
-ghost use Rattle.fen_text.specs.Written.{letter_of, empty_run, rank_text, rank_row, board_text, side_text, letter_if, rights_text, en_passant_text, position_fen, FenIsShort, FenReadsBack};
+ghost use Rattle.fen_text.specs.Fen.{position_of, position_by};
+ghost use Rattle.fen_text.specs.Written.{letter_of, empty_run, rank_text, rank_row, board_text, side_text, right_text, rights_text, AreFiles, en_passant_text, position_fen, FenIsShort, FenReadsBack, FenReadsBackBy};
 
 use crate::squares::Occupant;
 use arrayvec::ArrayVec;
-use chess_board::{Kind, Position, Rights, Side, Square};
+use chess_board::{Kind, Position, Rights, Side, Square, Variant};
 use itoa::Buffer;
 
 type Text = ArrayVec<u8, 96>;
@@ -101,26 +102,42 @@ fn side_letter(side: Side) -> u8
     }
 }
 
-fn write_if(right: bool, letter: u8, text: &mut Text)
-    requires { length text.old.items < 96 }
-    ensures text { text.new.items ≡ text.old.items ++ letter_if right letter }
+/// The letter of a right: in normal chess that of its wing, in Chess960 that of the rook's file.
+fn right_letter(variant: Variant, wing: u8, a: u8, file: u8) -> u8
+    requires { (a ≤ 97) × (file < 8) }
+    ensures { result ∷ [] ≡ right_text variant wing a (Some file) }
+{
+    match variant {
+        Variant::Normal => wing,
+        Variant::Fischer => a + file,
+    }
+}
+
+fn write_right(variant: Variant, wing: u8, a: u8, right: Option<u8>, text: &mut Text)
+    requires file { (a ≤ 97) × IfSome right (λ file. file < 8) }
+    requires room { length text.old.items < 96 }
+    ensures text { text.new.items ≡ text.old.items ++ right_text variant wing a right }
     ensures short { length text.new.items ≤ length text.old.items + 1 }
 {
-    if right {
-        text.push(letter);
+    if let Some(file) = right {
+        text.push(right_letter(variant, wing, a, file));
     }
 }
 
 fn write_rights(rights: Rights, text: &mut Text)
-    requires { length text.old.items + 4 ≤ 96 }
+    requires files { AreFiles rights }
+    requires room { length text.old.items + 4 ≤ 96 }
     ensures text { text.new.items ≡ text.old.items ++ rights_text rights }
     ensures short { length text.new.items ≤ length text.old.items + 4 }
 {
-    if (rights.wk || rights.wq) || (rights.bk || rights.bq) {
-        write_if(rights.wk, b'K', text);
-        write_if(rights.wq, b'Q', text);
-        write_if(rights.bk, b'k', text);
-        write_if(rights.bq, b'q', text);
+    let variant = rights.variant;
+    if (rights.wk.is_some() || rights.wq.is_some())
+        || (rights.bk.is_some() || rights.bq.is_some())
+    {
+        write_right(variant, b'K', b'A', rights.wk, text);
+        write_right(variant, b'Q', b'A', rights.wq, text);
+        write_right(variant, b'k', b'a', rights.bk, text);
+        write_right(variant, b'q', b'a', rights.bq, text);
     } else {
         text.push(b'-');
     }
@@ -152,10 +169,12 @@ fn write_count(count: u32, text: &mut Text)
     let _ = text.try_extend_from_slice(buffer.format(count).as_bytes());
 }
 
-/// The text of a position: six fields with one blank between (PGN standard, section 16.1).
+/// The text of a position: six fields with one blank between (PGN standard, section 16.1). In Chess960 a right is
+/// written as the letter of its rook's file.
 pub fn write_fen(p: &Position) -> ArrayVec<u8, 96>
     ensures text { result.items ≡ position_fen p.now }
-    ensures read_back { position_of result.items ≡ Ok p.now }
+    ensures read_back { p.now.rights.variant ≡ Normal → position_of result.items ≡ Ok p.now }
+    ensures read_back_by { position_by p.now.rights.variant result.items ≡ Ok p.now }
 {
     p.facts();
     let mut text = ArrayVec::new();
@@ -178,7 +197,12 @@ pub fn written_is_short()
     ensures { FenIsShort }
 {}
 
-/// The text written of a position spells it.
+/// The text written of a position of normal chess spells it.
 pub fn written_reads_back()
     ensures { FenReadsBack }
+{}
+
+/// The text written of a position spells it, if it is read by the position's variant.
+pub fn written_reads_back_by()
+    ensures { FenReadsBackBy }
 {}

@@ -8,9 +8,11 @@ use Rattle.chess_board.specs.declared.board.Side.TheVariants.{White, Black}
 use Rattle.chess_board.specs.declared.board.Kind.{Kind}
 use Rattle.chess_board.specs.declared.board.Kind.TheVariants.{Pawn, Knight, Bishop, Rook, Queen, King}
 use Rattle.chess_board.specs.declared.board.Rights.{Rights}
+use Rattle.chess_board.specs.declared.board.Variant.{Variant}
+use Rattle.chess_board.specs.declared.board.Variant.TheVariants.{Normal, Fischer}
 use Rattle.chess_board.specs.Board.{Occupant, Pieces, same_side}
 use Rattle.chess_board.specs.Position.{Position}
-use Rattle.game_record.specs.Ending.{kind_number, same_piece, same_pieces, same_right, same_rights, same_square, is_same, SameLaw}
+use Rattle.game_record.specs.Ending.{kind_number, same_piece, same_pieces, same_variant, same_rights, same_square, is_same, SameLaw}
 
 kind_at : ℕ → Kind
 kind_at zero = Pawn
@@ -60,28 +62,6 @@ pieces-law (a ∷ pieces) (b ∷ others) =
       λ e. let first : a ≡ b = cc in let rest : pieces ≡ others = cc in both.1 (first, rest),
     )
 
-right-law : (a b : Bool) → Decides (same_right a b) (a ≡ b)
-right-law true true = (λ _. refl, λ _. refl)
-right-law true false = (λ e. sym e, λ e. sym e)
-right-law false true = (λ e. e, λ e. e)
-right-law false false = (λ _. refl, λ _. refl)
-
-abbrev four : Bool → Bool → Bool → Bool → Rights
-four wk wq bk bq = record { wk = wk; wq = wq; bk = bk; bq = bq }
-
-rights-law : (a b : Rights) → Decides (same_rights a b) (a ≡ b)
-rights-law a b =
-    let both = Decides-and (same_right a.wk b.wk && same_right a.wq b.wq) (same_right a.bk b.bk && same_right a.bq b.bq)
-    (Decides-and (same_right a.wk b.wk) (same_right a.wq b.wq) (right-law a.wk b.wk) (right-law a.wq b.wq))
-    (Decides-and (same_right a.bk b.bk) (same_right a.bq b.bq) (right-law a.bk b.bk) (right-law a.bq b.bq)) in (
-      λ e. let parts = both.0 e in
-          let whole : four a.wk a.wq a.bk a.bq ≡ four b.wk b.wq b.bk b.bq =
-          ap (λ (r : Bool). four r a.wq a.bk a.bq) parts.0.0 ∙ ap (λ (r : Bool). four b.wk r a.bk a.bq) parts.0.1
-          ∙ ap (λ (r : Bool). four b.wk b.wq r a.bq) parts.1.0 ∙ ap (λ (r : Bool). four b.wk b.wq b.bk r) parts.1.1 in
-          whole,
-      λ e. both.1 ((ap (λ (r : Rights). r.wk) e, ap (λ (r : Rights). r.wq) e), (ap (λ (r : Rights). r.bk) e, ap (λ (r : Rights). r.bq) e)),
-    )
-
 square-law : (a b : Option ℕ) → Decides (same_square a b) (a ≡ b)
 square-law None None = (λ _. refl, λ _. refl)
 square-law None (Some b) = (λ e. cc, λ e. cc)
@@ -89,6 +69,30 @@ square-law (Some a) None = (λ e. cc, λ e. cc)
 square-law (Some a) (Some b) =
     let numbers = Decides-eqb a b in
     (λ e. ap Some (numbers.0 e), λ e. numbers.1 (ap (λ (s : Option ℕ). unwrap_or s a) e))
+
+variant-law : (a b : Variant) → Decides (same_variant a b) (a ≡ b)
+variant-law Normal Normal = (λ _. refl, λ _. refl)
+variant-law Normal Fischer = (λ e. cc, λ e. cc)
+variant-law Fischer Normal = (λ e. cc, λ e. cc)
+variant-law Fischer Fischer = (λ _. refl, λ _. refl)
+
+abbrev five : Variant → Option ℕ → Option ℕ → Option ℕ → Option ℕ → Rights
+five variant wk wq bk bq = record { variant = variant; wk = wk; wq = wq; bk = bk; bq = bq }
+
+rights-law : (a b : Rights) → Decides (same_rights a b) (a ≡ b)
+rights-law a b =
+    let both = Decides-and (same_variant a.variant b.variant) _ (variant-law a.variant b.variant)
+    (Decides-and (same_square a.wk b.wk && same_square a.wq b.wq) (same_square a.bk b.bk && same_square a.bq b.bq)
+    (Decides-and (same_square a.wk b.wk) (same_square a.wq b.wq) (square-law a.wk b.wk) (square-law a.wq b.wq))
+    (Decides-and (same_square a.bk b.bk) (same_square a.bq b.bq) (square-law a.bk b.bk) (square-law a.bq b.bq))) in (
+      λ e. let parts = (both.0 e).1 in
+          let whole : five a.variant a.wk a.wq a.bk a.bq ≡ five b.variant b.wk b.wq b.bk b.bq =
+          ap (λ (v : Variant). five v a.wk a.wq a.bk a.bq) (both.0 e).0
+          ∙ ap (λ (r : Option ℕ). five b.variant r a.wq a.bk a.bq) parts.0.0 ∙ ap (λ (r : Option ℕ). five b.variant b.wk r a.bk a.bq) parts.0.1
+          ∙ ap (λ (r : Option ℕ). five b.variant b.wk b.wq r a.bq) parts.1.0 ∙ ap (λ (r : Option ℕ). five b.variant b.wk b.wq b.bk r) parts.1.1 in
+          whole,
+      λ e. both.1 (ap (λ (r : Rights). r.variant) e, ((ap (λ (r : Rights). r.wk) e, ap (λ (r : Rights). r.wq) e), (ap (λ (r : Rights). r.bk) e, ap (λ (r : Rights). r.bq) e))),
+    )
 
 pub same-law : SameLaw
 unfolding is_same

@@ -6,6 +6,8 @@ use Rattle.chess_board.specs.declared.board.Kind.TheVariants.{Pawn, Knight, Bish
 use Rattle.chess_board.specs.declared.board.Kind.TheVariants.{Rook, Queen, King}
 use Rattle.chess_board.specs.declared.board.Rights.{Rights}
 use Rattle.chess_board.specs.declared.board.State.{State}
+use Rattle.chess_board.specs.declared.board.Variant.{Variant}
+use Rattle.chess_board.specs.declared.board.Variant.TheVariants.{Normal, Fischer}
 use Rattle.chess_board.specs.declared.board.State.TheVariants as states
 use Rattle.chess_board.specs.Attack.{is_checked}
 use Rattle.chess_board.specs.Board.{Occupant, Pieces, same_side}
@@ -39,19 +41,23 @@ same_pieces [] (b ∷ others) = false
 same_pieces (a ∷ pieces) [] = false
 same_pieces (a ∷ pieces) (b ∷ others) = same_piece a b && same_pieces pieces others
 
-abbrev pub same_right : Bool → Bool → Bool
-same_right true b = b
-same_right false b = not b
-
-abbrev pub same_rights : Rights → Rights → Bool
-same_rights a b =
-    (same_right a.wk b.wk && same_right a.wq b.wq) && (same_right a.bk b.bk && same_right a.bq b.bq)
+abbrev pub same_variant : Variant → Variant → Bool
+same_variant Normal Normal = true
+same_variant Fischer Fischer = true
+same_variant Normal Fischer = false
+same_variant Fischer Normal = false
 
 abbrev pub same_square : Option ℕ → Option ℕ → Bool
 same_square None None = true
 same_square None (Some b) = false
 same_square (Some a) None = false
 same_square (Some a) (Some b) = a == b
+
+-- the same rooks may castle, by the rules of the same variant
+abbrev pub same_rights : Rights → Rights → Bool
+same_rights a b =
+    same_variant a.variant b.variant
+    && ((same_square a.wk b.wk && same_square a.wq b.wq) && (same_square a.bk b.bk && same_square a.bq b.bq))
 
 -- true if two positions are the same for repetition: pieces, side on move, rights and en passant square
 unfoldable pub is_same : Position → Position → Bool

@@ -11,7 +11,7 @@ use Rattle.replay_command_base.specs.Streams.{FilterStreams}
 use Rattle.session_judge.specs.Crossings.{next_search_number}
 use Rattle.session_judge.specs.declared.listener.Listener.{Listener}
 use Rattle.engine_conduct.specs.declared.rule.ConductFault.{ConductFault}
-use Rattle.engine_conduct.specs.Conduct.{Conduct, conduct, conduct_after, fault_in, first_broken, unjudged_from}
+use Rattle.engine_conduct.specs.Conduct.{Conduct, conduct, conduct_after, fault_of_mark, unjudged_from}
 use Rattle.judge_report.specs.ConductTexts.{conduct_last_lines, fault_report}
 use Rattle.judge_report.specs.Reports.{LogLineKind, Marks, Passes, HasNone, kind_of_log_line}
 
@@ -30,7 +30,7 @@ counted t (Some f) = record { conduct = t.conduct; faults = next_search_number t
 
 -- the fault that a mark is, in the line with this number
 abbrev pub mark_fault : Tally → ℕ → Mark → Option ConductFault
-mark_fault t number mark = fault_in number (first_broken t.conduct mark)
+mark_fault t number mark = fault_of_mark t.conduct number mark
 
 abbrev pub heard_by_tally : Tally → Conduct → Tally
 heard_by_tally t c = record { conduct = c; faults = t.faults; last = t.last }

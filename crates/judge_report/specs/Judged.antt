@@ -11,7 +11,9 @@ use Rattle.replay_command_base.specs.Diagnostics.{command_status, command_diagno
 use Rattle.replay_command_base.specs.Ran.{FilterRan, WritingBroke}
 use Rattle.replay_command_base.specs.Reads.{Got, IsAll, AreFirst, AreRead}
 use Rattle.replay_command_base.specs.Streams.{FilterStreams, AreSame, HasNoFault}
-use Rattle.replay_command_base.specs.Filtered.{AreAll, FilterEndsBy}
+use Rattle.replay_command_base.specs.Filtered.{AreAll, EndsFor, FilterEndsBy}
+use Rattle.replay_command_base.specs.Outcomes.{FailsToWrite}
+use Rattle.replay_command_base.specs.Putting.{reason_of_line}
 use Rattle.session_judge.specs.declared.listener.Listener.{Listener}
 use Rattle.session_judge.specs.Talks.{opening_judgement}
 use Rattle.judge_report.specs.Reports.{ReportCourse, report, last_lines}
@@ -65,12 +67,17 @@ pub record WholeJudged (listener : Listener) (ending : Ending) (least : ℕ)
   pub written : Appends before.output.taken after.output.taken
       (whole_report listener (whole SCRIPT_LINE got) ending)
 
--- The output took a prefix of the report that is due for all lines of the input, of which the
--- first were read; and whatever the input tells, of the report that would be due if the lines
--- that were read were all.
+-- A write failed. The output took a prefix of the report that is due for all lines of the input, of
+-- which the first were read; and whatever the input tells, of the report that would be due if the
+-- lines that were read were all.
 pub record PrefixReported (listener : Listener) (before after : FilterStreams) : Type 0 where
   pub lines : List Piece
   pub read : AreRead before after lines
+  pub why : Option Ending
+  pub reason : EndsFor why before after read.got lines
+  -- the last line is a fault if and only if that is why
+  pub fault : (report listener lines).ending ≡ reason_of_line why
+  pub due : FailsToWrite (whole_report listener lines) why before after
   pub of_read : TakesPrefix before.output.taken after.output.taken (due_report listener lines)
   pub later : List Piece
   pub all : AreAll before.input.left (lines ++ later)

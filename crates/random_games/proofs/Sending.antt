@@ -6,7 +6,7 @@ use Rattle.adapter_core.specs.Trace.{Step, LawfulTrace}
 use Rattle.adapter_core.specs.Represents.{Represents}
 use Rattle.trace_scripts.specs.Script.{events}
 use Rattle.random_games.specs.declared.tally.Tally.{Tally}
-use Rattle.random_games.specs.Tally.{tally_after, tally_of}
+use Rattle.random_games.specs.Tally.{games_tally_after, tally_of}
 use Rattle.random_games.specs.Sent.{DrillSession, DrillSends, Sent}
 
 pub sent_one : (a b : DrillSession) (e : Event) → DrillSends a b e → Sent a b (e ∷ [])
@@ -32,7 +32,7 @@ one_more a b es e t s =
       lawful = more.0;
       stands = more.1;
       events_are = ap (λ (l : List Event). l ++ s.step.event ∷ []) t.events_are ∙ ap (λ (x : Event). es ++ x ∷ []) s.event;
-      tally_is = s.tally_is ∙ ap (λ (x : Tally). tally_after x s.step) t.tally_is;
+      tally_is = s.tally_is ∙ ap (λ (x : Tally). games_tally_after x s.step) t.tally_is;
     }
 
 pub traced : (a b : DrillSession) (es fs : List Event) → Traced a es → Sent a b fs → Traced b (es ++ fs)

@@ -19,7 +19,7 @@ use Rattle.adapter_core.specs.Trace.{Step, LawfulTrace, iface_text, engine_text,
 use Rattle.adapter_core.proofs.Shown.{open_shows, shown_by}
 use Rattle.line_io.specs.Lines.{parts_by_feed}
 use Rattle.random_games.specs.declared.tally.Tally.{Tally}
-use Rattle.random_games.specs.Tally.{tally_after}
+use Rattle.random_games.specs.Tally.{games_tally_after}
 use Rattle.random_games.specs.Sent.{counted_texts, shows_move}
 
 -- a text that begins with a digit
@@ -87,7 +87,7 @@ is_shown o step t n l =
     subst (λ (rs : List Reply). cond (shows_move (reply_lines rs)) (n + 1) n ≡ n + length (moves_shown rs)) (sym l.1.replies) (by_effect n (closed_after s step.event) (is_move (owed_after s step.event)) (step_hits s step.event) (situation_of_state s) (effect s step.event))
 
 -- so what it wrote counts it
-pub counts_step : (o : Settings) (step : Step) (t : List Step) (tally : Tally) → LawfulTrace o (step ∷ t) → counted_texts tally (iface_text step) (engine_text step) ≡ tally_after tally step
+pub counts_step : (o : Settings) (step : Step) (t : List Step) (tally : Tally) → LawfulTrace o (step ∷ t) → counted_texts tally (iface_text step) (engine_text step) ≡ games_tally_after tally step
 counts_step o step t tally l =
     ap with_shown (is_shown o step t tally.shown l) where
       with_shown : ℕ → Tally

@@ -12,7 +12,7 @@ use Rattle.adapter_core.specs.Trace.{Step, LawfulTrace}
 use Rattle.adapter_core.specs.Parts.{CoreParts}
 use Rattle.adapter_core.specs.Represents.{Represents}
 use Rattle.random_games.specs.declared.tally.Tally.{Tally}
-use Rattle.random_games.specs.Tally.{tally_after}
+use Rattle.random_games.specs.Tally.{games_tally_after}
 use Rattle.line_io.specs.declared.limits.TheConstants.{SCRIPT_LINE}
 use Rattle.random_games.specs.declared.tally.TheConstants.{MOST_STEPS}
 
@@ -33,7 +33,7 @@ pub record DrillSends (old new : DrillSession) (e : Event) : Type 0 where
   pub event : step.event ≡ e
   pub extends : (o : Settings) (t : List Step) → LawfulTrace o t → Represents o old.core t
       → LawfulTrace o (step ∷ t) × Represents o new.core (step ∷ t)
-  pub tally_is : new.tally ≡ tally_after old.tally step
+  pub tally_is : new.tally ≡ games_tally_after old.tally step
 
 -- the text begins with a move
 abbrev pub shows_move : List ℕ → Bool
@@ -55,7 +55,7 @@ pub record DrillSteps (old new : CoreParts) (e : Event) (tally_old tally_new : T
   pub extends : (o : Settings) (t : List Step) → LawfulTrace o t → Represents o old t
       → LawfulTrace o (step ∷ t) × Represents o new (step ∷ t)
   pub tally_is : (o : Settings) (t : List Step) → LawfulTrace o (step ∷ t)
-      → tally_new ≡ tally_after tally_old step
+      → tally_new ≡ games_tally_after tally_old step
   pub few : CountsAreFew tally_new
 
 -- the events were sent, the first one first

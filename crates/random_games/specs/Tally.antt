@@ -9,8 +9,8 @@ abbrev pub nothing : Tally
 nothing = record { steps = 0; to_iface = 0; to_engine = 0; shown = 0 }
 
 -- one step more, with the lines that it wrote to both peers and the moves that it showed
-abbrev pub tally_after : Tally → Step → Tally
-tally_after t step = record {
+abbrev pub games_tally_after : Tally → Step → Tally
+games_tally_after t step = record {
   steps = t.steps + 1;
   to_iface = t.to_iface + length (parts_by_feed (iface_text step));
   to_engine = t.to_engine + length (parts_by_feed (engine_text step));
@@ -20,7 +20,7 @@ tally_after t step = record {
 -- the counts of a trace, whose newest step stands first
 abbrev pub tally_of : List Step → Tally
 tally_of [] = nothing
-tally_of (step ∷ trace) = tally_after (tally_of trace) step
+tally_of (step ∷ trace) = games_tally_after (tally_of trace) step
 
 -- the line of a drill: Open is not counted
 abbrev pub drill_report_line : ℕ → ℕ → Tally → List ℕ → List ℕ

@@ -1,5 +1,5 @@
 mod Scribing
-mod Endings
+pub mod Endings
 pub mod Outcomes
 pub mod Prefixes
 mod Pieces

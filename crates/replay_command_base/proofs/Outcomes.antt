@@ -1,20 +1,21 @@
 -- The meaning of the status of a run.
 use Rattle.std.proofs.Common.{◌≡◌, ◌≢◌, ◌⊎◌, inl, inr, ℕ, ◌^◌, ◌<◌, List, length, Some, refl, sym, ap, subst, ◌∙◌, arith}
 use Rattle.std.specs.Io.KnownBytes.{Appends}
-use Rattle.line_io.specs.Lines.{items}
+use Rattle.line_io.specs.Causes.{Rose}
+use Rattle.line_io.specs.Lines.{Piece, items}
 use Rattle.line_io.specs.Runs.{whole}
 use Rattle.line_io.specs.Source.{Received, Supplied}
 use Rattle.replay_command_base.specs.declared.ending.Ending.{Ending}
 use Rattle.replay_command_base.specs.declared.ending.Ending.TheVariants as endings
 use Rattle.replay_command_base.specs.Diagnostics.{command_status, command_diagnostic, tail_of}
 use Rattle.replay_command_base.specs.Ran.{FilterRan, WritingBroke}
+use Rattle.replay_command_base.specs.Reads.{AreRead}
 use Rattle.replay_command_base.specs.Streams.{FilterStreams, AreSame, HasNoFault}
 use Rattle.replay_command_base.specs.DiagnosticWritten.{DiagnosticWritten}
-use Rattle.replay_command_base.proofs.Readings.{few_got, items_read, whole_lines_read}
+use Rattle.replay_command_base.proofs.Readings.{few_got, items_got, items_read, whole_lines_got, whole_lines_read}
 use Rattle.replay_command_base.specs.Putting.{Putting, IsOfLine}
 use Rattle.replay_command_base.specs.Filtered.{FilterEndsBy, EndsRightly, WroteAll, WrotePrefix, WroteTo, WroteWhole}
 use Rattle.replay_command_base.specs.Outcomes.{LineReported, Outcome, WroteLast}
-use Rattle.replay_command_base.proofs.Endings.{all_items}
 
 -- WHICH ENDING HAS A STATUS
 
@@ -88,21 +89,49 @@ module _ {S : Type 0} (means : Putting S) (s0 : S) (U : Type 0) (start now : Fil
   abbrev Part : Type 0
   Part = U ⊎ WrotePrefix means s0 start now ⊎ WroteLast means s0 start now
 
-  to_last : (e : Ending) (w : WroteTo means s0 e start now) → EndsRightly start.input.left w.lines e → Part
-  to_last e w f = inr (inr (record { ending = e; lines = w.lines; read = w.read; reason = f; text = w.text; says = w.says; written = w.written }))
+  -- only the diagnostic of another ending could not be written
+  unannounced : (e : Ending) → DiagnosticWritten' e → code ≡ 5 → (command_status e ≡ 5 → ⊥) → Rose start.diag.faults now.diag.faults
+  unannounced e (inl t) z f = absurd (f (sym t.0 ∙ z))
+  unannounced e (inr t) z f = t.1
 
-  whole_last : (e : Ending) (least : ℕ) (w : WroteWhole means s0 e least start now) → EndsRightly start.input.left (whole 131072 w.got) e → Part
-  whole_last e least w f = inr (inr (record { ending = e; lines = whole 131072 w.got; read = whole_lines_read start now w.got w.reads; reason = f; text = w.text; says = w.says; written = w.written }))
+  last_of : (e : Ending) → r.ending ≡ e → DiagnosticWritten' e → code ≡ 5 → (command_status e ≡ 5 → ⊥) → (lines : List Piece) (read : AreRead start now lines) (got : List ℕ) → read.got ≡ got → EndsRightly start now got lines e → (text : List ℕ) → means.says s0 lines e text
+      → Appends start.output.taken now.output.taken text → Part
+  last_of e is t z f lines read got same reason text says written = inr (inr (record {
+    ending = e;
+    lines = lines;
+    read = read;
+    reason = subst (λ (bytes : List ℕ). EndsRightly start now bytes lines e) (sym same) reason;
+    text = text;
+    says = says;
+    written = written;
+    no_failure = r.written (λ x. f (ap command_status (sym is ∙ x)));
+    failure = unannounced e t z f;
+  }))
 
-  part_of : (e : Ending) → By e → Part
-  part_of endings.NoMemory x = inl x
-  part_of endings.WritingFailed x = inr (inl x)
-  part_of endings.Done x = inr (inr (record { ending = endings.Done; lines = items 131072 x.got; read = items_read start now x.got x.reads x.all; reason = all_items start.input.left x.got (items 131072 x.got) refl x.all; text = x.text; says = x.says; written = x.written }))
-  part_of endings.Usage x = absurd x
-  part_of (endings.NoPosition f) x = absurd x
-  part_of endings.ReadingFailed x = whole_last endings.ReadingFailed 0 x tt
-  part_of endings.TooLong x = whole_last endings.TooLong 4294967296 x tt
-  part_of e x = to_last e x tt
+  -- reading did not fail
+  steady_input : (e : Ending) → r.ending ≡ e → e ≢ endings.ReadingFailed → (command_status e ≡ 5 → ⊥) → now.input.faults ≡ start.input.faults
+  steady_input e is n f = r.read (λ x. n (sym is ∙ x)) (λ x. f (ap command_status (sym is ∙ x)))
+
+  to_last : (e : Ending) → r.ending ≡ e → DiagnosticWritten' e → code ≡ 5 → (command_status e ≡ 5 → ⊥) → (w : WroteTo means s0 e start now) → EndsRightly start now w.read.got w.lines e → Part
+  to_last e is t z f w reason = last_of e is t z f w.lines w.read w.read.got refl reason w.text w.says w.written
+
+  whole_last : (e : Ending) → r.ending ≡ e → DiagnosticWritten' e → code ≡ 5 → (command_status e ≡ 5 → ⊥) → (least : ℕ) (w : WroteWhole means s0 e least start now) → EndsRightly start now w.got (whole 131072 w.got) e → Part
+  whole_last e is t z f least w reason = last_of e is t z f (whole 131072 w.got) (whole_lines_read start now w.got w.reads) w.got (whole_lines_got start now w.got w.reads) reason w.text w.says w.written
+
+  part_of : (e : Ending) → r.ending ≡ e → By e → DiagnosticWritten' e → code ≡ 5 → Part
+  part_of endings.NoMemory is x t z = inl x
+  part_of endings.WritingFailed is x t z = inr (inl x)
+  part_of endings.Done is x t z =
+      last_of endings.Done is t z (λ f. cc) (items 131072 x.got) (items_read start now x.got x.reads x.all) x.got (items_got start now x.got x.reads x.all) (record { last = (x.all, refl); count = steady_input endings.Done is (λ n. cc) (λ f. cc) }) x.text x.says x.written
+  part_of endings.Usage is x t z = absurd x
+  part_of (endings.NoPosition f) is x t z = absurd x
+  part_of endings.ReadingFailed is x t z = whole_last endings.ReadingFailed is t z (λ f. cc) 0 x (record { last = refl; count = r.reading is })
+  part_of endings.TooLong is x t z = whole_last endings.TooLong is t z (λ f. cc) 4294967296 x (record { last = (refl, x.least_is); count = steady_input endings.TooLong is (λ n. cc) (λ f. cc) })
+  part_of (endings.Differs k) is x t z = to_last (endings.Differs k) is t z (λ f. cc) x (record { last = tt; count = steady_input (endings.Differs k) is (λ n. cc) (λ f. cc) })
+  part_of (endings.Unlawful k) is x t z = to_last (endings.Unlawful k) is t z (λ f. cc) x (record { last = tt; count = steady_input (endings.Unlawful k) is (λ n. cc) (λ f. cc) })
+  part_of (endings.NoMark k) is x t z = to_last (endings.NoMark k) is t z (λ f. cc) x (record { last = tt; count = steady_input (endings.NoMark k) is (λ n. cc) (λ f. cc) })
+  part_of (endings.OutOfStep k) is x t z = to_last (endings.OutOfStep k) is t z (λ f. cc) x (record { last = tt; count = steady_input (endings.OutOfStep k) is (λ n. cc) (λ f. cc) })
+  part_of (endings.MayNotCome k) is x t z = to_last (endings.MayNotCome k) is t z (λ f. cc) x (record { last = tt; count = steady_input (endings.MayNotCome k) is (λ n. cc) (λ f. cc) })
 
   abbrev Completed : Type 0
   Completed = ((code ≡ 0) × WroteAll means s0 start now) ⊎ LineReported means s0 start now code ⊎ (code ≡ 3)
@@ -131,7 +160,7 @@ module _ {S : Type 0} (means : Putting S) (s0 : S) (U : Type 0) (start now : Fil
     fault = λ z. line_of r.ending 2 (λ a. cc) (λ a. cc) (λ a. cc) (λ a. cc) (λ a. cc) r.ends r.announces z;
     memory = λ z. (ending_is endings.NoMemory 3 (λ a. cc) is_memory z).1;
     reading = λ z. let i = ending_is endings.ReadingFailed 4 (λ a. cc) is_reading z in (r.reading i.0, i.1);
-    writing = λ z. (broke_by r.ending refl r.announces z, part_of r.ending r.ends);
+    writing = λ z. (broke_by r.ending refl r.announces z, part_of r.ending refl r.ends r.announces z);
     too_long = λ z. (ending_is endings.TooLong 6 (λ a. cc) is_long z).1;
     complete = λ x e l s. complete_of r.ending refl r.ends r.announces x e l s;
   }

@@ -59,6 +59,11 @@ read_prefix start now pieces lines more e r = record {
   of_left = prefix_first start.input.left pieces lines more e r.of_left;
 }
 
+-- of the same bytes
+pub prefix_got : (start now : FilterStreams) (pieces lines more : List Piece) (e : pieces ≡ lines ++ more) (r : AreRead start now pieces) → (read_prefix start now pieces lines more e r).got ≡ r.got
+unfolding read_prefix
+prefix_got start now pieces lines more e r = refl
+
 pub no_bytes : (got : List ℕ) (lines ls : List Piece) → items 131072 (got ++ []) ≡ lines ++ ls → items 131072 got ≡ lines ++ ls
 no_bytes got lines ls e = ap (items 131072) (sym (append-nil got)) ∙ e
 
@@ -102,6 +107,10 @@ module _ {S O X : Type 0} (means : ConsumerMeaning S O X) (old new : Place S O) 
     all_first None a = tt
     all_first (Some x) a = ([], ap (items 131072) a ∙ sym t.ends.all ∙ sym (append-nil t.pieces))
 
+  pub ended_got : (t : Taken means 131072 ends.Ended old new) → (ended_read t).got ≡ t.given
+  unfolding ended_read
+  ended_got t = refl
+
   -- up to a fault, or up to many bytes: the lines are those that were whole
   pub whole_read : (given : List ℕ) (pieces : List Piece) → SourceGave old.input new.input given → pieces ≡ whole 131072 given → AreRead start now pieces
   whole_read given pieces gave all =
@@ -112,6 +121,10 @@ module _ {S O X : Type 0} (means : ConsumerMeaning S O X) (old new : Place S O) 
         of_got = (w.0, no_bytes given (whole 131072 given) w.0 w.1 ∙ ap (λ (ls : List Piece). ls ++ w.0) (sym all));
         of_left = first_lines old.input.left new.input.left given pieces gave.left (λ left e. let m = whole_first given left in (m.0, m.1 ∙ ap (λ (ls : List Piece). ls ++ m.0) (sym all)));
       }
+
+  pub whole_got : (given : List ℕ) (pieces : List Piece) (gave : SourceGave old.input new.input given) (all : pieces ≡ whole 131072 given) → (whole_read given pieces gave all).got ≡ given
+  unfolding whole_read
+  whole_got given pieces gave all = refl
 
   -- up to a stop
   pub stopped_read : (stop : X) (t : Taken means 131072 (ends.Stopped stop) old new) → AreRead start now t.pieces
@@ -129,6 +142,10 @@ module _ {S O X : Type 0} (means : ConsumerMeaning S O X) (old new : Place S O) 
         of (Some x) None c e = absurd c
         of (Some x) (Some y) c e = let m = t.ends.prefix y e in (m.0, ap (items 131072) c ∙ m.1)
 
+  pub stopped_got : (stop : X) (t : Taken means 131072 (ends.Stopped stop) old new) → (stopped_read stop t).got ≡ t.given
+  unfolding stopped_read
+  stopped_got stop t = refl
+
 -- WHICH LINES BYTES HAVE
 
 -- all lines of an input that was read whole
@@ -143,6 +160,10 @@ items_read start now got g a = record {
   of None a = tt
   of (Some x) a = ([], ap (items 131072) a ∙ sym (append-nil (items 131072 got)))
 
+pub items_got : (start now : FilterStreams) (got : List ℕ) (g : Got start now got) (a : IsAll start.input.left got) → (items_read start now got g a).got ≡ got
+unfolding items_read
+items_got start now got g a = refl
+
 -- the lines that were whole
 pub whole_lines_read : (start now : FilterStreams) (got : List ℕ) → Got start now got → AreRead start now (whole 131072 got)
 whole_lines_read start now got g =
@@ -153,6 +174,10 @@ whole_lines_read start now got g =
       of_got = (w.0, no_bytes got (whole 131072 got) w.0 w.1);
       of_left = first_lines start.input.left now.input.left got (whole 131072 got) g.left (λ left e. whole_first got left);
     }
+
+pub whole_lines_got : (start now : FilterStreams) (got : List ℕ) (g : Got start now got) → (whole_lines_read start now got g).got ≡ got
+unfolding whole_lines_read
+whole_lines_got start now got g = refl
 
 pub first_of : (l0 : Option (List ℕ)) (lines : List Piece) (x : List ℕ) → AreFirst l0 lines → l0 ≡ Some x → (ls : List Piece) × (items 131072 x ≡ lines ++ ls)
 first_of None lines x a e = cc

@@ -1,6 +1,7 @@
 -- Lines that a line filter takes.
 use Rattle.std.proofs.Common.{◌≡◌, inl, inr, ℕ, ◌+◌, ◌<◌, List, [], ◌∷◌, ◌++◌, length, take, true, false, Option, Some, None, IfSome, Result, OnOk, OnErr, Ok, Err, refl, sym, ap, subst, ◌∙◌, arith, append_assoc, append-nil, length-append}
 use Rattle.std.proofs.Math.Seq.{take-append-add}
+use Rattle.std.specs.Prelude.{⊤}
 use Rattle.std.proofs.KnownBytes.{Appends-nil, Appends-trans}
 use Rattle.std.specs.Io.KnownBytes.{Appends}
 use Rattle.std.specs.Result.{is_err}
@@ -12,8 +13,8 @@ use Rattle.line_io.specs.LineConsumers.{ConsumerThen}
 use Rattle.replay_command_base.specs.declared.ending.Ending.{Ending}
 use Rattle.replay_command_base.specs.declared.ending.Ending.TheVariants as endings
 use Rattle.replay_command_base.specs.Putting.{Putting, Puts, FilterCloses, IsOfLine}
-use Rattle.replay_command_base.specs.Filtered.{HasReason, IsText}
-use Rattle.replay_command_base.specs.Writing.{Moved, Cut, FilterTook, Said, FilterBroke, FilterAfterLine, FilterHalted, FilterFinished, FilterLeft, FilterMayTake, did_write_fail, filter_meaning}
+use Rattle.replay_command_base.specs.Filtered.{IsText}
+use Rattle.replay_command_base.specs.Writing.{HasReason, Moved, Cut, FilterTook, Said, FilterBroke, FilterAfterLine, FilterHalted, FilterFinished, FilterLeft, FilterMayTake, did_write_fail, filter_meaning}
 
 pub on_err : {T E : Type 0} (r : Result T E) (P : Type 0) → OnErr r P → is_err r ≡ true → P
 on_err (Ok v) P h e = cc
@@ -54,9 +55,9 @@ module _ {S : Type 0} (means : Putting S) where
   }
 
   -- a prefix of the text was written
-  broke_text : (s0 : S) (Why : Ending → Type 0) (lines more : List Piece) (text held written : List ℕ) (before mid after : Received) (i : IsText means s0 lines text) → HasReason (λ e. Why e × (more ≡ [])) i
-      → Appends before.taken mid.taken written → written ++ held ≡ text → mid.faults ≡ before.faults → Cut held mid after → FilterBroke means s0 Why (lines ++ more) before after
-  broke_text s0 Why lines more text held written before mid after i w a e f c = record {
+  broke_text : (s0 : S) (Goes : Type 0) (Why : Ending → Type 0) (lines more : List Piece) (text held written : List ℕ) (before mid after : Received) (i : IsText means s0 lines text) → HasReason Goes (λ e. Why e × (more ≡ [])) i
+      → Appends before.taken mid.taken written → written ++ held ≡ text → mid.faults ≡ before.faults → Cut held mid after → FilterBroke means s0 Goes Why (lines ++ more) before after
+  broke_text s0 Goes Why lines more text held written before mid after i w a e f c = record {
     lines = lines;
     more = more;
     first = refl;
@@ -70,42 +71,54 @@ module _ {S : Type 0} (means : Putting S) where
     failure = rose_from before.faults mid.faults after.faults f c.failure;
   }
 
-  broke_all : (s0 : S) (Why : Ending → Type 0) (lines : List Piece) (text held written : List ℕ) (before mid after : Received) (i : IsText means s0 lines text) → HasReason (λ e. Why e × (◌≡◌ {A = List Piece} [] [])) i
-      → Appends before.taken mid.taken written → written ++ held ≡ text → mid.faults ≡ before.faults → Cut held mid after → FilterBroke means s0 Why lines before after
-  broke_all s0 Why lines text held written before mid after i w a e f c =
-      subst (λ (ls : List Piece). FilterBroke means s0 Why ls before after) (append-nil lines) (broke_text s0 Why lines [] text held written before mid after i w a e f c)
+  broke_all : (s0 : S) (Goes : Type 0) (Why : Ending → Type 0) (lines : List Piece) (text held written : List ℕ) (before mid after : Received) (i : IsText means s0 lines text) → HasReason Goes (λ e. Why e × (◌≡◌ {A = List Piece} [] [])) i
+      → Appends before.taken mid.taken written → written ++ held ≡ text → mid.faults ≡ before.faults → Cut held mid after → FilterBroke means s0 Goes Why lines before after
+  broke_all s0 Goes Why lines text held written before mid after i w a e f c =
+      subst (λ (ls : List Piece). FilterBroke means s0 Goes Why ls before after) (append-nil lines) (broke_text s0 Goes Why lines [] text held written before mid after i w a e f c)
 
   pub stood_cut : (s0 : S) (Why : Ending → Type 0) (lines more : List Piece) (s : S) (held : Text) (before mid after : Received) → FilterTook means s0 lines s held before mid → Cut held.text mid after
-      → FilterBroke means s0 Why (lines ++ more) before after
-  stood_cut s0 Why lines more s held before mid after t c = broke_text s0 Why lines more t.text held.text t.written before mid after (inl (s, t.put)) tt t.appended t.all t.no_failure c
+      → FilterBroke means s0 ⊤ Why (lines ++ more) before after
+  stood_cut s0 Why lines more s held before mid after t c = broke_text s0 ⊤ Why lines more t.text held.text t.written before mid after (inl (s, t.put)) tt t.appended t.all t.no_failure c
 
   pub stood_cut_all : (s0 : S) (Why : Ending → Type 0) (lines : List Piece) (s : S) (held : Text) (before mid after : Received) → FilterTook means s0 lines s held before mid → Cut held.text mid after
-      → FilterBroke means s0 Why lines before after
-  stood_cut_all s0 Why lines s held before mid after t c = broke_all s0 Why lines t.text held.text t.written before mid after (inl (s, t.put)) tt t.appended t.all t.no_failure c
+      → FilterBroke means s0 ⊤ Why lines before after
+  stood_cut_all s0 Why lines s held before mid after t c = broke_all s0 ⊤ Why lines t.text held.text t.written before mid after (inl (s, t.put)) tt t.appended t.all t.no_failure c
 
+  -- before that was put which comes last
+  pub stood_cut_early : (s0 : S) (Why : Ending → Type 0) (lines : List Piece) (s : S) (held : Text) (before mid after : Received) → FilterTook means s0 lines s held before mid → Cut held.text mid after
+      → FilterBroke means s0 (0 < length held.text) Why lines before after
+  stood_cut_early s0 Why lines s held before mid after t c = broke_all s0 (0 < length held.text) Why lines t.text held.text t.written before mid after (inl (s, t.put)) c.some t.appended t.all t.no_failure c
+
+  -- nothing that comes last was written in part
   pub said_cut : (s0 : S) (lines : List Piece) (ending : Ending) (held : List ℕ) (before mid after : Received) → Said means s0 lines ending held before mid → Cut held mid after
-      → FilterBroke means s0 (λ e. e ≡ ending) lines before after
-  said_cut s0 lines ending held before mid after t c = broke_all s0 (λ e. e ≡ ending) lines t.text held t.written before mid after (inr (ending, t.says)) (refl, refl) t.appended t.all t.no_failure c
+      → FilterBroke means s0 ⊥ (λ e. e ≡ ending) lines before after
+  said_cut s0 lines ending held before mid after t c = broke_all s0 ⊥ (λ e. e ≡ ending) lines t.text held t.written before mid after (inr (ending, t.says)) (refl, refl) t.appended t.all t.no_failure c
 
   -- for a reason that is also such a one
-  reason_why : (s0 : S) (Why Why' : Ending → Type 0) (more lines : List Piece) (text : List ℕ) → ((e : Ending) → Why e → Why' e) → (i : IsText means s0 lines text)
-      → HasReason (λ e. Why e × (more ≡ [])) i → HasReason (λ e. Why' e × (more ≡ [])) i
-  reason_why s0 Why Why' more lines text f (inl p) w = tt
-  reason_why s0 Why Why' more lines text f (inr p) w = (f p.0 w.0, w.1)
+  reason_why : (s0 : S) (Goes Goes' : Type 0) (Why Why' : Ending → Type 0) (more lines : List Piece) (text : List ℕ) → (Goes → Goes') → ((e : Ending) → Why e → Why' e) → (i : IsText means s0 lines text)
+      → HasReason Goes (λ e. Why e × (more ≡ [])) i → HasReason Goes' (λ e. Why' e × (more ≡ [])) i
+  reason_why s0 Goes Goes' Why Why' more lines text k f (inl p) w = k w
+  reason_why s0 Goes Goes' Why Why' more lines text k f (inr p) w = (f p.0 w.0, w.1)
 
-  broke_why : (s0 : S) (Why Why' : Ending → Type 0) (lines : List Piece) (before after : Received) → ((e : Ending) → Why e → Why' e) → FilterBroke means s0 Why lines before after → FilterBroke means s0 Why' lines before after
-  broke_why s0 Why Why' lines before after f b = record {
+  pub broke_why : (s0 : S) (Goes Goes' : Type 0) (Why Why' : Ending → Type 0) (lines : List Piece) (before after : Received) → (Goes → Goes') → ((e : Ending) → Why e → Why' e) → FilterBroke means s0 Goes Why lines before after
+      → FilterBroke means s0 Goes' Why' lines before after
+  broke_why s0 Goes Goes' Why Why' lines before after k f b = record {
     lines = b.lines;
     more = b.more;
     first = b.first;
     text = b.text;
     is_text = b.is_text;
-    reason = reason_why s0 Why Why' b.more b.lines b.text f b.is_text b.reason;
+    reason = reason_why s0 Goes Goes' Why Why' b.more b.lines b.text k f b.is_text b.reason;
     some = b.some;
     prefix = b.prefix;
     appended = b.appended;
     failure = b.failure;
   }
+
+  -- all that was put was written, or a part of it: nothing was left to be put
+  pub finished_early : (s0 : S) (lines : List Piece) (Early : Type 0) (ending answer : Ending) (before after : Received) → FilterFinished means s0 lines ⊥ ending answer before after → FilterFinished means s0 lines Early ending answer before after
+  finished_early s0 lines Early ending answer before after (inl d) = inl d
+  finished_early s0 lines Early ending answer before after (inr b) = inr (b.0, broke_why s0 ⊥ Early (λ e. e ≡ ending) (λ e. e ≡ ending) lines before after (λ x. absurd x) (λ e w. w) b.1)
 
   -- all that was held was written
   pub said_moved : (s0 : S) (lines : List Piece) (ending : Ending) (held held' : Text) (before mid after : Received) → Said means s0 lines ending held.text before mid → Moved held held' mid after → held'.text ≡ []
@@ -176,11 +189,11 @@ module _ {S : Type 0} (means : Putting S) where
   left_cut s0 lines ending held before after c (inl b) = inr b
   left_cut s0 lines ending held before after c (inr p) = absurd (cut_is ending c p.0)
 
-  left_by : (s0 : S) (lines : List Piece) (ending answer : Ending) (before later : Received) → IsOfLine ending → FilterFinished means s0 lines ending answer before later → FilterLeft means s0 lines ending answer before later
+  left_by : (s0 : S) (lines : List Piece) (ending answer : Ending) (before later : Received) → IsOfLine ending → FilterFinished means s0 lines ⊥ ending answer before later → FilterLeft means s0 lines ending answer before later
   left_by s0 lines ending answer before later i (inl d) = inl (d.0, i, d.1)
-  left_by s0 lines ending answer before later i (inr b) = inr (b.0, broke_why s0 (λ e. e ≡ ending) IsOfLine lines before later (λ e same. subst IsOfLine (sym same) i) b.1)
+  left_by s0 lines ending answer before later i (inr b) = inr (b.0, broke_why s0 ⊥ ⊤ (λ e. e ≡ ending) IsOfLine lines before later (λ x. tt) (λ e same. subst IsOfLine (sym same) i) b.1)
 
   pub left_written : (s0 : S) (lines : List Piece) (ending answer : Ending) (held : List ℕ) (before after later : Received) → did_write_fail ending ≡ false → FilterHalted means s0 ending lines held before after
-      → (Said means s0 lines ending held before after → FilterFinished means s0 lines ending answer before later) → FilterLeft means s0 lines ending answer before later
+      → (Said means s0 lines ending held before after → FilterFinished means s0 lines ⊥ ending answer before later) → FilterLeft means s0 lines ending answer before later
   left_written s0 lines ending answer held before after later c (inl b) f = let x : did_write_fail ending ≡ true = ap did_write_fail b.0 in let z = sym x ∙ c in cc
   left_written s0 lines ending answer held before after later c (inr p) f = left_by s0 lines ending answer before later p.0 (f p.1)

@@ -1,5 +1,5 @@
 -- The meaning of the status of a run.
-use Rattle.std.specs.Prelude.{◌≡◌, ◌⊎◌, ℕ, ◌^◌, ◌<◌, List, length, Some}
+use Rattle.std.specs.Prelude.{◌≡◌, ◌⊎◌, ℕ, ◌^◌, ◌<◌, List, length, Option, Some}
 use Rattle.std.specs.Io.KnownBytes.{Appends}
 use Rattle.line_io.specs.Causes.{Rose}
 use Rattle.line_io.specs.Lines.{Piece}
@@ -21,16 +21,32 @@ pub record LineReported {S : Type 0} (means : Putting S) (s0 : S) (before after 
   pub wrote : WroteTo means s0 ending before after
   pub announced : Appends before.diag.taken after.diag.taken (command_diagnostic ending)
 
--- The text of the first lines was written, whatever ended them.
+-- The text of the first lines was written, whatever ended them, and only the diagnostic could not be.
 pub record WroteLast {S : Type 0} (means : Putting S) (s0 : S)
     (before after : FilterStreams) : Type 0 where
   pub ending : Ending
   pub lines : List Piece
   pub read : AreRead before after lines
-  pub reason : EndsRightly before.input.left lines ending
+  pub reason : EndsRightly before after read.got lines ending
   pub text : List ℕ
   pub says : means.says s0 lines ending text
   pub written : Appends before.output.taken after.output.taken text
+  pub no_failure : after.output.faults ≡ before.output.faults
+  pub failure : Rose before.diag.faults after.diag.faults
+
+-- All that is due for this reason was written, and only its diagnostic could not be.
+pub record WroteDue (due : Ending → List ℕ) (why : Option Ending) (before after : FilterStreams)
+    : Type 0 where
+  pub ending : Ending
+  pub is_why : why ≡ Some ending
+  pub written : Appends before.output.taken after.output.taken (due ending)
+  pub no_failure : after.output.faults ≡ before.output.faults
+  pub failure : Rose before.diag.faults after.diag.faults
+
+-- a write to the output failed, or all that is due was written, and only the diagnostic was not
+abbrev pub FailsToWrite : (Ending → List ℕ) → Option Ending → FilterStreams → FilterStreams → Type 0
+FailsToWrite due why before after =
+    Rose before.output.faults after.output.faults ⊎ WroteDue due why before after
 
 -- the meaning of each status of the run of a line filter
 pub record Outcome {S : Type 0} (means : Putting S) (s0 : S) (Untouched : Type 0)

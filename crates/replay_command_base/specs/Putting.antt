@@ -23,6 +23,19 @@ IsOfLine (endings.OutOfStep n) = ⊤
 IsOfLine (endings.MayNotCome n) = ⊤
 IsOfLine ending = ⊥
 
+-- the ending, if a line is the reason
+abbrev pub ending_of_line : Ending → Option Ending
+ending_of_line (endings.Differs n) = Some (endings.Differs n)
+ending_of_line (endings.Unlawful n) = Some (endings.Unlawful n)
+ending_of_line (endings.NoMark n) = Some (endings.NoMark n)
+ending_of_line (endings.OutOfStep n) = Some (endings.OutOfStep n)
+ending_of_line (endings.MayNotCome n) = Some (endings.MayNotCome n)
+ending_of_line ending = None
+
+abbrev pub reason_of_line : Option Ending → Option Ending
+reason_of_line None = None
+reason_of_line (Some ending) = ending_of_line ending
+
 -- the endings of which no line is the reason, and after which a text may stand
 abbrev pub IsInputEnd : Ending → Type 0
 IsInputEnd endings.Done = ⊤

@@ -1,5 +1,6 @@
 -- Lines that a line filter takes, and its text on the way to the output.
-use Rattle.std.specs.Prelude.{◌≡◌, ◌⊎◌, ℕ, ◌<◌, List, [], ◌++◌, length}
+use mathlib.Core.Logic.{inl, inr}
+use Rattle.std.specs.Prelude.{◌≡◌, ◌⊎◌, ⊤, ℕ, ◌<◌, List, [], ◌++◌, length}
 use Rattle.std.specs.Prelude.{take, Bool, true, false, Option, Some, None}
 use Rattle.std.specs.Io.KnownBytes.{Appends}
 use Rattle.line_io.specs.Causes.{Rose}
@@ -10,7 +11,7 @@ use Rattle.line_io.specs.LineConsumers.{ConsumerMeaning}
 use Rattle.replay_command_base.specs.declared.ending.Ending.{Ending}
 use Rattle.replay_command_base.specs.declared.ending.Ending.TheVariants as endings
 use Rattle.replay_command_base.specs.Putting.{Putting, IsOfLine, IsVerdict}
-use Rattle.replay_command_base.specs.Filtered.{HasReason, IsText}
+use Rattle.replay_command_base.specs.Filtered.{IsText}
 use Rattle.replay_command_base.specs.declared.limits.TheConstants.{TEXT_ROOM}
 
 -- A prefix of what was held was written, and the rest is held.
@@ -52,16 +53,22 @@ pub record Said {S : Type 0} (means : Putting S) (s0 : S) (lines : List Piece) (
   pub all : written ++ held ≡ text
   pub no_failure : after.faults ≡ before.faults
 
+-- If no more lines are taken, that is for such a reason. If more are, this is so.
+abbrev pub HasReason : {P : Type 0} → {Q : Ending → Type 0} → Type 0 → (Ending → Type 0)
+    → P ⊎ ((ending : Ending) × Q ending) → Type 0
+HasReason Goes Why (inl p) = Goes
+HasReason Goes Why (inr p) = Why p.0
+
 -- A write failed, and the output got a prefix of the text of the first of these lines, or of all of
 -- them with what is put last for such a reason.
-pub record FilterBroke {S : Type 0} (means : Putting S) (s0 : S) (Why : Ending → Type 0)
-    (pieces : List Piece) (before after : Received) : Type 0 where
+pub record FilterBroke {S : Type 0} (means : Putting S) (s0 : S) (Goes : Type 0)
+    (Why : Ending → Type 0) (pieces : List Piece) (before after : Received) : Type 0 where
   pub lines : List Piece
   pub more : List Piece
   pub first : pieces ≡ lines ++ more
   pub text : List ℕ
   pub is_text : IsText means s0 lines text
-  pub reason : HasReason (λ e. Why e × (more ≡ [])) is_text
+  pub reason : HasReason Goes (λ e. Why e × (more ≡ [])) is_text
   pub some : 0 < length text
   pub prefix : ℕ
   pub appended : Appends before.taken after.taken (take prefix text)
@@ -71,29 +78,31 @@ pub record FilterBroke {S : Type 0} (means : Putting S) (s0 : S) (Why : Ending �
 abbrev pub FilterHalted : {S : Type 0} → Putting S → S → Ending → List Piece → List ℕ → Received
     → Received → Type 0
 FilterHalted means s0 ending lines held before after =
-    ((ending ≡ endings.WritingFailed) × FilterBroke means s0 IsOfLine lines before after)
+    ((ending ≡ endings.WritingFailed) × FilterBroke means s0 ⊤ IsOfLine lines before after)
     ⊎ (IsOfLine ending × Said means s0 lines ending held before after)
 
--- all was written and this is the ending, or a write failed
-abbrev pub FilterFinished : {S : Type 0} → Putting S → S → List Piece → Ending → Ending → Received
-    → Received → Type 0
-FilterFinished means s0 lines ending answer before after =
+-- All was written and this is the ending, or a write failed. If it failed before that was put which
+-- comes last, this was so.
+abbrev pub FilterFinished : {S : Type 0} → Putting S → S → List Piece → Type 0 → Ending → Ending
+    → Received → Received → Type 0
+FilterFinished means s0 lines Early ending answer before after =
     ((answer ≡ ending) × Said means s0 lines ending [] before after)
-    ⊎ ((answer ≡ endings.WritingFailed) × FilterBroke means s0 (λ e. e ≡ ending) lines before after)
+    ⊎ ((answer ≡ endings.WritingFailed)
+    × FilterBroke means s0 Early (λ e. e ≡ ending) lines before after)
 
--- the same of what comes of the end of the input
+-- the same of what comes of the end of the input; before that, only a text that was held is written
 pub record FilterEnded {S : Type 0} (means : Putting S) (s0 : S) (lines : List Piece)
-    (ending answer : Ending) (before after : Received) : Type 0 where
+    (held : List ℕ) (ending answer : Ending) (before after : Received) : Type 0 where
   pub verdict : Ending
   pub is_verdict : IsVerdict ending verdict
-  pub finished : FilterFinished means s0 lines verdict answer before after
+  pub finished : FilterFinished means s0 lines (0 < length held) verdict answer before after
 
 -- if a line ended it
 abbrev pub FilterLeft : {S : Type 0} → Putting S → S → List Piece → Ending → Ending → Received → Received
     → Type 0
 FilterLeft means s0 lines ending answer before after =
     ((answer ≡ ending) × IsOfLine ending × Said means s0 lines ending [] before after)
-    ⊎ ((answer ≡ endings.WritingFailed) × FilterBroke means s0 IsOfLine lines before after)
+    ⊎ ((answer ≡ endings.WritingFailed) × FilterBroke means s0 ⊤ IsOfLine lines before after)
 
 -- after these lines, or if the last of them ended it
 abbrev pub FilterAfterLine : {S : Type 0} → Putting S → S → List Piece → Option Ending → S → Text → Received

@@ -55,7 +55,7 @@ impl<S: LineFilter> Writer<S> {
     fn write_last<O: Sink>(&mut self, ending: Ending, output: &mut O) -> Ending
         ensures { (s0 : S) (lines : List Piece) (before : Received)
             → Said S.means s0 lines ending self.old.text.text before (O.state output.old)
-            → FilterFinished S.means s0 lines ending result before (O.state output.new) }
+            → FilterFinished S.means s0 lines ⊥ ending result before (O.state output.new) }
     {
         if write_held(&mut self.text, output).is_err() {
             return Ending::WritingFailed;
@@ -83,7 +83,8 @@ impl<S: LineFilter> Writer<S> {
         ensures { (s0 : S) (lines : List Piece) (before : Received)
             → FilterTook S.means s0 lines self.old.line_filter self.old.text before (O.state
             output.old)
-            → FilterEnded S.means s0 lines ending result before (O.state output.new) }
+            → FilterEnded S.means s0 lines self.old.text.text ending result before
+            (O.state output.new) }
     {
         if make_room(&mut self.text, output).is_err() {
             return Ending::WritingFailed;

@@ -179,7 +179,7 @@ down_within Quit rest s h = more_within (codes "quit") rest (omega arith) h
 down_within New rest s h = more_within (codes "new") rest (omega arith) h
 down_within Force rest s h = more_within (codes "force") rest (omega arith) h
 down_within Post rest s h = more_within (codes "post") rest (omega arith) h
-down_within (SetBoard p) rest s h = more_within (codes "setboard " ++ position_fen p) rest (omega (arith, joined 9 93 (codes "setboard ") (position_fen p) (omega arith) (length-written p s))) h
+down_within (SetBoard p) rest s h = more_within (codes "setboard " ++ position_fen p) rest (omega (arith, joined 9 93 (codes "setboard ") (position_fen p) (omega arith) (length-written p s.0))) h
 down_within (Played has_usermove m) rest s h =
     let text : length (ply_text m) ≤ 5 = subst (λ (t : List ℕ). length t ≤ 5) (ap ply_text s.1.0) (move_length s.0) in
     more_within (driver_move_text has_usermove (ply_text m)) rest (omega (arith, move_few has_usermove (ply_text m) text)) h

@@ -7,9 +7,11 @@ use Rattle.std.proofs.lemmas.Bool.{and_from, and_parts}
 use Rattle.chess_board.specs.declared.board.Kind.{Kind}
 use Rattle.chess_board.specs.declared.board.Kind.TheVariants.{Pawn, Knight, Bishop, Rook, Queen, King}
 use Rattle.chess_board.specs.declared.board.Move.{Move}
+use Rattle.chess_board.specs.declared.board.Wing.{Wing}
+use Rattle.chess_board.specs.declared.board.Wing.TheVariants.{HSide, ASide}
 use Rattle.chess_board.specs.Board.{piece_at, file_of, rank_of_square, square_at, is_vacant, is_king_kind, is_pawn_kind, some_square}
 use Rattle.chess_board.specs.Position.{Position}
-use Rattle.chess_board.specs.Rules.{king_home, is_legal}
+use Rattle.chess_board.specs.Rules.{is_legal}
 use Rattle.chess_board.specs.Laws.{IsLegal, MayReach as MayGo, Promotes}
 use Rattle.chess_board.specs.Play.{kind_on}
 use Rattle.chess_board.specs.Text.{IsOfficer}
@@ -19,10 +21,11 @@ use Rattle.chess_board.proofs.Legal.{legal-law, king_kind, pawn_kind}
 use Rattle.chess_board.proofs.Places.{move_same}
 use Rattle.san_text.specs.declared.pieces.RivalSquares.{RivalSquares}
 use Rattle.san_text.specs.declared.pieces.RivalSquares.TheVariants.{Board, File, Rank}
-use Rattle.san_text.specs.Writing.{same_san_kind, kind_at, castles_short, castles_long, move_captures, is_rival, is_within, has_rival}
+use Rattle.san_text.specs.Writing.{same_san_kind, kind_at, castles_to, castles_on, castles_short, castles_long, move_captures, is_rival, is_within, has_rival}
 use Rattle.san_text.specs.Fit.{allows, castles, agrees}
 use Rattle.san_text.specs.Spelling.{SanSpelling, Short, Long, Goes}
 use Rattle.san_text.proofs.Bools.{differs}
+use Rattle.san_text.proofs.Castlings.{one_castling}
 use Rattle.san_text.proofs.Pawns.{same_square, stays, forward_alone, strikes_alone}
 
 equal : (a b : ℕ) → (a == b) ≡ true → a ≡ b
@@ -155,22 +158,15 @@ king_promotion p m h e =
     let king : h.piece ≡ King = sym (kind_of_move p m.from.index m.to.index m.promotion h) ∙ king_kind (kind_at p m.from.index) e in
     subst (λ (k : Kind). Promotes p.side k m.to.index m.promotion) king h.promoted
 
-short_alone : (p : Position) (m n : Move) → IsLegal p m.from.index m.to.index m.promotion → IsLegal p n.from.index n.to.index n.promotion → castles_short p m ≡ true → castles_short p n ≡ true → n ≡ m
-short_alone p m n h i a c =
-    let x = and_parts (is_king_kind (kind_at p m.from.index)) ((m.from.index == king_home p.side) && (m.to.index == king_home p.side + 2)) a in
-    let y = and_parts (is_king_kind (kind_at p n.from.index)) ((n.from.index == king_home p.side) && (n.to.index == king_home p.side + 2)) c in
-    let xs = and_parts (m.from.index == king_home p.side) (m.to.index == king_home p.side + 2) x.1 in
-    let ys = and_parts (n.from.index == king_home p.side) (n.to.index == king_home p.side + 2) y.1 in
-    move_same n m (equal _ _ ys.0 ∙ sym (equal _ _ xs.0)) (equal _ _ ys.1 ∙ sym (equal _ _ xs.1)) (king_promotion p n i y.0 ∙ sym (king_promotion p m h x.0))
-
-long_alone : (p : Position) (m n : Move) → IsLegal p m.from.index m.to.index m.promotion → IsLegal p n.from.index n.to.index n.promotion → castles_long p m ≡ true → castles_long p n ≡ true → n ≡ m
-long_alone p m n h i a c =
-    let x = and_parts (is_king_kind (kind_at p m.from.index)) ((m.from.index == king_home p.side) && (m.to.index + 2 == king_home p.side)) a in
-    let y = and_parts (is_king_kind (kind_at p n.from.index)) ((n.from.index == king_home p.side) && (n.to.index + 2 == king_home p.side)) c in
-    let xs = and_parts (m.from.index == king_home p.side) (m.to.index + 2 == king_home p.side) x.1 in
-    let ys = and_parts (n.from.index == king_home p.side) (n.to.index + 2 == king_home p.side) y.1 in
-    let to = equal _ _ ys.1 ∙ sym (equal _ _ xs.1) in
-    move_same n m (equal _ _ ys.0 ∙ sym (equal _ _ xs.0)) (omega (arith, to)) (king_promotion p n i y.0 ∙ sym (king_promotion p m h x.0))
+-- what castles on a wing is one move
+wing_alone : (p : Position) (wing : Wing) (m n : Move) → IsLegal p m.from.index m.to.index m.promotion → IsLegal p n.from.index n.to.index n.promotion → castles_on p wing m ≡ true → castles_on p wing n ≡ true → n ≡ m
+wing_alone p wing m n h i a c =
+    let x = and_parts (is_king_kind (kind_at p m.from.index)) (castles_to p p.rights.variant wing m.from.index m.to.index) a in
+    let y = and_parts (is_king_kind (kind_at p n.from.index)) (castles_to p p.rights.variant wing n.from.index n.to.index) c in
+    let mine = sym (kind_of_move p m.from.index m.to.index m.promotion h) ∙ king_kind (kind_at p m.from.index) x.0 in
+    let yours = sym (kind_of_move p n.from.index n.to.index n.promotion i) ∙ king_kind (kind_at p n.from.index) y.0 in
+    let same = one_castling p.rights.variant p wing n.from.index m.from.index n.to.index m.to.index n.promotion m.promotion refl i h yours mine y.1 x.1 in
+    move_same n m same.from same.to (king_promotion p n i y.0 ∙ sym (king_promotion p m h x.0))
 
 goes_alone : (p : Position) (m n : Move) → IsLegal p m.from.index m.to.index m.promotion → IsLegal p n.from.index n.to.index n.promotion
     → agrees p (Goes (kind_at p m.from.index) (given_file p m) (given_rank p m) (record { to = m.to.index; promotion = m.promotion })) n ≡ true → n ≡ m
@@ -192,8 +188,8 @@ goes_alone p m n h i a =
 
 alone_by : (short long : Bool) (p : Position) (m n : Move) → castles_short p m ≡ short → castles_long p m ≡ long → IsLegal p m.from.index m.to.index m.promotion → IsLegal p n.from.index n.to.index n.promotion
     → agrees p (cond short Short (cond long Long (Goes (kind_at p m.from.index) (given_file p m) (given_rank p m) (record { to = m.to.index; promotion = m.promotion })))) n ≡ true → n ≡ m
-alone_by true long p m n s l h i a = short_alone p m n h i s a
-alone_by false true p m n s l h i a = long_alone p m n h i l a
+alone_by true long p m n s l h i a = wing_alone p HSide m n h i s a
+alone_by false true p m n s l h i a = wing_alone p ASide m n h i l a
 alone_by false false p m n s l h i a = goes_alone p m n h i a
 
 -- no other legal move agrees with what a move is written as

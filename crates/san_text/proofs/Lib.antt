@@ -2,6 +2,8 @@ pub mod GameSans
 pub mod GameParts
 pub mod Alone
 pub mod Bools
+pub mod CastlingTexts
+pub mod Castlings
 pub mod Found
 pub mod Lengths
 pub mod LongForms

@@ -106,6 +106,10 @@ pub spelled_is : (p : Position) (m : Move) (text : List ℕ) → IsLegal p m.fro
 spelled_is p m text h w =
     ap spelling_of_san (w.whole ∙ ap (λ b. b ++ w.mark) (text_is p m)) ∙ body_by (castles_short p m) (castles_long p m) p m w.mark refl refl h (mark_is (position_after_move p m) w.mark w.fits)
 
+-- so is the text without a sign
+pub body_read : (p : Position) (m : Move) → IsLegal p m.from.index m.to.index m.promotion → spelling_of_san (body p m ++ []) ≡ Some (spelling_of p m)
+body_read p m h = ap (λ (b : List ℕ). spelling_of_san (b ++ [])) (text_is p m) ∙ body_by (castles_short p m) (castles_long p m) p m [] refl refl h (inl refl)
+
 pub read_back : IsReadBack
 read_back p m text h w =
     let e = spelled_is p m text h w in (

@@ -6,16 +6,21 @@ use Rattle.chess_board.specs.declared.board.Kind.{Kind}
 use Rattle.chess_board.specs.declared.board.Kind.TheVariants.{Pawn, Knight, Bishop}
 use Rattle.chess_board.specs.declared.board.Kind.TheVariants.{Rook, Queen, King}
 use Rattle.chess_board.specs.declared.board.Move.{Move}
+use Rattle.chess_board.specs.declared.board.Variant.{Variant}
+use Rattle.chess_board.specs.declared.board.Variant.TheVariants.{Normal, Fischer}
+use Rattle.chess_board.specs.declared.board.Wing.{Wing}
+use Rattle.chess_board.specs.declared.board.Wing.TheVariants.{HSide, ASide}
 use Rattle.chess_board.specs.contracts.board.KindPartialEq.TheImpl as kinds
 use Rattle.san_text.specs.declared.pieces.RivalSquares.{RivalSquares}
 use Rattle.san_text.specs.declared.pieces.RivalSquares.TheVariants.{Board, File, Rank}
 use Rattle.chess_board.specs.Attack.{is_checked}
-use Rattle.chess_board.specs.Board.{piece_at, file_of, rank_of_square, is_vacant}
+use Rattle.chess_board.specs.Board.{piece_at, file_of, rank_of_square, is_vacant, is_of_side}
 use Rattle.chess_board.specs.Board.{is_king_kind, is_pawn_kind, some_square}
 use Rattle.chess_board.specs.Place.{has_any_way}
 use Rattle.chess_board.specs.Position.{Position}
-use Rattle.chess_board.specs.Rules.{king_home, is_legal}
-use Rattle.chess_board.specs.Laws.{IsLegal, IsChecked}
+use Rattle.chess_board.specs.Rules.{king_home, is_beyond, is_legal}
+use Rattle.chess_board.specs.Laws.{IsLegal, IsChecked, Castles}
+use Rattle.chess_board.specs.Lawful.{PositionInvariant}
 use Rattle.chess_board.specs.Play.{kind_on, position_after, HasLegal}
 use Rattle.chess_board.specs.Text.{letter_a, digit_one}
 
@@ -26,16 +31,25 @@ same_san_kind = (kinds.eq-value).it
 abbrev pub kind_at : Position → ℕ → Kind
 kind_at p s = kind_on (piece_at p.pieces s)
 
--- the king goes two squares towards a rook: castling
-abbrev pub castles_short : Position → Move → Bool
-castles_short p m =
+-- a king that goes so castles on the wing: in normal chess he goes two squares towards a rook, in Chess960
+-- to the square of his rook, since no other move reaches a piece of its own side
+abbrev pub castles_to : Position → Variant → Wing → ℕ → ℕ → Bool
+castles_to p Normal HSide from to = (from == king_home p.side) && (to == king_home p.side + 2)
+castles_to p Normal ASide from to = (from == king_home p.side) && (to + 2 == king_home p.side)
+castles_to p Fischer wing from to =
+    is_of_side p.side (piece_at p.pieces to) && is_beyond wing (file_of from) (file_of to)
+
+abbrev pub castles_on : Position → Wing → Move → Bool
+castles_on p wing m =
     is_king_kind (kind_at p m.from.index)
-    && ((m.from.index == king_home p.side) && (m.to.index == king_home p.side + 2))
+    && castles_to p p.rights.variant wing m.from.index m.to.index
+
+-- castling on the h-side and on the a-side
+abbrev pub castles_short : Position → Move → Bool
+castles_short p m = castles_on p HSide m
 
 abbrev pub castles_long : Position → Move → Bool
-castles_long p m =
-    is_king_kind (kind_at p m.from.index)
-    && ((m.from.index == king_home p.side) && (m.to.index + 2 == king_home p.side))
+castles_long p m = castles_on p ASide m
 
 -- a piece stands on the square reached, or a pawn leaves its file: also en passant
 abbrev pub move_captures : Position → Move → Bool
@@ -143,3 +157,14 @@ IsTheText = (p : Position) (m : Move) (text : List ℕ) → IsSan p m text ↔ (
 abbrev pub SanTextsAreShort : Type 0
 SanTextsAreShort =
     (p : Position) (m : Move) → IsLegal p m.from.index m.to.index m.promotion → length (san_of_move p m) ≤ 7
+
+-- the king castles on the wing
+abbrev pub CastlesOn : Position → Wing → Move → Type 0
+CastlesOn p wing m = (kind_at p m.from.index ≡ King) × Castles p wing m.from.index m.to.index
+
+-- In each position the text of a legal move, without a sign, is `O-O` exactly if the king castles on the
+-- h-side, and `O-O-O` exactly if he castles on the a-side.
+abbrev pub CastlingsAreWritten : Type 0
+CastlingsAreWritten =
+    (p : Position) (m : Move) → PositionInvariant p → IsLegal p m.from.index m.to.index m.promotion
+    → ((body p m ≡ codes "O-O") ↔ CastlesOn p HSide m) × ((body p m ≡ codes "O-O-O") ↔ CastlesOn p ASide m)

@@ -37,7 +37,7 @@ mod writing;
 pub use fault::SanFault;
 pub use game::{GAME_ROOM, write_game};
 pub use game_laws::sans_are_lawful;
-pub use laws::{moves_have_one_text, texts_tell_moves_apart};
+pub use laws::{castlings_are_written, moves_have_one_text, texts_tell_moves_apart};
 pub use long_form::read_long_form;
 pub use reading::read_san;
 pub use writing::write_san;

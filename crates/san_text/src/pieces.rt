@@ -2,9 +2,10 @@
 ghost use Rattle.std.specs.Prelude.{◌≡◌, ◌≤◌, ◌&&◌, ◌==◌, true, false};
 ghost use Rattle.chess_board.specs.Board.{is_king_kind};
 ghost use Rattle.chess_board.specs.Rules.{king_home};
-ghost use Rattle.san_text.specs.Writing.{kind_at, castles_short, castles_long, move_captures, is_rival, has_rival, is_within};
+ghost use Rattle.chess_board.specs.declared.board.Variant.TheVariants.{Normal, Fischer};
+ghost use Rattle.san_text.specs.Writing.{kind_at, castles_to, castles_on, castles_short, castles_long, move_captures, is_rival, has_rival, is_within};
 
-use chess_board::{Kind, Move, Position, Side, Square};
+use chess_board::{Kind, Move, Position, Side, Square, Variant, Wing};
 
 /// The kind of the piece on a square; a pawn if there is none.
 pub fn kind_at(at: &Position, square: Square) -> Kind
@@ -32,20 +33,55 @@ fn is_king(at: &Position, square: Square) -> bool
     matches!(kind_at(at, square), Kind::King)
 }
 
-/// True if the king castles to its side.
+// True if the king goes two squares from home towards a rook.
+fn goes_two_squares(at: &Position, wing: Wing, m: Move) -> bool
+    ensures { result ≡ castles_to at.now Normal wing m.from.index m.to.index }
+{
+    let home = king_home(at);
+    match wing {
+        Wing::HSide => m.from.index == home && m.to.index == home + 2,
+        Wing::ASide => m.from.index == home && m.to.index + 2 == home,
+    }
+}
+
+// True if the king goes to a piece of his own side on this wing.
+fn goes_to_his_rook(at: &Position, wing: Wing, m: Move) -> bool
+    ensures { result ≡ castles_to at.now Fischer wing m.from.index m.to.index }
+{
+    let Some((side, _)) = at.piece(m.to) else {
+        return false;
+    };
+    let beyond = match wing {
+        Wing::HSide => m.from.file() < m.to.file(),
+        Wing::ASide => m.to.file() < m.from.file(),
+    };
+    side == at.side() && beyond
+}
+
+fn castles_on(at: &Position, wing: Wing, m: Move) -> bool
+    ensures { result ≡ castles_on at.now wing m }
+{
+    if !is_king(at, m.from) {
+        return false;
+    }
+    match at.variant() {
+        Variant::Normal => goes_two_squares(at, wing, m),
+        Variant::Fischer => goes_to_his_rook(at, wing, m),
+    }
+}
+
+/// True if the king castles on the h-side.
 pub fn castles_short(at: &Position, m: Move) -> bool
     ensures { result ≡ castles_short at.now m }
 {
-    let home = king_home(at);
-    is_king(at, m.from) && (m.from.index == home && m.to.index == home + 2)
+    castles_on(at, Wing::HSide, m)
 }
 
-/// True if the king castles to the queen's side.
+/// True if the king castles on the a-side.
 pub fn castles_long(at: &Position, m: Move) -> bool
     ensures { result ≡ castles_long at.now m }
 {
-    let home = king_home(at);
-    is_king(at, m.from) && (m.from.index == home && m.to.index + 2 == home)
+    castles_on(at, Wing::ASide, m)
 }
 
 /// True if a piece is captured, also en passant, when a pawn leaves its file for an empty square.

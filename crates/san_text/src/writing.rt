@@ -129,7 +129,7 @@ fn mark(after: &Position) -> &'static [u8]
 
 /// The text of a legal move.
 ///
-/// Castling is `O-O` or `O-O-O`. A pawn's move is its file and `x` if it captures, the square
+/// Castling is `O-O` on the h-side and `O-O-O` on the a-side. A pawn's move is its file and `x` if it captures, the square
 /// reached, and `=` with the letter of the piece that it becomes. Another piece's move is its letter of
 /// `KQRBN`, what distinguishes it from others that may go there, `x` if it captures, and the square
 /// reached. `#` follows if the move mates, else `+` if it checks.

@@ -1,5 +1,5 @@
 -- The meaning of the status of a command that exports a session.
-use Rattle.std.proofs.Common.{◌≡◌, ◌⊎◌, inl, inr, ℕ, ◌^◌, ◌<◌, List, [], ◌∷◌, length, take, true, None, refl, sym, ap, subst, ◌∙◌, arith}
+use Rattle.std.proofs.Common.{◌≡◌, ◌⊎◌, inl, inr, ℕ, ◌^◌, ◌<◌, List, [], ◌∷◌, length, take, true, Option, None, Some, refl, sym, ap, subst, ◌∙◌, arith}
 use Rattle.std.proofs.Math.Seq.{take-length}
 use Rattle.std.proofs.KnownBytes.{Appends-nil}
 use Rattle.std.specs.Io.KnownBytes.{Appends}
@@ -23,12 +23,12 @@ use Rattle.replay_command_base.specs.Streams.{FilterStreams}
 use Rattle.script_replay.specs.Stages.{IsNumbered, is_first_stage}
 use Rattle.script_replay.specs.Versions.{script_events, script_fault, settings_by, version_in}
 use Rattle.script_replay.proofs.VersionLines.{not_none, one_fault, same_fault, no_fault}
-use Rattle.replay_command_base.specs.Outcomes.{LineReported, Outcome, WroteLast}
+use Rattle.replay_command_base.specs.Outcomes.{FailsToWrite, LineReported, Outcome, WroteDue, WroteLast}
 use Rattle.replay_command_base.proofs.Outcomes.{outcome}
-use Rattle.replay_command_base.specs.Putting.{IsInputEnd, IsOfLine}
-use Rattle.replay_command_base.specs.Filtered.{FilterEndsBy, EndsRightly, HasReason, IsText, WrotePrefix, WroteAll, WroteWhole}
+use Rattle.replay_command_base.specs.Putting.{IsOfLine, ending_of_line, reason_of_line}
+use Rattle.replay_command_base.specs.Filtered.{EndsFor, FilterEndsBy, IsText, WroteAll, WrotePrefix, WroteWhole, why_of}
 use Rattle.session_export.specs.declared.writer.SessionWriter.{SessionWriter}
-use Rattle.session_export.specs.Exporting.{Exporting, text_with_end, exported_text}
+use Rattle.session_export.specs.Exporting.{Exporting, exported_text, text_due, text_due_for, text_with_end}
 use Rattle.session_export.specs.Writing.{ExportFaulted, ExportFinished, HasSession, WriterIsUnused, MayWrite, ExportEndsWith, Written, new_session_writer, export_meaning}
 use Rattle.session_export.specs.Outcomes.{AllExported, CompletesText, ExportedToFault, PrefixExported, IsSession, SessionOutcome, ExportReportsFault, WholeExported, WritesText}
 
@@ -56,6 +56,14 @@ nothing_written means w o u = record {
 }
 
 -- WHAT THE STATUS SAYS
+
+-- the text is what is due of the one session of these lines, if no more are taken for this reason
+record IsDue {T : Type 0} (means : Exporting T) (o : Settings) (why : Option Ending) (lines : List Piece) (text : List ℕ) : Type 0 where
+  fault : script_fault lines ≡ reason_of_line why
+  trace : List Step
+  lawful : LawfulTrace (settings_by (version_in lines) o) trace
+  events_are : events trace ≡ script_events lines
+  text_is : text ≡ text_due_for means why o lines trace
 
 module _ {T : Type 0} (means : Exporting T) (o : Settings) (w0 : SessionWriter T) (unused : WriterIsUnused means o w0) (Untouched : Type 0) (start now : FilterStreams) (code : ℕ)
     (ran : FilterRan (λ e. FilterEndsBy (export_meaning means) w0 Untouched e start now) start now code) where
@@ -132,59 +140,76 @@ module _ {T : Type 0} (means : Exporting T) (o : Settings) (w0 : SessionWriter T
 
   -- A PREFIX WAS WRITTEN
 
-  -- the text is what is exported of the session, or of its end too, for a reason why no more lines were read
-  abbrev ExportedOrEnded : List Piece → List ℕ → Type 0
-  ExportedOrEnded lines text = HasSession (exported_text means) o lines text
-      ⊎ ((ending : Ending) × IsInputEnd ending × EndsRightly start.input.left lines ending × ExportFinished means ending o lines text)
-
-  prefix_by : (lines : List Piece) → AreRead start now lines → (text : List ℕ) → ExportedOrEnded lines text → (n : ℕ) → Wrote (take n text) → PrefixExported means o start now
-  prefix_by lines read text (inl s) n a = record {
-    lines = lines;
-    read = read;
-    trace = s.trace;
-    session = session_of lines s.trace s.lawful s.events_are;
-    text = text;
-    text_is = inl s.text_is;
-    prefix = n;
-    written = a;
-  }
-  prefix_by lines read text (inr w) n a = record {
-    lines = lines;
-    read = read;
-    trace = w.3.1.trace;
-    session = session_of lines w.3.1.trace w.3.1.lawful w.3.1.events_are;
-    text = text;
-    text_is = inr (w.0, w.1, w.2, w.3.0, w.3.1.text_is);
-    prefix = n;
-    written = a;
+  -- a line ended it: the text is that of the session before it
+  of_fault : (lines : List Piece) (fault : Ending) (text : List ℕ) → ending_of_line fault ≡ Some fault → ((trace : List Step) → text_due means fault o lines trace ≡ exported_text means o lines trace) → ExportFaulted means fault o lines text → IsDue means o (Some fault) lines text
+  of_fault lines fault text is due s = record {
+    fault = s.0 ∙ sym is;
+    trace = s.1.trace;
+    lawful = s.1.lawful;
+    events_are = s.1.events_are;
+    text_is = s.1.text_is ∙ sym (due s.1.trace);
   }
 
-  said : (lines : List Piece) (e : Ending) (text : List ℕ) → EndsRightly start.input.left lines e → ExportEndsWith means o lines e text → ExportedOrEnded lines text
-  said lines endings.Done text r s = inr (endings.Done, tt, r, s)
-  said lines endings.ReadingFailed text r s = inr (endings.ReadingFailed, tt, tt, s)
-  said lines endings.TooLong text r s = inr (endings.TooLong, tt, tt, s)
-  said lines (endings.NoMark n) text r s = inl s.1
-  said lines (endings.OutOfStep n) text r s = inl s.1
-  said lines (endings.MayNotCome n) text r s = inl s.1
-  said lines e text r s = absurd s
+  of_end : (lines : List Piece) (ending : Ending) (text : List ℕ) → ending_of_line ending ≡ None → ((trace : List Step) → text_due means ending o lines trace ≡ text_with_end means ending o lines trace) → ExportFinished means ending o lines text → IsDue means o (Some ending) lines text
+  of_end lines ending text is due s = record {
+    fault = s.0 ∙ sym is;
+    trace = s.1.trace;
+    lawful = s.1.lawful;
+    events_are = s.1.events_are;
+    text_is = s.1.text_is ∙ sym (due s.1.trace);
+  }
 
-  written_by : (lines : List Piece) (w : SessionWriter T) (text : List ℕ) → Written means o lines w text → 0 < length text → ExportedOrEnded lines text
+  said : (lines : List Piece) (e : Ending) (text : List ℕ) → ExportEndsWith means o lines e text → IsDue means o (Some e) lines text
+  said lines endings.Done text s = of_end lines endings.Done text refl (λ t. refl) s
+  said lines endings.ReadingFailed text s = of_end lines endings.ReadingFailed text refl (λ t. refl) s
+  said lines endings.TooLong text s = of_end lines endings.TooLong text refl (λ t. refl) s
+  said lines (endings.NoMark n) text s = of_fault lines (endings.NoMark n) text refl (λ t. refl) s
+  said lines (endings.OutOfStep n) text s = of_fault lines (endings.OutOfStep n) text refl (λ t. refl) s
+  said lines (endings.MayNotCome n) text s = of_fault lines (endings.MayNotCome n) text refl (λ t. refl) s
+  said lines e text s = absurd s
+
+  written_by : (lines : List Piece) (w : SessionWriter T) (text : List ℕ) → Written means o lines w text → 0 < length text → IsDue means o None lines text
   written_by [] w text g some = let n = ap length g.announced in absurd (let z : ⊥ = omega (arith, n, some) in z)
-  written_by (l ∷ ls) w text g some = inl (record {
+  written_by (l ∷ ls) w text g some = record {
+    fault = g.took.fine;
     trace = g.took.trace;
     lawful = g.took.lawful;
     events_are = g.took.events_are;
     text_is = g.announced g.took.trace g.took.lawful g.took.events_are;
-  })
+  }
 
-  text_exported : (lines : List Piece) (text : List ℕ) (i : IsText (export_meaning means) w0 lines text) → HasReason (EndsRightly start.input.left lines) i → 0 < length text → ExportedOrEnded lines text
-  text_exported lines text (inl p) r some = written_by lines p.0 text (p.1 o unused) some
-  text_exported lines text (inr p) r some = said lines p.0 text r (p.1 o unused)
+  text_is_due : (lines : List Piece) (text : List ℕ) (i : IsText (export_meaning means) w0 lines text) → 0 < length text → IsDue means o (why_of i) lines text
+  text_is_due lines text (inl p) some = written_by lines p.0 text (p.1 o unused) some
+  text_is_due lines text (inr p) some = said lines p.0 text (p.1 o unused)
+
+  prefix_by : (lines : List Piece) (read : AreRead start now lines) (why : Option Ending) → EndsFor why start now read.got lines → (text : List ℕ) (d : IsDue means o why lines text) → FailsToWrite (λ ending. text_due means ending o lines d.trace) why start now → (n : ℕ) → Wrote (take n text)
+      → PrefixExported means o start now
+  prefix_by lines read why reason text d due n a = record {
+    lines = lines;
+    read = read;
+    why = why;
+    reason = reason;
+    fault = d.fault;
+    trace = d.trace;
+    session = session_of lines d.trace d.lawful d.events_are;
+    due = due;
+    prefix = n;
+    written = subst (λ (t : List ℕ). Wrote (take n t)) d.text_is a;
+  }
+
+  cut_by : WrotePrefix (export_meaning means) w0 start now → PrefixExported means o start now
+  cut_by w = prefix_by w.lines w.read (why_of w.is_text) w.reason w.text (text_is_due w.lines w.text w.is_text w.some) (inl w.failure) w.prefix w.written
+
+  last_by : WroteLast (export_meaning means) w0 start now → PrefixExported means o start now
+  last_by w =
+      let d = said w.lines w.ending w.text (w.says o unused) in
+      let all : WroteDue (λ ending. text_due means ending o w.lines d.trace) (Some w.ending) start now = record { ending = w.ending; is_why = refl; written = subst Wrote d.text_is w.written; no_failure = w.no_failure; failure = w.failure } in
+      prefix_by w.lines w.read (Some w.ending) w.reason w.text d (inr all) (length w.text) (subst Wrote (sym (take-length w.text)) w.written)
 
   part : Untouched ⊎ WrotePrefix (export_meaning means) w0 start now ⊎ WroteLast (export_meaning means) w0 start now → Untouched ⊎ PrefixExported means o start now
   part (inl u) = inl u
-  part (inr (inl w)) = inr (prefix_by w.lines w.read w.text (text_exported w.lines w.text w.is_text w.reason w.some) w.prefix w.written)
-  part (inr (inr w)) = inr (prefix_by w.lines w.read w.text (said w.lines w.ending w.text w.reason (w.says o unused)) (length w.text) (subst Wrote (sym (take-length w.text)) w.written))
+  part (inr (inl w)) = inr (cut_by w)
+  part (inr (inr w)) = inr (last_by w)
 
   -- WHICH STATUS COMES
 

@@ -1,11 +1,12 @@
 -- The meaning of the status of the command `positions`.
-use Rattle.std.proofs.Common.{◌≡◌, ◌⊎◌, inl, inr, ℕ, ◌^◌, List, take, refl, subst, ◌∙◌}
+use Rattle.std.proofs.Common.{◌≡◌, ◌⊎◌, inl, inr, ℕ, ◌^◌, List, take, Option, None, Some, refl, subst, ◌∙◌}
 use Rattle.std.specs.Io.KnownBytes.{Appends}
 use Rattle.line_io.specs.Lines.{Piece, items}
 use Rattle.line_io.specs.Runs.{whole}
 use Rattle.policy_rules.specs.SettingRules.Policy.{IsProper}
 use Rattle.policy_rules.specs.declared.setting_rules.settings.Settings.{Settings}
 use Rattle.adapter_core.specs.Trace.{Step}
+use Rattle.replay_command_base.specs.declared.ending.Ending.{Ending}
 use Rattle.replay_command_base.specs.declared.ending.Ending.TheVariants as endings
 use Rattle.replay_command_base.specs.Diagnostics.{tail_of}
 use Rattle.replay_command_base.specs.Ran.{FilterRan}
@@ -13,7 +14,9 @@ use Rattle.replay_command_base.specs.Streams.{FilterStreams, AreSame}
 use Rattle.replay_command_base.specs.DiagnosticWritten.{DiagnosticWritten}
 use Rattle.replay_command_base.proofs.Outcomes.{memory_ran}
 use Rattle.replay_command_base.specs.Filtered.{FilterEndsBy}
-use Rattle.session_export.specs.Outcomes.{AllExported, ExportedToFault, PrefixExported, IsExportedOrEnded, SessionOutcome, WholeExported, WritesText}
+use Rattle.replay_command_base.specs.Outcomes.{FailsToWrite}
+use Rattle.session_export.specs.Exporting.{text_due, text_due_for}
+use Rattle.session_export.specs.Outcomes.{AllExported, ExportedToFault, PrefixExported, SessionOutcome, WholeExported, WritesText}
 use Rattle.session_export.specs.Writing.{WriterIsUnused}
 use Rattle.session_export.proofs.Outcomes.{session_outcome, unused_fresh}
 use Rattle.session_export.specs.PositionExports.{PositionWriter, new_position_writer, exports_positions, text_of_lines, writes_positions}
@@ -73,18 +76,40 @@ module _ (o : Settings) (w0 : PositionWriter) (is_new : w0 ≡ new_position_writ
     least = w.least_is;
   }
 
+  -- a text that is due is that of all positions
+  due_announced : (lines : List Piece) (trace : List Step) (ending : Ending) → text_due exports_positions ending o lines trace ≡ text_of_lines o lines trace
+  due_announced lines trace endings.Done = text_ended o lines trace
+  due_announced lines trace endings.ReadingFailed = text_ended o lines trace
+  due_announced lines trace endings.TooLong = text_ended o lines trace
+  due_announced lines trace ending = text_exported o lines trace
+
+  for_announced : (lines : List Piece) (trace : List Step) (why : Option Ending) → text_due_for exports_positions why o lines trace ≡ text_of_lines o lines trace
+  for_announced lines trace None = text_exported o lines trace
+  for_announced lines trace (Some ending) = due_announced lines trace ending
+
+  fails_by : (lines : List Piece) (trace : List Step) (why : Option Ending) → FailsToWrite (λ ending. text_due exports_positions ending o lines trace) why start now → FailsToWrite (λ ending. text_of_lines o lines trace) why start now
+  fails_by lines trace why (inl r) = inl r
+  fails_by lines trace why (inr d) = inr (record {
+    ending = d.ending;
+    is_why = d.is_why;
+    written = subst Wrote (due_announced lines trace d.ending) d.written;
+    no_failure = d.no_failure;
+    failure = d.failure;
+  })
+
   prefix_by : PrefixExported exports_positions o start now → PositionsPrefixWritten o start now
   prefix_by w = record {
     lines = w.lines;
     read = w.read;
+    why = w.why;
+    reason = w.reason;
+    fault = w.fault;
     trace = w.trace;
     session = w.session;
+    due = fails_by w.lines w.trace w.why w.due;
     prefix = w.prefix;
-    written = subst (λ (t : List ℕ). Wrote (take w.prefix t)) (by w.text_is) w.written;
-  } where
-    by : IsExportedOrEnded exports_positions o start.input.left w.lines w.trace w.text → w.text ≡ text_of_lines o w.lines w.trace
-    by (inl e) = e ∙ text_exported o w.lines w.trace
-    by (inr x) = x.4 ∙ text_ended o w.lines w.trace
+    written = subst (λ (t : List ℕ). Wrote (take w.prefix t)) (for_announced w.lines w.trace w.why) w.written;
+  }
 
   part : (Unread × Kept) ⊎ PrefixExported exports_positions o start now → (Unread × Kept) ⊎ PositionsPrefixWritten o start now
   part (inl u) = inl u

@@ -1,5 +1,5 @@
 -- The meaning of the status of the command `games`.
-use Rattle.std.proofs.Common.{◌≡◌, ◌⊎◌, inl, inr, ℕ, ◌^◌, List, take, refl, subst, ◌∙◌}
+use Rattle.std.proofs.Common.{◌≡◌, ◌⊎◌, inl, inr, ℕ, ◌^◌, List, take, Option, None, Some, refl, subst, ◌∙◌}
 use Rattle.std.specs.Io.KnownBytes.{Appends}
 use Rattle.line_io.specs.Lines.{Piece, items}
 use Rattle.line_io.specs.Runs.{whole}
@@ -8,18 +8,23 @@ use Rattle.policy_rules.specs.SettingRules.Policy.{IsProper}
 use Rattle.policy_rules.specs.declared.setting_rules.settings.Settings.{Settings}
 use Rattle.adapter_core.specs.Trace.{Step}
 use Rattle.trace_scripts.specs.Script.{events}
+use Rattle.replay_command_base.specs.declared.ending.Ending.{Ending}
 use Rattle.replay_command_base.specs.declared.ending.Ending.TheVariants as endings
 use Rattle.replay_command_base.specs.Diagnostics.{tail_of}
 use Rattle.replay_command_base.specs.Ran.{FilterRan}
 use Rattle.replay_command_base.specs.Streams.{FilterStreams, AreSame}
 use Rattle.replay_command_base.specs.DiagnosticWritten.{DiagnosticWritten}
+use Rattle.replay_command_base.proofs.Endings.{all_items}
 use Rattle.replay_command_base.proofs.Outcomes.{memory_ran}
-use Rattle.replay_command_base.specs.Filtered.{FilterEndsBy}
-use Rattle.script_replay.specs.Versions.{script_events, settings_by, version_in}
-use Rattle.session_export.specs.Outcomes.{AllExported, ExportedToFault, PrefixExported, IsExportedOrEnded, SessionOutcome, WholeExported, WritesText}
+use Rattle.replay_command_base.specs.Filtered.{EndsFor, FilterEndsBy}
+use Rattle.replay_command_base.specs.Outcomes.{FailsToWrite}
+use Rattle.replay_command_base.specs.Putting.{reason_of_line}
+use Rattle.script_replay.specs.Versions.{script_events, script_fault, settings_by, version_in}
+use Rattle.session_export.specs.Exporting.{text_due, text_due_for}
+use Rattle.session_export.specs.Outcomes.{AllExported, ExportedToFault, PrefixExported, SessionOutcome, WholeExported, WritesText}
 use Rattle.session_export.specs.Writing.{WriterIsUnused}
 use Rattle.session_export.proofs.Outcomes.{session_outcome, unused_fresh}
-use Rattle.session_export.specs.GameExports.{GameWriter, new_game_writer, exports_games, text_all, text_over, writes_games}
+use Rattle.session_export.specs.GameExports.{GameWriter, exports_games, games_due, new_game_writer, text_all, text_over, writes_games}
 use Rattle.session_export.specs.GamesWritten.{AllGamesWritten, AreWhole, GamesFaultReported, GamesPrefixWritten, GamesWritten, GamesOfLongInput, WholeGamesWritten, WritesGames}
 use Rattle.session_export.proofs.Stays.{first_games_stay}
 use Rattle.session_export.proofs.Texts.{all_announced, cut_announced, over_announced}
@@ -78,19 +83,58 @@ module _ (o : Settings) (w0 : GameWriter) (is_new : w0 ≡ new_game_writer o) (u
     least = w.least_is;
   }
 
-  prefix_by : PrefixExported exports_games o start now → GamesPrefixWritten o start now
-  prefix_by w = record { lines = w.lines; read = w.read; trace = w.trace; session = w.session; written = by w.text_is } where
-    over : w.text ≡ text_over (settings_by (version_in w.lines) o) w.trace → TakesPrefix start.output.taken now.output.taken (text_over (settings_by (version_in w.lines) o) w.trace)
-    over e = (w.prefix, subst (λ (t : List ℕ). Wrote (take w.prefix t)) e w.written)
+  -- a text that is due is that of games
+  due_announced : (lines : List Piece) (trace : List Step) → events trace ≡ script_events lines → (ending : Ending) → text_due exports_games ending o lines trace ≡ games_due (settings_by (version_in lines) o) trace ending
+  due_announced lines trace e endings.Done = all_announced o lines trace e
+  due_announced lines trace e endings.ReadingFailed = cut_announced o lines trace e
+  due_announced lines trace e endings.TooLong = cut_announced o lines trace e
+  due_announced lines trace e endings.Usage = over_announced o lines trace e
+  due_announced lines trace e endings.NoMemory = over_announced o lines trace e
+  due_announced lines trace e endings.WritingFailed = over_announced o lines trace e
+  due_announced lines trace e (endings.NoPosition f) = over_announced o lines trace e
+  due_announced lines trace e (endings.Differs n) = over_announced o lines trace e
+  due_announced lines trace e (endings.Unlawful n) = over_announced o lines trace e
+  due_announced lines trace e (endings.NoMark n) = over_announced o lines trace e
+  due_announced lines trace e (endings.OutOfStep n) = over_announced o lines trace e
+  due_announced lines trace e (endings.MayNotCome n) = over_announced o lines trace e
 
-    by : IsExportedOrEnded exports_games o start.input.left w.lines w.trace w.text → TakesPrefix start.output.taken now.output.taken (text_over (settings_by (version_in w.lines) o) w.trace)
-        ⊎ (AreWhole start w.lines × TakesPrefix start.output.taken now.output.taken (text_all (settings_by (version_in w.lines) o) w.trace))
-    by (inl e) = inl (over (e ∙ over_announced o w.lines w.trace w.session.events_are))
-    by (inr (endings.Done, i, r, f, e)) =
-        inr ((r, f), (w.prefix, subst (λ (t : List ℕ). Wrote (take w.prefix t)) (e ∙ all_announced o w.lines w.trace w.session.events_are) w.written))
-    by (inr (endings.ReadingFailed, i, r, f, e)) = inl (over (e ∙ cut_announced o w.lines w.trace w.session.events_are))
-    by (inr (endings.TooLong, i, r, f, e)) = inl (over (e ∙ cut_announced o w.lines w.trace w.session.events_are))
-    by (inr (ending, i, r, f, e)) = absurd i
+  fails_by : (lines : List Piece) (trace : List Step) (why : Option Ending) → events trace ≡ script_events lines → FailsToWrite (λ ending. text_due exports_games ending o lines trace) why start now → FailsToWrite (games_due (settings_by (version_in lines) o) trace) why start now
+  fails_by lines trace why e (inl r) = inl r
+  fails_by lines trace why e (inr d) = inr (record {
+    ending = d.ending;
+    is_why = d.is_why;
+    written = subst Wrote (due_announced lines trace e d.ending) d.written;
+    no_failure = d.no_failure;
+    failure = d.failure;
+  })
+
+  Takes : List ℕ → Type 0
+  Takes text = TakesPrefix start.output.taken now.output.taken text
+
+  prefix_by : PrefixExported exports_games o start now → GamesPrefixWritten o start now
+  unfolding Takes
+  prefix_by w = record {
+    lines = w.lines;
+    read = w.read;
+    why = w.why;
+    reason = w.reason;
+    fault = w.fault;
+    trace = w.trace;
+    session = w.session;
+    due = fails_by w.lines w.trace w.why w.session.events_are w.due;
+    written = by w.why w.reason w.fault w.written;
+  } where
+    q : Settings
+    q = settings_by (version_in w.lines) o
+
+    over : (ending : Ending) → games_due q w.trace ending ≡ text_over q w.trace → Wrote (take w.prefix (text_due exports_games ending o w.lines w.trace)) → Takes (text_over q w.trace)
+    over ending same a = (w.prefix, subst (λ (t : List ℕ). Wrote (take w.prefix t)) (due_announced w.lines w.trace w.session.events_are ending ∙ same) a)
+
+    by : (why : Option Ending) → EndsFor why start now w.read.got w.lines → script_fault w.lines ≡ reason_of_line why → Wrote (take w.prefix (text_due_for exports_games why o w.lines w.trace)) → Takes (text_over q w.trace) ⊎ (AreWhole start w.lines × Takes (text_all q w.trace))
+    by None r f a = inl (w.prefix, subst (λ (t : List ℕ). Wrote (take w.prefix t)) (over_announced o w.lines w.trace w.session.events_are) a)
+    by (Some endings.Done) r f a =
+        inr ((all_items start.input.left w.read.got w.lines r.last.1 r.last.0, f), (w.prefix, subst (λ (t : List ℕ). Wrote (take w.prefix t)) (all_announced o w.lines w.trace w.session.events_are) a))
+    by (Some ending) r f a = inl (over ending refl a)
 
   part : (Unread × Kept) ⊎ PrefixExported exports_games o start now → (Unread × Kept) ⊎ GamesPrefixWritten o start now
   part (inl u) = inl u

@@ -7,6 +7,7 @@ use Rattle.game_record.specs.Game.{Game, game_from}
 use Rattle.policy_rules.specs.declared.setting_rules.settings.Settings.{Settings}
 use Rattle.adapter_core.specs.Trace.{Step, state}
 use Rattle.replay_command_base.specs.declared.ending.Ending.{Ending}
+use Rattle.replay_command_base.specs.declared.ending.Ending.TheVariants as endings
 use Rattle.script_replay.specs.Versions.{ScriptPlace, LineSaid, Comes, Passes, Starts}
 use Rattle.script_replay.specs.Versions.{script_beginning, behind_header, header_lines}
 use Rattle.script_replay.specs.Versions.{line_says, place_said, settings_by, version_in}
@@ -81,3 +82,18 @@ abbrev pub text_with_end : {T : Type 0} → Exporting T → Ending → Settings 
 text_with_end means ending o lines trace =
     exported_text means o lines trace
     ++ means.last_text ending (game_of (settings_by (version_in lines) o) trace)
+
+-- The text that is due if no more lines are taken: what is exported of the session, and also of its
+-- end for this reason, if it is not a line.
+abbrev pub text_due : {T : Type 0} → Exporting T → Ending → Settings → List Piece → List Step → List ℕ
+text_due means endings.Done o lines trace = text_with_end means endings.Done o lines trace
+text_due means endings.ReadingFailed o lines trace =
+    text_with_end means endings.ReadingFailed o lines trace
+text_due means endings.TooLong o lines trace = text_with_end means endings.TooLong o lines trace
+text_due means ending o lines trace = exported_text means o lines trace
+
+-- if more may be taken, it is what is exported of the session so far
+abbrev pub text_due_for : {T : Type 0} → Exporting T → Option Ending → Settings → List Piece
+    → List Step → List ℕ
+text_due_for means None o lines trace = exported_text means o lines trace
+text_due_for means (Some ending) o lines trace = text_due means ending o lines trace

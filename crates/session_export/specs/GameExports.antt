@@ -45,3 +45,8 @@ text_all o trace = games_text (games_of o trace)
 -- the meaning of a writer of games to the run that gives it lines
 abbrev pub writes_games : Putting GameWriter
 writes_games = writing.export_meaning exports_games
+
+-- the games that are due if no more lines are taken, for this reason
+abbrev pub games_due : Settings → List Step → Ending → List ℕ
+games_due o trace endings.Done = text_all o trace
+games_due o trace ending = text_over o trace

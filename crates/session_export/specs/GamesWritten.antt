@@ -1,5 +1,5 @@
 -- The promise of the command `games`.
-use Rattle.std.specs.Prelude.{◌≡◌, ◌⊎◌, ℕ, ◌^◌, ◌≤◌, ◌<◌, List, ◌++◌, length, Some, None}
+use Rattle.std.specs.Prelude.{◌≡◌, ◌⊎◌, ℕ, ◌^◌, ◌≤◌, ◌<◌, List, ◌++◌, length, Option, Some, None}
 use Rattle.std.specs.Io.KnownBytes.{Appends}
 use Rattle.line_io.specs.Causes.{Rose}
 use Rattle.line_io.specs.Lines.{Piece, items}
@@ -13,11 +13,14 @@ use Rattle.replay_command_base.specs.Diagnostics.{command_diagnostic}
 use Rattle.replay_command_base.specs.Ran.{FilterRan, WritingBroke}
 use Rattle.replay_command_base.specs.Reads.{AreFirst, AreRead, Got, IsAll}
 use Rattle.replay_command_base.specs.Streams.{FilterStreams, AreSame, HasNoFault}
-use Rattle.replay_command_base.specs.Filtered.{AreAll, FilterEndsBy}
+use Rattle.replay_command_base.specs.Filtered.{AreAll, EndsFor, FilterEndsBy}
+use Rattle.replay_command_base.specs.Outcomes.{FailsToWrite}
+use Rattle.replay_command_base.specs.Putting.{reason_of_line}
 use Rattle.script_replay.specs.Versions.{script_fault, settings_by, version_in}
 use Rattle.session_export.specs.Outcomes.{IsSession, ExportReportsFault}
 use Rattle.session_export.specs.Games.{games_over}
-use Rattle.session_export.specs.GameExports.{new_game_writer, text_all, text_over, writes_games}
+use Rattle.session_export.specs.GameExports.{games_due, new_game_writer, text_all, text_over}
+use Rattle.session_export.specs.GameExports.{writes_games}
 use Rattle.line_io.specs.declared.limits.TheConstants.{SCRIPT_LINE}
 
 -- The output took the texts of games of the session of these lines: all, or those that were over.
@@ -64,13 +67,18 @@ pub record GamesOfLongInput (o : Settings) (before after : FilterStreams) : Type
 abbrev pub AreWhole : FilterStreams → List Piece → Type 0
 AreWhole before lines = AreAll before.input.left lines × (script_fault lines ≡ None)
 
--- The output took a prefix of the texts of the games that were over in the first lines; or of those
--- of all games, if these lines are the whole input.
+-- A write failed. The output took a prefix of the texts of the games that were over in the first
+-- lines; or of those of all games, if these lines are the whole input.
 pub record GamesPrefixWritten (o : Settings) (before after : FilterStreams) : Type 0 where
   pub lines : List Piece
   pub read : AreRead before after lines
+  pub why : Option Ending
+  pub reason : EndsFor why before after read.got lines
+  -- the last line is a fault if and only if that is why
+  pub fault : script_fault lines ≡ reason_of_line why
   pub trace : List Step
   pub session : IsSession o lines trace
+  pub due : FailsToWrite (games_due (settings_by (version_in lines) o) trace) why before after
   pub written :
       TakesPrefix before.output.taken after.output.taken
       (text_over (settings_by (version_in lines) o) trace)

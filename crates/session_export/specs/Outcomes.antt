@@ -13,10 +13,11 @@ use Rattle.replay_command_base.specs.Diagnostics.{command_diagnostic}
 use Rattle.replay_command_base.specs.Ran.{WritingBroke}
 use Rattle.replay_command_base.specs.Reads.{AreFirst, AreRead, Got, IsAll}
 use Rattle.replay_command_base.specs.Streams.{FilterStreams, AreSame, HasNoFault}
-use Rattle.replay_command_base.specs.Putting.{IsInputEnd}
-use Rattle.replay_command_base.specs.Filtered.{EndsRightly}
+use Rattle.replay_command_base.specs.Outcomes.{FailsToWrite}
+use Rattle.replay_command_base.specs.Putting.{reason_of_line}
+use Rattle.replay_command_base.specs.Filtered.{EndsFor}
 use Rattle.script_replay.specs.Versions.{script_events, script_fault, settings_by, version_in}
-use Rattle.session_export.specs.Exporting.{Exporting, text_with_end, exported_text}
+use Rattle.session_export.specs.Exporting.{Exporting, exported_text, text_due, text_due_for, text_with_end}
 use Rattle.line_io.specs.declared.limits.TheConstants.{SCRIPT_LINE}
 
 -- The trace is the one lawful session of these lines: its settings are the header's, if there is
@@ -65,26 +66,20 @@ pub record WholeExported {T : Type 0} (means : Exporting T) (ending : Ending) (l
   pub faultless : script_fault (whole SCRIPT_LINE got) ≡ None
   pub text : WritesText (text_with_end means ending) o before after (whole SCRIPT_LINE got)
 
--- The text is what is exported of the session, or of its end too if the lines have no fault, for a
--- reason why no more were read.
-abbrev pub IsExportedOrEnded : {T : Type 0} → Exporting T → Settings → Option (List ℕ) → List Piece
-    → List Step → List ℕ → Type 0
-IsExportedOrEnded means o left lines trace text =
-    (text ≡ exported_text means o lines trace) ⊎ ((ending : Ending) × IsInputEnd ending
-    × EndsRightly left lines ending × (script_fault lines ≡ None)
-    × (text ≡ text_with_end means ending o lines trace))
-
--- The output took a prefix of what is exported of the session of the first lines, or of its end too.
+-- A write failed. The output took a prefix of what is due of the session of the first lines.
 pub record PrefixExported {T : Type 0} (means : Exporting T) (o : Settings) (before after : FilterStreams)
     : Type 0 where
   pub lines : List Piece
   pub read : AreRead before after lines
+  pub why : Option Ending
+  pub reason : EndsFor why before after read.got lines
+  pub fault : script_fault lines ≡ reason_of_line why
   pub trace : List Step
   pub session : IsSession o lines trace
-  pub text : List ℕ
-  pub text_is : IsExportedOrEnded means o before.input.left lines trace text
+  pub due : FailsToWrite (λ ending. text_due means ending o lines trace) why before after
   pub prefix : ℕ
-  pub written : Appends before.output.taken after.output.taken (take prefix text)
+  pub written : Appends before.output.taken after.output.taken
+      (take prefix (text_due_for means why o lines trace))
 
 -- The text of an input without a fault of fewer than 2^32 bytes is written, or there was no memory.
 abbrev pub CompletesText : FilterStreams → FilterStreams → ℕ → Type 0

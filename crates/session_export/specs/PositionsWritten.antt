@@ -1,5 +1,5 @@
 -- The promise of the command `positions`.
-use Rattle.std.specs.Prelude.{◌≡◌, ◌⊎◌, ℕ, ◌^◌, ◌≤◌, ◌<◌, List, length, take, Some, None}
+use Rattle.std.specs.Prelude.{◌≡◌, ◌⊎◌, ℕ, ◌^◌, ◌≤◌, ◌<◌, List, length, take, Option, Some, None}
 use Rattle.std.specs.Io.KnownBytes.{Appends}
 use Rattle.line_io.specs.Causes.{Rose}
 use Rattle.line_io.specs.Lines.{Piece, items}
@@ -11,7 +11,9 @@ use Rattle.replay_command_base.specs.Diagnostics.{command_diagnostic}
 use Rattle.replay_command_base.specs.Ran.{FilterRan, WritingBroke}
 use Rattle.replay_command_base.specs.Reads.{AreFirst, AreRead, Got, IsAll}
 use Rattle.replay_command_base.specs.Streams.{FilterStreams, AreSame, HasNoFault}
-use Rattle.replay_command_base.specs.Filtered.{FilterEndsBy}
+use Rattle.replay_command_base.specs.Filtered.{EndsFor, FilterEndsBy}
+use Rattle.replay_command_base.specs.Outcomes.{FailsToWrite}
+use Rattle.replay_command_base.specs.Putting.{reason_of_line}
 use Rattle.script_replay.specs.Versions.{script_fault}
 use Rattle.session_export.specs.Outcomes.{IsSession, ExportReportsFault}
 use Rattle.session_export.specs.PositionExports.{new_position_writer, text_of_lines, writes_positions}
@@ -56,12 +58,17 @@ pub record PositionsOfLongInput (o : Settings) (before after : FilterStreams) : 
   pub positions : WholePositionsWritten o before after
   pub least : 2 ^ 32 ≤ length positions.got
 
--- The output took a prefix of the positions of the session of the first lines.
+-- A write failed. The output took a prefix of the positions of the session of the first lines.
 pub record PositionsPrefixWritten (o : Settings) (before after : FilterStreams) : Type 0 where
   pub lines : List Piece
   pub read : AreRead before after lines
+  pub why : Option Ending
+  pub reason : EndsFor why before after read.got lines
+  -- the last line is a fault if and only if that is why
+  pub fault : script_fault lines ≡ reason_of_line why
   pub trace : List Step
   pub session : IsSession o lines trace
+  pub due : FailsToWrite (λ ending. text_of_lines o lines trace) why before after
   pub prefix : ℕ
   pub written : Appends before.output.taken after.output.taken
       (take prefix (text_of_lines o lines trace))

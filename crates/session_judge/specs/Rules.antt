@@ -58,13 +58,13 @@ kind_needs_idle order = false
 abbrev pub breaks_busy : EnginePhase → OrderKind → Bool
 breaks_busy engine order = not (is_idle engine) && kind_needs_idle order
 
-abbrev pub is_stop_order : OrderKind → Bool
-is_stop_order orders.Stop = true
-is_stop_order order = false
+abbrev pub is_stop_kind : OrderKind → Bool
+is_stop_kind orders.Stop = true
+is_stop_kind order = false
 
 -- Stop: `stop` outside a search that is not stopped.
 abbrev pub breaks_stop : EnginePhase → OrderKind → Bool
-breaks_stop engine order = is_stop_order order && not (is_running engine)
+breaks_stop engine order = is_stop_kind order && not (is_running engine)
 
 abbrev pub is_ponderhit_order : OrderKind → Bool
 is_ponderhit_order orders.PonderHit = true

@@ -17,3 +17,4 @@ pub use judge::{Judge, crossings_are_the_difference};
 pub use listener::Listener;
 pub use rule::Rule;
 pub use search::Search;
+pub use talk::LAST_NUMBER;

@@ -15,8 +15,8 @@ use crate::search::Search;
 use chess_board::{Move, Position};
 use protocol_tokens::GoKind;
 
-/// The last number of a search, and of a crossing.
-const LAST_NUMBER: u64 = u64::MAX;
+/// The last number of a search, and of a crossing: no count goes on behind it.
+pub const LAST_NUMBER: u64 = u64::MAX;
 
 /// The orders that came so far.
 #[derive(Clone, Copy)]

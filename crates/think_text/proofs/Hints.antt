@@ -14,7 +14,7 @@ use Rattle.think_text.specs.declared.line.Pondered.{Pondered}
 use Rattle.think_text.specs.declared.last_thinking.LineStart.{LineStart}
 use Rattle.think_text.specs.Line.{legal_run, run_texts, line_with, hint_text, thinking_line, IsPlayableAsHint, ThinkingLineHasRoom}
 use Rattle.think_text.proofs.Short.{hint_short, most_hint}
-use Rattle.think_text.specs.Last.{ThinkingLine, with_hint, last_after, line_from, last_line, LinesDifferByHint}
+use Rattle.think_text.specs.Last.{ThinkingLine, with_hint, last_after, thinking_line_from, last_line, LinesDifferByHint}
 
 differ_by : (depth : Option ℕ) (score : Option Score) (texts : List (List ℕ)) (facts : Info) (s : Spelling) (hint : Option Pondered) (old : Option ThinkingLine)
     → (line_with depth score texts facts s (hint_text s hint) ≡ option_map (with_hint hint) (last_after None (line_with depth score texts facts s None)))
@@ -96,6 +96,6 @@ hinted_short hint line i h =
 
 -- so is the line that is kept
 pub kept_short : (kept : Option LineStart) (start : LineStart) (moves : List ℕ) (hint : Option Pondered) → kept ≡ Some start → IfSome (last_line kept moves) (λ line. length (reply_text (with_hint None line)) ≤ 104985)
-    → IsPlayableAsHint hint → length (reply_text (with_hint hint (line_from moves start))) ≤ 104995
+    → IsPlayableAsHint hint → length (reply_text (with_hint hint (thinking_line_from moves start))) ≤ 104995
 kept_short kept start moves hint e h i =
-    hinted_short hint (line_from moves start) i (subst (λ (x : Option LineStart). IfSome (last_line x moves) (λ line. length (reply_text (with_hint None line)) ≤ 104985)) e h)
+    hinted_short hint (thinking_line_from moves start) i (subst (λ (x : Option LineStart). IfSome (last_line x moves) (λ line. length (reply_text (with_hint None line)) ≤ 104985)) e h)

@@ -42,8 +42,8 @@ last_after old None = old
 last_after old (Some reply) = without_hint reply
 
 -- the line of this start, with these moves
-abbrev pub line_from : List ℕ → LineStart → ThinkingLine
-line_from moves start = record {
+abbrev pub thinking_line_from : List ℕ → LineStart → ThinkingLine
+thinking_line_from moves start = record {
   depth = start.depth;
   score = start.score;
   time = start.time;
@@ -53,7 +53,7 @@ line_from moves start = record {
 }
 
 abbrev pub last_line : Option LineStart → List ℕ → Option ThinkingLine
-last_line start moves = option_map (line_from moves) start
+last_line start moves = option_map (thinking_line_from moves) start
 
 -- there is room for the moves of a line, and the line is short
 pub record LastIsKept (start : Option LineStart) (moves : Text) : Type 0 where

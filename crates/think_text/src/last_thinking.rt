@@ -6,7 +6,7 @@ ghost use Rattle.cecp_lines.specs.Replies.{Thinking, reply_of, reply_text};
 ghost use Rattle.uci_lines.specs.Info.{info_of};
 ghost use Rattle.uci_lines.specs.Scores.{IsCentis};
 ghost use Rattle.think_text.specs.Line.{InfoIsHeard, IsPlayableAsHint, ThinkingLineHasRoom, value_of, thinking_line, text_with_line};
-ghost use Rattle.think_text.specs.Last.{last_after, with_hint, line_from};
+ghost use Rattle.think_text.specs.Last.{last_after, with_hint, thinking_line_from};
 ghost use Rattle.think_text.specs.declared.last_thinking.TheConstants.{BARE_LINE, LAST_LINE};
 
 use crate::Pondered;
@@ -94,8 +94,8 @@ fn reply_from<'a>(start: &LineStart, hint: Option<&'a [u8]>, moves: &'a [u8]) ->
 fn write_line(start: &LineStart, hint: Option<Pondered>, moves: &[u8], out: &mut Out)
     requires hint { IsPlayableAsHint hint }
     requires room { length out.old.text
-        + length (reply_text (with_hint hint (line_from moves.now start.now))) ≤ out.old.room }
-    ensures { out.new ≡ with out.old (reply_text (with_hint hint (line_from moves.now start.now))) }
+        + length (reply_text (with_hint hint (thinking_line_from moves.now start.now))) ≤ out.old.room }
+    ensures { out.new ≡ with out.old (reply_text (with_hint hint (thinking_line_from moves.now start.now))) }
 {
     let text = hint_text(start.spelling, hint);
     write_reply(&reply_from(start, bytes_of(&text), moves), out);

@@ -16,7 +16,7 @@ use Rattle.option_map.specs.declared.declared_options.style.TextFeature.TheVaria
 use Rattle.option_map.specs.DeclaredOptions.Names.{same_text, is_hidden}
 use Rattle.option_map.specs.DeclaredOptions.Choices.{with_star, with_bars, choices_text}
 use Rattle.option_map.specs.DeclaredOptions.Styles.{is_control, has_control, is_control_shape, is_not_plain, blanked_byte, blanked_text, name_in_style, text_feature, text_word}
-use Rattle.option_map.specs.DeclaredOptions.Settings.{OptionSetting, SettingKind, Spin, bit_text, spin_text, setting_kind_text, shown_kind, hidden_kind, setting_from_option, option_by_name, is_combo_full, cannot_be_shown, is_unshowable, declared_beside, grown_by, after_declared}
+use Rattle.option_map.specs.DeclaredOptions.Settings.{OptionSetting, SettingKind, Spin, bit_text, spin_feature_text, setting_kind_text, shown_kind, hidden_kind, setting_from_option, option_by_name, is_combo_full, cannot_be_shown, is_unshowable, declared_beside, grown_by, after_declared}
 use Rattle.option_map.specs.FeatureLists.Features.{shown_name, is_unfit}
 use Rattle.trace_laws.proofs.Numerals.{numeral}
 
@@ -61,7 +61,7 @@ number_clean : (z : ℤ) → IsClean (signed_decimal z)
 number_clean (pos n) = digits_clean (decimal n) (numeral n).all
 number_clean (negsuc n) = digits_clean (decimal (suc n)) (numeral (suc n)).all
 
-spin_clean : (default min max : ℤ) → IsClean (spin_text default min max)
+spin_clean : (default min max : ℤ) → IsClean (spin_feature_text default min max)
 spin_clean default min max =
     let one = both_clean (codes " -spin ") (signed_decimal default) refl (number_clean default) in
     let two = both_clean (codes " -spin " ++ signed_decimal default) (codes " ") one refl in

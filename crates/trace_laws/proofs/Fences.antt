@@ -23,7 +23,7 @@ use Rattle.adapter_core.specs.Trace.{State, Step, LawfulTrace, state, effect, mi
 use Rattle.adapter_core.proofs.Traces.{lasts}
 use Rattle.trace_laws.specs.Wire.{Search, said_by_step, ends, on_wire}
 use Rattle.trace_laws.specs.Dialogue.{exchange, exchanges}
-use Rattle.trace_laws.specs.Fences.{Fence, Fenced, Stopped, Asked, fence_once_heard, fence_once_asked, fence_once_written, fence_all, fence, fence_at, is_unfenced, SearchesAreFenced, StoppedSearchIsUnfenced}
+use Rattle.trace_laws.specs.Fences.{Fence, Fenced, Stopped, Asked, fence_once_heard, fence_once_asked, fence_once_written, fence_all, fence, fence_at, is_left_unfenced, SearchesAreFenced, StoppedSearchIsUnfenced}
 use Rattle.trace_laws.proofs.Dialogues.{dialogues, lawful_in, opening_dialogue}
 use Rattle.trace_laws.proofs.Heard.{ends_on_wire, engine_on_wire, event_heard}
 use Rattle.trace_laws.proofs.Places.{opening_says}
@@ -237,7 +237,7 @@ all_fence : (o : Settings) (t : List Step) → o.fence_stops ≡ true → AllFen
 all_fence o [] on = tt
 all_fence o (step ∷ t) on = fences_by (is_open step.event) (state o t) step (exchanges o t) (ap (λ (x : Settings). x.fence_stops) (settings_are o t) ∙ on) (all_fence o t on)
 
-both_told : (e : Engine) (f : Fence) (unfenced : Bool) (k : GoKind) (stopped : Bool) → on_wire e ≡ Search k stopped → Fits e f unfenced → IsFencedUnlessStopped e unfenced → is_unfenced f ≡ stopped
+both_told : (e : Engine) (f : Fence) (unfenced : Bool) (k : GoKind) (stopped : Bool) → on_wire e ≡ Search k stopped → Fits e f unfenced → IsFencedUnlessStopped e unfenced → is_left_unfenced f ≡ stopped
 both_told (talks.Search g t s) Fenced unfenced k stopped w h i = let same : s ≡ stopped = cc in sym h ∙ i ∙ same
 both_told (talks.Search g t s) Stopped unfenced k stopped w h i = let same : s ≡ stopped = cc in sym h ∙ i ∙ same
 both_told (talks.Search g t s) Asked unfenced k stopped w h i = absurd h

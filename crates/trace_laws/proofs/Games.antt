@@ -3,10 +3,12 @@ use Rattle.std.proofs.Common.{◌≡◌, ℕ, zero, suc, ◌-◌, length, List, 
 use Rattle.std.proofs.lemmas.List.{map-append}
 use Rattle.chess_board.specs.declared.board.Move.{Move}
 use Rattle.chess_board.specs.Position.{Position}
-use Rattle.chess_board.specs.Play.{IsPosition, start_position}
+use Rattle.chess_board.specs.Play.{start_position}
 use Rattle.chess_board.proofs.Start.{start-is}
 use Rattle.chess_board.proofs.LegalMoves.{is_legal}
 use Rattle.fen_text.specs.Fen.{position_of}
+use Rattle.fen_text.specs.Written.{IsNormal}
+use Rattle.fen_text.proofs.Normal.{read_normal}
 use Rattle.fen_text.specs.declared.fault.FenFault.{FenFault}
 use Rattle.cecp_lines.specs.Messages.{IfaceMsg}
 use Rattle.cecp_lines.specs.Messages as says
@@ -27,12 +29,12 @@ use Rattle.trace_laws.proofs.Boards.{read_is}
 
 -- A game from a position, each move legal in its turn.
 pub record IsGame (g : Game) : Type 0 where
-  pub start : IsPosition g.start
+  pub start : IsNormal g.start
   pub moves : List Move
   pub moves_are : g.moves ≡ plies_of moves
   pub legal : AreLegal g.start g.moves
 
-pub begun_is : (p : Position) → IsPosition p → IsGame (game_from p)
+pub begun_is : (p : Position) → IsNormal p → IsGame (game_from p)
 begun_is p q = record { start = q; moves = []; moves_are = refl; legal = tt }
 
 pub played_is : (g : Game) (m : Move) → IsGame g → IsPlayablePly (current_position g) (ply_of m) → IsGame (desks.game_played g m)
@@ -58,12 +60,12 @@ undone_is g n i = record {
 }
 
 placed_is : (d : Desk) (text : List ℕ) (r : Result Position FenFault) → position_of text ≡ r → IsGame d.game → IsGame (desk_at_position d r).game
-placed_is d text (Ok p) e i = begun_is p (read_is text p e)
+placed_is d text (Ok p) e i = begun_is p (read_is text p e, read_normal text p e)
 placed_is d text (Err fault) e i = i
 
 changed_is : (h : Situation) (held : List Order) (m : IfaceMsg) → EffectFitsDesk h held (Accepts m) → IsGame h.desk.game → IsGame (change (is_boot h.engine) h.desk m).game
 unfolding change
-changed_is h held says.New f i = begun_is start_position start-is
+changed_is h held says.New f i = begun_is start_position (start-is, refl)
 changed_is h held (says.UserMove m) f i = played_is h.desk.game m i (can_enter h held (says.UserMove m) (passes h held (says.UserMove m) f.passes))
 changed_is h held says.Undo f i = undone_is h.desk.game 1 i
 changed_is h held says.Remove f i = undone_is h.desk.game 2 i
@@ -79,7 +81,7 @@ effect_is h held d f i = i
 
 -- after a lawful trace
 pub game_is : (o : Settings) (trace : List Step) → LawfulTrace o trace → IsGame (state o trace).desk.game
-game_is o [] l = begun_is start_position start-is
+game_is o [] l = begun_is start_position (start-is, refl)
 game_is o (step ∷ trace) l =
     let s = state o trace in
     effect_is (situation_of_state s) s.held (effect s step.event) (fits s step (lasts o trace l.0) l.1) (game_is o trace l.0)

@@ -188,7 +188,7 @@ position_bare g hint =
 position_ordered : (g : Game) (c : Call) → IsGame g → plies g ≤ 12000 → IsOrdered (position_order (searched g c))
 position_ordered g c i few =
     let hint = option_map ply_of (pondered c) in
-    subst (λ (t : List ℕ). IsPart 131070 t) (searched_text g c) (record { line = position_bare g hint; short = omega (arith, most_bytes g hint i.start few) })
+    subst (λ (t : List ℕ). IsPart 131070 t) (searched_text g c) (record { line = position_bare g hint; short = omega (arith, most_bytes g hint i.start.0 few) })
 
 -- SEARCHES
 

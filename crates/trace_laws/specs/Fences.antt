@@ -61,13 +61,13 @@ SearchesAreFenced o =
     → step.orders ≡ before ++ orders.Go ponder control depth ∷ behind
     → fence_at trace step before ≡ Fenced
 
-abbrev pub is_unfenced : Fence → Bool
-is_unfenced Fenced = false
-is_unfenced f = true
+abbrev pub is_left_unfenced : Fence → Bool
+is_left_unfenced Fenced = false
+is_left_unfenced f = true
 
 -- With FenceStops on a `stop` is unfenced in an open search exactly if the search is stopped.
 abbrev pub StoppedSearchIsUnfenced : Settings → Type 0
 StoppedSearchIsUnfenced o =
     o.fence_stops ≡ true → (trace : List Step) (k : GoKind) (stopped : Bool) → LawfulTrace o trace
     → wire trace ≡ Search k stopped
-    → is_unfenced (fence trace) ≡ stopped
+    → is_left_unfenced (fence trace) ≡ stopped

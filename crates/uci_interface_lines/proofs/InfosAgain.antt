@@ -18,7 +18,7 @@ use Rattle.uci_lines.specs.Scores.{IsCentis}
 use Rattle.uci_lines.specs.Info.{Info as AnyInfo}
 use Rattle.uci_lines.specs.Messages.{Info}
 use Rattle.uci_lines.specs.Spells.{IsRun, FieldTakesValue, ReportsFacts, HasForm}
-use Rattle.uci_interface_lines.specs.Said.{score_text, bound_text, move_after_word, each_move, pv_text, facts_text, said_text}
+use Rattle.uci_interface_lines.specs.Said.{said_score_text, bound_text, move_after_word, each_move, pv_text, facts_text, said_text}
 use Rattle.uci_lines.specs.Writable.{can_write}
 use Rattle.uci_lines.proofs.Prefixes.{BeginsWhite}
 use Rattle.uci_interface_lines.proofs.Kept.{tokens_prefix}
@@ -109,7 +109,7 @@ number_reported f h (Some n) more e s w k = taken f (record f { number = Some n 
 unit_tokens : (unit t more : List ℕ) → is_token unit ≡ true → is_token t ≡ true → BeginsWhite more → tokens (codes " score " ++ (unit ++ (32 ∷ (t ++ more)))) ≡ codes "score" ∷ unit ∷ t ∷ tokens more
 unit_tokens unit t more h k w = tokens_prefix (codes "score") (32 ∷ (unit ++ (32 ∷ (t ++ more)))) refl refl ∙ ap (λ ts. codes "score" ∷ ts) (two_tokens unit t more h k w)
 
-score_reported : (f h : AnyInfo) (s : Option Score) (more : List ℕ) → f.score ≡ None → IfSome s IsCentis → BeginsWhite more → ReportsFacts (record f { score = s }) (tokens more) h → ReportsFacts f (tokens (score_text s ++ more)) h
+score_reported : (f h : AnyInfo) (s : Option Score) (more : List ℕ) → f.score ≡ None → IfSome s IsCentis → BeginsWhite more → ReportsFacts (record f { score = s }) (tokens more) h → ReportsFacts f (tokens (said_score_text s ++ more)) h
 score_reported f h None more e s w k = subst (λ (o : Option Score). ReportsFacts (record f { score = o }) (tokens more) h) (sym e) k
 score_reported f h (Some (Cp n)) more e s w k = taken f (record f { score = Some (Cp n) }) h more _ _ (unit_tokens (codes "cp") (signed_decimal n) more refl (centis_token n s) w) (FieldTakesValue.Centipawns (centis_decimal_read n s)) k
 score_reported f h (Some (Mate n)) more e s w k = taken f (record f { score = Some (Mate n) }) h more _ _ (unit_tokens (codes "mate") (signed_decimal n) more refl (centis_token n s) w) (FieldTakesValue.ToMate (centis_decimal_read n s)) k
@@ -152,7 +152,7 @@ bound_white : (b : Bool) (more : List ℕ) → BeginsWhite more → BeginsWhite 
 bound_white false more w = w
 bound_white true more w = refl
 
-score_white : (s : Option Score) (more : List ℕ) → BeginsWhite more → BeginsWhite (score_text s ++ more)
+score_white : (s : Option Score) (more : List ℕ) → BeginsWhite more → BeginsWhite (said_score_text s ++ more)
 score_white None more w = w
 score_white (Some (Cp n)) more w = refl
 score_white (Some (Mate n)) more w = refl
@@ -163,7 +163,7 @@ number_white word (Some n) more w = refl
 
 -- the fields behind `info`, one by one
 unfoldable pub behind_counts : AnyInfo → List ℕ
-behind_counts f = score_text f.score ++ (bound_text f.bound ++ (move_after_word (codes " currmove ") f.current ++ pv_text f.pv))
+behind_counts f = said_score_text f.score ++ (bound_text f.bound ++ (move_after_word (codes " currmove ") f.current ++ pv_text f.pv))
 
 unfoldable pub behind_info : AnyInfo → List ℕ
 behind_info f =

@@ -17,7 +17,7 @@ use Rattle.uci_lines.specs.Scores.{IsCentis}
 use Rattle.uci_lines.specs.Info.{Info as AnyInfo}
 use Rattle.uci_lines.specs.Messages.{OptionKind, Check, Spin, Combo, Button, Text, EngineMsg, Name, UciOk, ReadyOk, Best, OptionLine, Info, Nothing}
 use Rattle.uci_lines.specs.Spells.{Behind, HasShape, Declares, ReportsFacts, FirstKnownWordIs, SpellsMessage}
-use Rattle.uci_interface_lines.specs.Said.{spaced_text, score_text, bound_text, move_after_word, each_move, pv_text, true_or_false, empty_or, shape_text, bestmove_text, said_text}
+use Rattle.uci_interface_lines.specs.Said.{spaced_text, said_score_text, bound_text, move_after_word, each_move, pv_text, true_or_false, empty_or, shape_text, bestmove_text, said_text}
 use Rattle.uci_interface_lines.specs.Again.{TextsFitTheLine}
 use Rattle.protocol_tokens.proofs.Lengths.{trimmed_length, rest_length}
 use Rattle.uci_lines.proofs.TextLengths.{count_length}
@@ -102,7 +102,7 @@ number_length : (word : List ℕ) (n : Option ℕ) → is_small n → length (op
 number_length word None h = omega arith
 number_length word (Some n) h = omega (arith, count_length n h, length-append word (decimal n))
 
-score_length : (s : Option Score) → IfSome s IsCentis → length (score_text s) ≤ 31
+score_length : (s : Option Score) → IfSome s IsCentis → length (said_score_text s) ≤ 31
 score_length None h = omega arith
 score_length (Some (Cp n)) h = omega (arith, signed_length n (omega (arith, h)))
 score_length (Some (Mate n)) h = omega (arith, signed_length n (omega (arith, h)))

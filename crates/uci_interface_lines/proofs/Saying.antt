@@ -3,18 +3,17 @@ use Rattle.std.proofs.Common.{◌≡◌, ◌⊎◌, inl, inr, ℕ, List, [], ◌
 use Rattle.std.specs.Prelude.{◌↔◌, Result, Ok, Err}
 use Rattle.std.specs.List.{list_all}
 use Rattle.chess_board.specs.declared.board.Move.{Move}
+use Rattle.chess_board.specs.declared.board.Variant.{Variant}
 use Rattle.chess_board.specs.Position.{Position}
 use Rattle.chess_board.specs.Place.{legal}
-use Rattle.chess_board.specs.Play.{start_position}
 use Rattle.chess_board.specs.Text.{SpellsMove}
 use Rattle.chess_board.specs.Spelling.{move_spelled_by}
 use Rattle.chess_board.proofs.Spelled.{move_spells, spells_move}
 use Rattle.fen_text.specs.declared.fault.FenFault.{FenFault}
-use Rattle.fen_text.specs.Fen.{position_of_fields}
 use Rattle.uci_lines.specs.Cuts.{is_word}
 use Rattle.uci_lines.specs.Spells.{IsNoneOf}
 use Rattle.uci_lines.proofs.Counts.{same_text}
-use Rattle.uci_interface_lines.specs.Lines.{Line, position_after_spoken_move, played_if_legal, position_after_texts, is_moves_token, before_moves, behind_moves, if_right, standard_if_alone, start_position_in, line_to, line_from, line_in}
+use Rattle.uci_interface_lines.specs.Lines.{Line, position_after_spoken_move, played_if_legal, position_after_texts, is_moves_token, before_moves, behind_moves, if_right, variant_start, position_in_fields, start_if_alone, start_position_by, line_to, line_from, line_in_variant}
 use Rattle.uci_interface_lines.specs.Speaks.{Leads, Starts, Speaks}
 use Rattle.uci_interface_lines.proofs.Cuts.{before_at, before_none, behind_at, behind_none}
 use Rattle.chess_board.proofs.LegalMoves.{is_legal, legal_is}
@@ -44,35 +43,35 @@ leads_led p _ q (Leads.Goes {t = t} {ts = ts} m s l h) =
 
 -- THE START
 
-alone_starts : (ts : List (List ℕ)) (p : Position) → standard_if_alone ts ≡ Some p → Starts (codes "startpos" ∷ ts) p
-alone_starts [] p h = let same : start_position ≡ p = cc in subst (λ (r : Position). Starts (codes "startpos" ∷ []) r) same Starts.Standard
-alone_starts (t ∷ ts) p h = absurd (cc)
+alone_starts : (v : Variant) (ts : List (List ℕ)) (p : Position) → start_if_alone v ts ≡ Some p → Starts v (codes "startpos" ∷ ts) p
+alone_starts v [] p h = let same : variant_start v ≡ p = cc in subst (λ (r : Position). Starts v (codes "startpos" ∷ []) r) same Starts.Standard
+alone_starts v (t ∷ ts) p h = absurd (cc)
 
 right_is : (r : Result Position FenFault) (p : Position) → if_right r ≡ Some p → r ≡ Ok p
 right_is (Ok q) p h = let same : q ≡ p = cc in ap Ok same
 right_is (Err fault) p h = absurd (cc)
 
-set_up_starts : (b : Bool) (ts : List (List ℕ)) (t : List ℕ) (p : Position) → is_word (codes "fen") t ≡ b → cond b (if_right (position_of_fields ts)) None ≡ Some p → Starts (t ∷ ts) p
-set_up_starts true ts t p e h = subst (λ (w : List ℕ). Starts (w ∷ ts) p) (sym (same_text t (codes "fen") e)) (Starts.SetUp (right_is (position_of_fields ts) p h))
-set_up_starts false ts t p e h = absurd (cc)
+set_up_starts : (v : Variant) (b : Bool) (ts : List (List ℕ)) (t : List ℕ) (p : Position) → is_word (codes "fen") t ≡ b → cond b (if_right (position_in_fields v ts)) None ≡ Some p → Starts v (t ∷ ts) p
+set_up_starts v true ts t p e h = subst (λ (w : List ℕ). Starts v (w ∷ ts) p) (sym (same_text t (codes "fen") e)) (Starts.SetUp (right_is (position_in_fields v ts) p h))
+set_up_starts v false ts t p e h = absurd (cc)
 
-word_starts : (b : Bool) (ts : List (List ℕ)) (t : List ℕ) (p : Position) → is_word (codes "startpos") t ≡ b
-    → cond b (standard_if_alone ts) (cond (is_word (codes "fen") t) (if_right (position_of_fields ts)) None) ≡ Some p → Starts (t ∷ ts) p
-word_starts true ts t p e h = subst (λ (w : List ℕ). Starts (w ∷ ts) p) (sym (same_text t (codes "startpos") e)) (alone_starts ts p h)
-word_starts false ts t p e h = set_up_starts (is_word (codes "fen") t) ts t p refl h
+word_starts : (v : Variant) (b : Bool) (ts : List (List ℕ)) (t : List ℕ) (p : Position) → is_word (codes "startpos") t ≡ b
+    → cond b (start_if_alone v ts) (cond (is_word (codes "fen") t) (if_right (position_in_fields v ts)) None) ≡ Some p → Starts v (t ∷ ts) p
+word_starts v true ts t p e h = subst (λ (w : List ℕ). Starts v (w ∷ ts) p) (sym (same_text t (codes "startpos") e)) (alone_starts v ts p h)
+word_starts v false ts t p e h = set_up_starts v (is_word (codes "fen") t) ts t p refl h
 
-start_starts : (ts : List (List ℕ)) (p : Position) → start_position_in ts ≡ Some p → Starts ts p
-start_starts [] p h = absurd (cc)
-start_starts (t ∷ ts) p h = word_starts (is_word (codes "startpos") t) ts t p refl h
+start_starts : (v : Variant) (ts : List (List ℕ)) (p : Position) → start_position_by v ts ≡ Some p → Starts v ts p
+start_starts v [] p h = absurd (cc)
+start_starts v (t ∷ ts) p h = word_starts v (is_word (codes "startpos") t) ts t p refl h
 
-starts_start : (ts : List (List ℕ)) (p : Position) → Starts ts p → start_position_in ts ≡ Some p
-starts_start _ _ Starts.Standard = refl
-starts_start _ p (Starts.SetUp e) = ap if_right e
+starts_start : (v : Variant) (ts : List (List ℕ)) (p : Position) → Starts v ts p → start_position_by v ts ≡ Some p
+starts_start v _ _ Starts.Standard = refl
+starts_start v _ p (Starts.SetUp e) = ap if_right e
 
 -- `moves` is no part of a start
-starts_none : (ts : List (List ℕ)) (p : Position) → Starts ts p → IsNoneOf is_moves_token ts
-starts_none _ _ Starts.Standard = refl
-starts_none _ p (Starts.SetUp {fields = fields} e) = fields_none fields p e
+starts_none : (v : Variant) (ts : List (List ℕ)) (p : Position) → Starts v ts p → IsNoneOf is_moves_token ts
+starts_none v _ _ Starts.Standard = refl
+starts_none v _ p (Starts.SetUp {fields = fields} e) = fields_none v fields p e
 
 -- THE LINE
 
@@ -112,13 +111,13 @@ parts_from : (start : Option Position) (moves : List (List ℕ)) (said : Line) �
 parts_from None moves said h = absurd (cc)
 parts_from (Some p) moves said h = parts_to p moves (position_after_texts moves (Some p)) said refl h
 
-pub line_speaks : (ts : List (List ℕ)) (said : Line) → line_in ts ≡ Some said → Speaks ts said
-line_speaks ts said h =
-    let k = parts_from (start_position_in (before_moves ts)) (behind_moves ts) said h in
+pub line_speaks : (v : Variant) (ts : List (List ℕ)) (said : Line) → line_in_variant v ts ≡ Some said → Speaks v ts said
+line_speaks v ts said h =
+    let k = parts_from (start_position_by v (before_moves ts)) (behind_moves ts) said h in
     let leads = subst (λ (ms : List (List ℕ)). Leads said.start ms said.end) k.moves_are (led_leads (behind_moves ts) said.start said.end k.led_to) in
     record {
       first = before_moves ts;
-      starts = start_starts (before_moves ts) said.start k.start_is;
+      starts = start_starts v (before_moves ts) said.start k.start_is;
       leads = leads;
       whole = subst (λ (ms : List (List ℕ)). (ts ≡ before_moves ts ++ (codes "moves" ∷ ms)) ⊎ ((ts ≡ before_moves ts) × (ms ≡ []))) k.moves_are (whole ts);
     }
@@ -138,13 +137,13 @@ split_by ts first moves n (inr h) = record {
   behind_is = ap behind_moves h.0 ∙ behind_none first n ∙ sym h.1;
 }
 
-pub speaks_line : (ts : List (List ℕ)) (said : Line) → Speaks ts said → line_in ts ≡ Some said
-speaks_line ts said s =
-    let k = split_by ts s.first said.moves (starts_none s.first said.start s.starts) s.whole in
-    ap (λ us. line_from (start_position_in us) (behind_moves ts)) k.before_is
-    ∙ ap (λ us. line_from (start_position_in s.first) us) k.behind_is
-    ∙ ap (λ o. line_from o said.moves) (starts_start s.first said.start s.starts)
+pub speaks_line : (v : Variant) (ts : List (List ℕ)) (said : Line) → Speaks v ts said → line_in_variant v ts ≡ Some said
+speaks_line v ts said s =
+    let k = split_by ts s.first said.moves (starts_none v s.first said.start s.starts) s.whole in
+    ap (λ us. line_from (start_position_by v us) (behind_moves ts)) k.before_is
+    ∙ ap (λ us. line_from (start_position_by v s.first) us) k.behind_is
+    ∙ ap (λ o. line_from o said.moves) (starts_start v s.first said.start s.starts)
     ∙ ap (line_to said.start said.moves) (leads_led said.start said.moves said.end s.leads)
 
-pub says_position : (ts : List (List ℕ)) (said : Line) → (line_in ts ≡ Some said) ↔ Speaks ts said
-says_position ts said = (line_speaks ts said, speaks_line ts said)
+pub says_position : (v : Variant) (ts : List (List ℕ)) (said : Line) → (line_in_variant v ts ≡ Some said) ↔ Speaks v ts said
+says_position v ts said = (line_speaks v ts said, speaks_line v ts said)

@@ -3,12 +3,14 @@ use Rattle.std.specs.Prelude.{ℕ, List, [], ◌∷◌, drop, codes, Bool, if◌
 use Rattle.std.specs.Prelude.{Option, Some, None, Result, Ok, Err}
 use Rattle.protocol_tokens.specs.Tokens.{tokens}
 use Rattle.chess_board.specs.declared.board.Move.{Move}
+use Rattle.chess_board.specs.declared.board.Variant.{Variant}
+use Rattle.chess_board.specs.declared.board.Variant.TheVariants.{Normal, Fischer}
 use Rattle.chess_board.specs.Position.{Position}
-use Rattle.chess_board.specs.Play.{start_position, position_after}
+use Rattle.chess_board.specs.Play.{start_position, fischer_start_position, position_after}
 use Rattle.chess_board.specs.Place.{legal}
 use Rattle.chess_board.specs.Spelling.{move_spelled_by}
 use Rattle.fen_text.specs.declared.fault.FenFault.{FenFault}
-use Rattle.fen_text.specs.Fen.{position_of_fields}
+use Rattle.fen_text.specs.Fen.{position_of_fields, position_of_fields_by}
 use Rattle.uci_lines.specs.Cuts.{Found, is_word}
 
 -- the position before the moves, the texts of the moves, and the position after them
@@ -52,16 +54,33 @@ abbrev pub if_right : Result Position FenFault → Option Position
 if_right (Ok p) = Some p
 if_right (Err fault) = None
 
-abbrev pub standard_if_alone : List (List ℕ) → Option Position
-standard_if_alone [] = Some start_position
-standard_if_alone (t ∷ ts) = None
+-- the start of a variant
+abbrev pub variant_start : Variant → Position
+variant_start Normal = start_position
+variant_start Fischer = fischer_start_position
 
--- `startpos`, or `fen` and the fields of a position
+-- the position of a variant that these fields spell
+abbrev pub position_in_fields : Variant → List (List ℕ) → Result Position FenFault
+position_in_fields Normal fields = position_of_fields fields
+position_in_fields Fischer fields = position_of_fields_by Fischer fields
+
+abbrev pub start_if_alone : Variant → List (List ℕ) → Option Position
+start_if_alone variant [] = Some (variant_start variant)
+start_if_alone variant (t ∷ ts) = None
+
+-- `startpos`, or `fen` and the fields of a position of the variant
+abbrev pub start_position_by : Variant → List (List ℕ) → Option Position
+start_position_by variant [] = None
+start_position_by variant (t ∷ ts) =
+    if is_word (codes "startpos") t then start_if_alone variant ts
+    else (if is_word (codes "fen") t then if_right (position_in_fields variant ts) else None)
+
+-- the same in normal chess
+abbrev pub standard_if_alone : List (List ℕ) → Option Position
+standard_if_alone ts = start_if_alone Normal ts
+
 abbrev pub start_position_in : List (List ℕ) → Option Position
-start_position_in [] = None
-start_position_in (t ∷ ts) =
-    if is_word (codes "startpos") t then standard_if_alone ts
-    else (if is_word (codes "fen") t then if_right (position_of_fields ts) else None)
+start_position_in ts = start_position_by Normal ts
 
 abbrev pub line_to : Position → List (List ℕ) → Option Position → Option Line
 line_to p moves None = None
@@ -71,10 +90,17 @@ abbrev pub line_from : Option Position → List (List ℕ) → Option Line
 line_from None moves = None
 line_from (Some p) moves = line_to p moves (position_after_texts moves (Some p))
 
--- the meaning of the tokens after `position`
-abbrev pub line_in : List (List ℕ) → Option Line
-line_in ts = line_from (start_position_in (before_moves ts)) (behind_moves ts)
+-- the meaning of the tokens after `position`, by the rules of a variant
+abbrev pub line_in_variant : Variant → List (List ℕ) → Option Line
+line_in_variant variant ts = line_from (start_position_by variant (before_moves ts)) (behind_moves ts)
 
--- the meaning of a `position` line, or nothing if it cannot be read
+abbrev pub line_in : List (List ℕ) → Option Line
+line_in ts = line_in_variant Normal ts
+
+-- the meaning of a `position` line by the rules of a variant, or nothing if it cannot be read
+unfoldable pub position_line_by : Variant → List ℕ → Option Line
+position_line_by variant line = line_in_variant variant (drop 1 (tokens line))
+
+-- the same in normal chess
 unfoldable pub position_line_in : List ℕ → Option Line
 position_line_in line = line_in (drop 1 (tokens line))

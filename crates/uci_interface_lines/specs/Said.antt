@@ -18,10 +18,10 @@ abbrev pub spaced_text : List ℕ → List ℕ
 spaced_text [] = []
 spaced_text (b ∷ bs) = blank ∷ b ∷ bs
 
-abbrev pub score_text : Option Score → List ℕ
-score_text None = []
-score_text (Some (Cp n)) = codes " score cp " ++ signed_decimal n
-score_text (Some (Mate n)) = codes " score mate " ++ signed_decimal n
+abbrev pub said_score_text : Option Score → List ℕ
+said_score_text None = []
+said_score_text (Some (Cp n)) = codes " score cp " ++ signed_decimal n
+said_score_text (Some (Mate n)) = codes " score mate " ++ signed_decimal n
 
 abbrev pub bound_text : Bool → List ℕ
 bound_text false = []
@@ -49,7 +49,7 @@ counts_text f =
 
 unfoldable pub facts_text : AnyInfo → List ℕ
 facts_text f =
-    codes "info" ++ counts_text f ++ score_text f.score ++ bound_text f.bound
+    codes "info" ++ counts_text f ++ said_score_text f.score ++ bound_text f.bound
     ++ move_after_word (codes " currmove ") f.current ++ pv_text f.pv
 
 -- each value after `var`

@@ -7,7 +7,7 @@ ghost use Rattle.chess_board.specs.Text.{text_of_move, IsOfficer};
 ghost use Rattle.uci_lines.specs.Moves.{longest_move_run};
 ghost use Rattle.uci_lines.specs.Orders.{optional_number};
 ghost use Rattle.uci_lines.specs.Choices.{values};
-ghost use Rattle.uci_interface_lines.specs.Said.{spaced_text, score_text, bound_text, move_after_word, each_move, pv_text, counts_text, facts_text, each_value, true_or_false, empty_or, check_text, range_text, spin_text, combo_text, string_text, shape_text, option_text, bestmove_text, said_text};
+ghost use Rattle.uci_interface_lines.specs.Said.{spaced_text, said_score_text, bound_text, move_after_word, each_move, pv_text, counts_text, facts_text, each_value, true_or_false, empty_or, check_text, range_text, spin_text, combo_text, string_text, shape_text, option_text, bestmove_text, said_text};
 ghost use Rattle.uci_lines.specs.Writable.{can_write, CanWriteEngineMsg};
 ghost use Rattle.uci_lines.specs.Info.{info_of};
 ghost use Rattle.uci_lines.specs.Messages.{option_kind_of, uci_message_of};
@@ -48,8 +48,8 @@ fn put_count(word: &[u8], n: Option<u64>, out: &mut Out)
 }
 
 fn put_score(score: Option<Score>, out: &mut Out)
-    requires { length out.old.text + length (score_text score) ≤ out.old.room }
-    ensures { out.new ≡ with out.old (score_text score) }
+    requires { length out.old.text + length (said_score_text score) ≤ out.old.room }
+    ensures { out.new ≡ with out.old (said_score_text score) }
 {
     match score {
         Some(Score::Cp(n)) => put_signed(b" score cp ", &n, out),

@@ -2,7 +2,8 @@
 //! orders as any interface may spell them, the kind of a `go` and what a `position` line says. `uci_lines` is the
 //! bridge's side: it reads what an engine says, and writes and reads orders in one spelling.
 //!
-//! `spoken` reads a `position` line if and only if it says a position and moves that are legal in their turn.
+//! `spoken` reads a `position` line if and only if it says a position and moves that are legal in their turn, and
+//! `spoken_by` does so by the rules of a variant.
 //! `go_kind` tells the kind of a `go` by its tokens, wherever they stand. What `write_engine` writes of a message
 //! that some line spells is read by `read_engine` as that message, and is at most 256 bytes longer than that line.
 //!
@@ -36,4 +37,4 @@ pub use kind::go_kind;
 pub use laws::{written_messages_are_read_again, written_messages_fit_the_line};
 pub use line::Spoken;
 pub use moves::play_all;
-pub use read::spoken;
+pub use read::{spoken, spoken_by};

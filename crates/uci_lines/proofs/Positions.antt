@@ -9,10 +9,9 @@ use Rattle.chess_board.specs.Spelling.{move_spelled_by}
 use Rattle.std.specs.Str.{bytes_eq}
 use Rattle.std.proofs.lemmas.Bool.{and_parts}
 use Rattle.chess_board.specs.Position.{Position as AnyPosition}
-use Rattle.chess_board.specs.Play.{IsPosition}
 use Rattle.fen_text.specs.declared.fault.FenFault.{FenFault}
 use Rattle.fen_text.specs.Fen.{position_of}
-use Rattle.fen_text.specs.Written.{position_fen, fields_text}
+use Rattle.fen_text.specs.Written.{position_fen, fields_text, IsNormal}
 use Rattle.fen_text.proofs.Cut.{Above, IsWord}
 use Rattle.fen_text.proofs.Boards.{word-board}
 use Rattle.fen_text.proofs.Others.{word-side, word-rights, word-passant, word-count}
@@ -174,9 +173,10 @@ position_again (Some fen) moves s h =
     ∙ ap (λ t. cond t (position_order_from (Some fen) (moves_in (order_moves_text moves))) None) s
     ∙ ap (position_order_from (Some fen)) (moves_again moves h)
 
--- The text of every position may stand in an order.
-pub written_fits : (p : AnyPosition) → IsPosition p → is_fen (position_fen p) ≡ true
-written_fits p q =
+-- The text of every position of normal chess may stand in an order.
+pub written_fits : (p : AnyPosition) → IsNormal p → is_fen (position_fen p) ≡ true
+written_fits p n =
+    let q = n.0 in
     let half : leb p.half 99999 ≡ true = le-leb p.half 99999 q.half in
     let full : leb p.full 99999 ≡ true = le-leb p.full 99999 q.full.1 in
-    ap (λ r. fen_by r (position_fen p)) (reads_back p q) ∙ rw (text_same (position_fen p) (position_fen p) refl, half, full) refl
+    ap (λ r. fen_by r (position_fen p)) (reads_back p n) ∙ rw (text_same (position_fen p) (position_fen p) refl, half, full) refl

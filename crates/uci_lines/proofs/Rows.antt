@@ -8,7 +8,7 @@ use Rattle.uci_lines.specs.Choices.{values, before_choice, choice_text}
 use Rattle.chess_board.specs.Spelling.{move_spelled_by}
 use Rattle.uci_lines.specs.Options.{is_on, range_from, no_range, spin, spin_in, option_text_shown, text_after, shape_named, uci_option_line, option_with, option_said}
 use Rattle.uci_lines.specs.Infos.{no_facts, facts_in}
-use Rattle.uci_lines.specs.Engine.{name_said, hint_in_bestmove, best_said, said_after, answer_after, answer_text, found_message, engine_message}
+use Rattle.uci_lines.specs.Engine.{name_said, hint_in_bestmove, best_said, said_after, behind_bestmove, answer_text, found_message, engine_message}
 use Rattle.uci_lines.specs.Messages.{OptionKind, Check, Spin, Combo, Button, Text, EngineMsg, Name, UciOk, ReadyOk, Best, OptionLine, Info, Nothing}
 use Rattle.uci_lines.specs.Spells.{FirstTokenPasses, PerhapsMove, UpToChoice, HasShape, Declares, FirstKnownWordIs, HasForm, SpellsMessage, SpellsOneEngineMessage}
 use Rattle.uci_lines.proofs.Counts.{same_text}
@@ -83,7 +83,7 @@ begun line word text b =
 pub answer_is : (line text : List ℕ) → FirstKnownWordIs line (codes "bestmove") text → answer_text line ≡ first_token text
 unfolding answer_text
 answer_is line text b =
-    ap answer_after (first_cut is_known line b.0 refl b.1) ∙ ap (λ w. cond (is_word (codes "bestmove") w) (first_token (b.0).after) []) b.2 ∙ ap first_token b.3
+    ap behind_bestmove (first_cut is_known line b.0 refl b.1) ∙ ap (λ w. cond (is_word (codes "bestmove") w) (first_token (b.0).after) []) b.2 ∙ ap first_token b.3
 
 name_is : (text : List ℕ) (t : List ℕ) → first_token text ≡ codes "name" → t ≡ rest_after_token text → name_said text ≡ Name t
 name_is text t e f = ap (λ w. cond (is_word (codes "name") w) (Name (rest_after_token text)) Nothing) e ∙ ap (λ r. Name r) (sym f)

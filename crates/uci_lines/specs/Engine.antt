@@ -24,13 +24,13 @@ best_said text =
     (hint_in_bestmove (found_token (is_word (codes "ponder")) true (rest_after_token text)))
 
 -- the token behind `bestmove`, whatever it spells
-abbrev pub answer_after : Option Found → List ℕ
-answer_after None = []
-answer_after (Some part) =
+abbrev pub behind_bestmove : Option Found → List ℕ
+behind_bestmove None = []
+behind_bestmove (Some part) =
     if is_word (codes "bestmove") part.word then first_token part.after else []
 
 unfoldable pub answer_text : List ℕ → List ℕ
-answer_text line = answer_after (found_token is_known true line)
+answer_text line = behind_bestmove (found_token is_known true line)
 
 -- a known word, with what follows it
 abbrev pub said_after : List ℕ → List ℕ → EngineMsg

@@ -3,8 +3,7 @@ use Rattle.std.specs.Prelude.{◌≡◌, ℕ, List, [], ◌∷◌, ◌++◌, cod
 use Rattle.std.specs.Prelude.{false, not, ◌&&◌, if◌then◌else◌, Option, Some, None}
 use Rattle.std.specs.Str.{bytes_eq}
 use Rattle.chess_board.specs.Position.{Position as AnyPosition}
-use Rattle.chess_board.specs.Play.{IsPosition}
-use Rattle.fen_text.specs.Written.{position_fen}
+use Rattle.fen_text.specs.Written.{position_fen, IsNormal}
 use Rattle.uci_lines.specs.declared.orders.GoControl.{GoControl}
 use Rattle.uci_lines.specs.declared.orders.GoControl.TheVariants.{Infinite, MoveTime, Clock}
 use Rattle.uci_lines.specs.Behind.{after, number_behind, perhaps_number}
@@ -183,4 +182,4 @@ pub record SpellsOrder (line : List ℕ) (order : Order) : Type 0 where
 
 -- The text of every position may stand in an order.
 abbrev pub TakesPositions : Type 0
-TakesPositions = (p : AnyPosition) → IsPosition p → is_fen (position_fen p) ≡ true
+TakesPositions = (p : AnyPosition) → IsNormal p → is_fen (position_fen p) ≡ true

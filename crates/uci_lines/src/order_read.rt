@@ -219,7 +219,7 @@ pub fn read_order(line: &[u8]) -> Result<Order<'_>, BadOrder>
     order_in(line).ok_or(BadOrder)
 }
 
-/// The text of every position may stand in an order.
+/// The text of every position of normal chess may stand in an order.
 pub fn positions_may_stand()
     ensures { TakesPositions }
 {}

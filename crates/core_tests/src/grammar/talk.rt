@@ -1,8 +1,9 @@
 // Orders as interfaces spell them.
 use crate::expect::expect;
+use chess_board::Variant;
 use fen_text::write_fen;
 use protocol_tokens::GoKind;
-use uci_interface_lines::{go_kind, spoken};
+use uci_interface_lines::{Spoken, go_kind, spoken, spoken_by};
 
 const START: &str = "rnbqkbnr/pppppppp/8/8/8/8/PPPPPPPP/RNBQKBNR w KQkq - 0 1";
 
@@ -54,9 +55,39 @@ const NO_POSITIONS: [&str; 7] = [
     "position fen moves e2e4",
 ];
 
-/// True if a line is read as these moves, and as the position after them.
-fn is_spoken(line: &str, moves: &str, end: &str) -> bool {
-    match spoken(line.as_bytes()) {
+// The same by the rules of Chess960.
+const CHESS960_POSITIONS: [SpokenRow; 4] = [
+    (
+        "position startpos",
+        "",
+        "rnbqkbnr/pppppppp/8/8/8/8/PPPPPPPP/RNBQKBNR w HAha - 0 1",
+    ),
+    (
+        "position fen 4k3/8/8/8/8/8/8/4K2R w K - 0 1 moves e1h1",
+        "e1h1",
+        "4k3/8/8/8/8/8/8/5RK1 b - - 1 1",
+    ),
+    (
+        "position fen 1k6/8/8/8/8/8/8/RK6 w A - 0 1 moves b1a1",
+        "b1a1",
+        "1k6/8/8/8/8/8/8/2KR4 b - - 1 1",
+    ),
+    (
+        "position fen 1k6/8/8/8/8/8/8/1K1RR3 w D -",
+        "",
+        "1k6/8/8/8/8/8/8/1K1RR3 w D - 0 1",
+    ),
+];
+
+const NO_CHESS960_POSITIONS: [&str; 3] = [
+    "position startpos e2e4",
+    "position fen 4k3/8/8/8/8/8/8/4K2R w K - 0 1 moves e1g1",
+    "position fen 1k6/8/8/8/8/8/8/1K1RR3 w DE -",
+];
+
+/// True if a line was read as these moves, and as the position after them.
+fn is_read_as(spoken: Option<Spoken<'_>>, moves: &str, end: &str) -> bool {
+    match spoken {
         Some(said) => {
             said.moves == moves.as_bytes() && write_fen(&said.end).as_slice() == end.as_bytes()
         }
@@ -74,7 +105,21 @@ fn kinds_of_searches(rt: HostRuntime) {
 #[test]
 fn positions_that_can_be_read(rt: HostRuntime) {
     for (line, moves, end) in &POSITIONS {
-        expect(&rt, is_spoken(line, moves, end), line);
+        expect(&rt, is_read_as(spoken(line.as_bytes()), moves, end), line);
+        let said = spoken_by(Variant::Normal, line.as_bytes());
+        expect(&rt, is_read_as(said, moves, end), line);
+    }
+}
+
+#[test]
+fn positions_of_chess960(rt: HostRuntime) {
+    for (line, moves, end) in &CHESS960_POSITIONS {
+        let said = spoken_by(Variant::Fischer, line.as_bytes());
+        expect(&rt, is_read_as(said, moves, end), line);
+    }
+    for line in &NO_CHESS960_POSITIONS {
+        let said = spoken_by(Variant::Fischer, line.as_bytes());
+        expect(&rt, said.is_none(), line);
     }
 }
 

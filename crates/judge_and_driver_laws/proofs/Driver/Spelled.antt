@@ -9,11 +9,10 @@ use Rattle.std.proofs.lemmas.Bool.Decides.{nat_tests}
 use Rattle.std.proofs.Math.Seq.{take-append_seam}
 use Rattle.chess_board.specs.declared.board.Move.{Move}
 use Rattle.chess_board.specs.Position.{Position}
-use Rattle.chess_board.specs.Play.{IsPosition}
 use Rattle.chess_board.specs.Text.{text_of_move, IsOfficer}
 use Rattle.chess_board.proofs.Texts.{reads-back}
 use Rattle.fen_text.specs.Fen.{position_of, position_of_fields}
-use Rattle.fen_text.specs.Written.{position_fen}
+use Rattle.fen_text.specs.Written.{position_fen, IsNormal}
 use Rattle.fen_text.proofs.Back.{reads_back}
 use Rattle.game_record.specs.Game.{Ply, with_ply}
 use Rattle.game_record.specs.Line.{ply_text}
@@ -137,11 +136,11 @@ level_cecp k s i h = (
 
 -- A POSITION
 
-board_read : (p : Position) → IsPosition p → position_of (trimmed (position_fen p)) ≡ Ok p
+board_read : (p : Position) → IsNormal p → position_of (trimmed (position_fen p)) ≡ Ok p
 unfolding position_of
 board_read p h = ap (λ (ts : List (List ℕ)). position_of_fields ts) (tokens_trimmed (position_fen p)) ∙ reads_back p h
 
-board_cecp : (p : Position) → IsPosition p → (msg : IfaceMsg) × IsCecp (SetBoard p) msg
+board_cecp : (p : Position) → IsNormal p → (msg : IfaceMsg) × IsCecp (SetBoard p) msg
 board_cecp p h =
     let read = board_read p h in (
       says.SetBoard (trimmed (position_fen p)),

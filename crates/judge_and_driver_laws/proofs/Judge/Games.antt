@@ -6,12 +6,13 @@ use Rattle.std.proofs.lemmas.Bool.{and_parts}
 use Rattle.protocol_tokens.specs.Tokens.{is_white, is_token, tokens}
 use Rattle.protocol_tokens.proofs.TokenLists.{tokens_more, tokens_joined}
 use Rattle.chess_board.specs.declared.board.Move.{Move}
+use Rattle.chess_board.specs.declared.board.Variant.TheVariants.{Normal}
 use Rattle.chess_board.specs.Position.{Position}
 use Rattle.chess_board.specs.Play.{IsPosition, start_position}
 use Rattle.chess_board.specs.Text.{text_of_move}
 use Rattle.chess_board.proofs.Texts.{legal-written, reads-back}
 use Rattle.fen_text.specs.Fen.{position_of, position_of_fields}
-use Rattle.fen_text.specs.Written.{position_fen, fields_text, board_text, side_text, rights_text, en_passant_text}
+use Rattle.fen_text.specs.Written.{position_fen, fields_text, board_text, side_text, rights_text, en_passant_text, IsNormal}
 use Rattle.fen_text.proofs.Cut.{Above, IsWord}
 use Rattle.fen_text.proofs.Boards.{word-board}
 use Rattle.fen_text.proofs.Others.{word-side, word-rights, word-passant, word-count}
@@ -55,9 +56,9 @@ field_words p q =
     let full : p.full < 2 ^ 64 = let f = q.full in omega arith in
     (word-board p.pieces, (word-side p.side, (word-rights p.rights, (word-passant p.passant, (word-count p.half half, (word-count p.full full, tt))))))
 
-fields_read : (p : Position) → IsPosition p → position_of_fields (fields_text p) ≡ Ok p
+fields_read : (p : Position) → IsNormal p → position_of_fields (fields_text p) ≡ Ok p
 unfolding position_fen position_of
-fields_read p q = ap position_of_fields (sym (tokens_joined (fields_text p) (words_tokens (fields_text p) (field_words p q)))) ∙ reads_back p q
+fields_read p q = ap position_of_fields (sym (tokens_joined (fields_text p) (words_tokens (fields_text p) (field_words p q.0)))) ∙ reads_back p q
 
 -- the texts of moves
 abbrev texts_of : List Move → List (List ℕ)
@@ -110,21 +111,21 @@ whole first (t ∷ ts) = inl refl
 abbrev said : Position → List Move → Line
 said p ms = record { start = p; moves = texts_of ms; end = now_after p (plies_of ms) }
 
-says_so : (p : Position) (ms : List Move) (first : List (List ℕ)) (line : List ℕ) → Starts first p → AreLegal p (plies_of ms) → drop 1 (tokens line) ≡ behind first (texts_of ms) → position_line_in line ≡ Some (said p ms)
+says_so : (p : Position) (ms : List Move) (first : List (List ℕ)) (line : List ℕ) → Starts Normal first p → AreLegal p (plies_of ms) → drop 1 (tokens line) ≡ behind first (texts_of ms) → position_line_in line ≡ Some (said p ms)
 unfolding position_line_in
 says_so p ms first line s l e =
-    speaks_line (drop 1 (tokens line)) (said p ms) (record {
+    speaks_line Normal (drop 1 (tokens line)) (said p ms) (record {
       first = first;
       starts = s;
       leads = leads p ms l;
       whole = subst (λ us. (us ≡ first ++ (codes "moves" ∷ texts_of ms)) ⊎ ((us ≡ first) × (texts_of ms ≡ []))) (sym e) (whole first (texts_of ms));
     })
 
-by_start : (b : Bool) (p : Position) (ms : List Move) → is_standard p ≡ b → IsPosition p → AreLegal p (plies_of ms) → position_line_in (uci_position_text (cond b None (Some (position_fen p))) (joined_moves (texts_of ms))) ≡ Some (said p ms)
+by_start : (b : Bool) (p : Position) (ms : List Move) → is_standard p ≡ b → IsNormal p → AreLegal p (plies_of ms) → position_line_in (uci_position_text (cond b None (Some (position_fen p))) (joined_moves (texts_of ms))) ≡ Some (said p ms)
 by_start true p ms e q l =
     let same : p ≡ start_position = (standard-law p).0 e in
-    says_so p ms (codes "startpos" ∷ []) _ (subst (λ x. Starts (codes "startpos" ∷ []) x) (sym same) Starts.Standard) l (standard_tokens (texts_of ms) (texts_tokens ms))
-by_start false p ms e q l = says_so p ms (codes "fen" ∷ fields_text p) _ (Starts.SetUp (fields_read p q)) l (set_up_tokens p q (texts_of ms) (texts_tokens ms))
+    says_so p ms (codes "startpos" ∷ []) _ (subst (λ x. Starts Normal (codes "startpos" ∷ []) x) (sym same) Starts.Standard) l (standard_tokens (texts_of ms) (texts_tokens ms))
+by_start false p ms e q l = says_so p ms (codes "fen" ∷ fields_text p) _ (Starts.SetUp (fields_read p q)) l (set_up_tokens p q.0 (texts_of ms) (texts_tokens ms))
 
 -- the line of a game leads to where it stands
 pub line_leads : (g : Game) → IsGame g → (said : Line) × (position_line_in (uci_position_text (start_of g.start) (join_with_byte 32 (map ply_text g.moves))) ≡ Some said) × (said.end ≡ current_position g)

@@ -71,14 +71,14 @@ abbrev pub bit_text : Bool → List ℕ
 bit_text true = codes "1"
 bit_text false = codes "0"
 
-abbrev pub spin_text : ℤ → ℤ → ℤ → List ℕ
-spin_text default min max =
+abbrev pub spin_feature_text : ℤ → ℤ → ℤ → List ℕ
+spin_feature_text default min max =
     codes " -spin " ++ signed_decimal default ++ codes " " ++ signed_decimal min ++ codes " "
     ++ signed_decimal max
 
 abbrev pub setting_kind_text : TextFeature → SettingKind → List ℕ
 setting_kind_text feature (Check on) = codes " -check " ++ bit_text on
-setting_kind_text feature (Spin default min max) = spin_text default min max
+setting_kind_text feature (Spin default min max) = spin_feature_text default min max
 setting_kind_text feature (Combo choices) = codes " -combo " ++ choices_text choices
 setting_kind_text feature Button = codes " -button"
 setting_kind_text feature (Text default) = text_word feature ++ default

@@ -3,7 +3,7 @@ ghost use Rattle.std.specs.Prelude.{◌≡◌, ◌≤◌, ◌+◌, length};
 ghost use Rattle.std.specs.Fmt.{signed_decimal};
 ghost use Rattle.line_io.specs.Out.{with};
 ghost use Rattle.option_map.specs.DeclaredOptions.Choices.{choices_text, choices_in, with_bars};
-ghost use Rattle.option_map.specs.DeclaredOptions.Settings.{setting_kind_text, feature_line, feature_text, spin_text, bit_text};
+ghost use Rattle.option_map.specs.DeclaredOptions.Settings.{setting_kind_text, feature_line, feature_text, spin_feature_text, bit_text};
 ghost use Rattle.option_map.specs.DeclaredOptions.Stored.{setting_seen, kind_seen};
 ghost use Rattle.std.specs.List.{flat_map};
 
@@ -21,9 +21,9 @@ fn put_number(n: i64, out: &mut Out)
 }
 
 fn put_spin(default: i64, min: i64, max: i64, out: &mut Out)
-    requires { length out.old.text + length (spin_text default min max) ≤
+    requires { length out.old.text + length (spin_feature_text default min max) ≤
         out.old.room }
-    ensures { out.new ≡ with out.old (spin_text default min max) }
+    ensures { out.new ≡ with out.old (spin_feature_text default min max) }
 {
     out.put(b" -spin ");
     put_number(default, out);

@@ -6,7 +6,7 @@ ghost use Rattle.uci_lines.specs.Choices.{values};
 ghost use Rattle.uci_lines.specs.Messages.{option_kind_of};
 ghost use Rattle.option_map.specs.DeclaredOptions.Names.{same_text};
 ghost use Rattle.option_map.specs.DeclaredOptions.Choices.{bars_length, are_bad_values, choices_text, with_star};
-ghost use Rattle.option_map.specs.DeclaredOptions.Settings.{if_within, setting_kind_text, shown_kind, shown_length, kept_as, spin_text, is_bad_shape};
+ghost use Rattle.option_map.specs.DeclaredOptions.Settings.{if_within, setting_kind_text, shown_kind, shown_length, kept_as, spin_feature_text, is_bad_shape};
 ghost use Rattle.option_map.specs.declared.declared_options.names.TheConstants.{MOST_OPTION_NAME};
 ghost use Rattle.option_map.specs.declared.declared_options.options.TheConstants.{FEATURE_BYTES};
 
@@ -72,7 +72,7 @@ pub(crate) fn number_length(n: i64) -> usize
 }
 
 fn spin_length(default: i64, min: i64, max: i64) -> usize
-    ensures { result ≡ length (spin_text default min max) }
+    ensures { result ≡ length (spin_feature_text default min max) }
 {
     9 + number_length(default) + number_length(min) + number_length(max)
 }

@@ -13,10 +13,10 @@ returns-in-None c =
 pub returns-in-Some : goal.returns-in-Some
 returns-in-Some c =
     let king = c.king_set-king.result in
-    ways_some c.args.setup.now c.in-Some.field-0-0 c.in-Some.kind c.args.from.index c.ways_of-ways.result c.side_set-own.result king c.without-others.result c.without.result
+    ways_some c.args.setup.now c.in-Some.field-0-0 c.in-Some.kind c.args.from.index c.ways_of-ways.result c.side_set-own.result king c.without-others.result c.without.result c.castling_squares.result
     (sym (ap (λ (p : Position). piece_at p.pieces c.args.from.index) c.setup.view_is) ∙ sym c.occupant.ensures ∙ c.in-Some.is)
     (subst (λ (p : Position). IsSetOf (form p.side c.in-Some.kind c.args.from.index) c.ways_of-ways.result) c.setup.view_is c.ways_of-ways.ensures)
     (subst (λ (p : Position). IsSetOf (λ s. is_of_side p.side (piece_at p.pieces s)) c.side_set-own.result) c.setup.view_is c.side_set-own.ensures.set)
     (subst (λ (p : Position). IsSetOf (λ s. is_king (other p.side) (piece_at p.pieces s)) king) c.setup.view_is
     (subst (λ (side : Side). IsSetOf (λ s. is_king side (piece_at c.setup.inside.board s)) king) c.other.ensures c.king_set-king.ensures.set))
-    c.without-others.ensures c.without.ensures
+    c.without-others.ensures c.without.ensures c.castling_squares.ensures

@@ -1,9 +1,10 @@
 -- The fields with a blank between.
-use Rattle.std.proofs.Common.{◌≡◌, List, ℕ, Option, decimal, ◌++◌, ◌∷◌, [], ap, ◌∙◌, append_assoc}
+use Rattle.std.proofs.Common.{◌≡◌, List, ℕ, Option, decimal, ◌++◌, ◌∷◌, [], ap, subst, sym, ◌∙◌, append_assoc}
 use Rattle.chess_board.specs.declared.board.Rights.{Rights}
-use Rattle.fen_text.specs.Fen.{position_of}
-use Rattle.fen_text.specs.Written.{position_fen, side_text, rights_text, en_passant_text}
-use Rattle.fen_text.proofs.Back.{reads_back}
+use Rattle.fen_text.specs.Fen.{position_of, position_by}
+use Rattle.fen_text.specs.Written.{position_fen, side_text, rights_text, en_passant_text, AreFiles}
+use Rattle.fen_text.proofs.Back.{reads_back, reads_back_by}
+use Rattle.fen_text.proofs.Others.{are_files}
 use Rattle.fen_text.proofs.write.write_fen.Goals as goal
 
 assembled : (b s r q h f t0 t1 t2 t3 t4 t5 t6 t7 t8 t9 t10 t11 : List ℕ) → t0 ≡ [] → t1 ≡ t0 ++ b → t2 ≡ t1 ++ 32 ∷ [] → t3 ≡ t2 ++ s → t4 ≡ t3 ++ 32 ∷ [] → t5 ≡ t4 ++ r → t6 ≡ t5 ++ 32 ∷ [] → t7 ≡ t6 ++ q → t8 ≡ t7 ++ 32 ∷ [] → t9 ≡ t8 ++ h → t10 ≡ t9 ++ 32 ∷ [] → t11 ≡ t10 ++ f →
@@ -22,4 +23,10 @@ returns-clause-text c =
     (c.write_count-2.ensures.text ∙ ap (λ n. c.push-6.new.self.items ++ decimal n) c.full.ensures)
 
 pub returns-clause-read_back : goal.returns-clause-read_back
-returns-clause-read_back c = ap position_of (returns-clause-text c) ∙ reads_back c.args.p.now c.facts.ensures.position
+returns-clause-read_back c normal = ap position_of (returns-clause-text c) ∙ reads_back c.args.p.now (c.facts.ensures.position, normal)
+
+pub returns-clause-read_back_by : goal.returns-clause-read_back_by
+returns-clause-read_back_by c = ap (position_by c.args.p.now.rights.variant) (returns-clause-text c) ∙ reads_back_by c.args.p.now c.facts.ensures.position
+
+pub write_rights-requires-clause-files : goal.write_rights-requires-clause-files
+write_rights-requires-clause-files c = subst AreFiles (sym c.rights.ensures) (are_files c.args.p.now c.facts.ensures.lawful)

@@ -51,7 +51,7 @@ returns-in-Ended-clause-causes g c =
     let new = reading_place c.take_lines.new.consumer c.take_lines.new.output (g.I.Source.state c.take_lines.new.input) in
     let taken : Taken does 131072 c.take_lines.result old new = subst (λ (k : ℕ). Taken does k c.take_lines.result old new) (ap (λ (h : Held). h.limit) c.requires.lines) c.take_lines.ensures in
     let t : Taken does 131072 ends.Ended old new = subst (λ (e : LinesEnd Ending). Taken does 131072 e old new) c.in-Ended.is taken in
-    causes_by means c.args.writer.now.line_filter t.pieces endings.Done c.end.result old.input new.input (see old.output) (see c.end.new.output) (c.end.ensures c.args.writer.now.line_filter t.pieces (see old.output) t.ends.took) (λ e. cc) (λ n. t.ends.no_fault) (λ e. cc)
+    causes_by means c.args.writer.now.line_filter t.pieces new.consumer.text.text endings.Done c.end.result old.input new.input (see old.output) (see c.end.new.output) (c.end.ensures c.args.writer.now.line_filter t.pieces (see old.output) t.ends.took) (λ e. cc) (λ n. t.ends.no_fault) (λ e. cc)
 
 pub end-requires-clause-may : goal.end-requires-clause-may
 end-requires-clause-may g c =
@@ -84,7 +84,7 @@ returns-in-ReadFailed-clause-causes g c =
     let new = reading_place c.take_lines.new.consumer c.take_lines.new.output (g.I.Source.state c.take_lines.new.input) in
     let taken : Taken does 131072 c.take_lines.result old new = subst (λ (k : ℕ). Taken does k c.take_lines.result old new) (ap (λ (h : Held). h.limit) c.requires.lines) c.take_lines.ensures in
     let t : Taken does 131072 ends.ReadFailed old new = subst (λ (e : LinesEnd Ending). Taken does 131072 e old new) c.in-ReadFailed.is taken in
-    causes_by means c.args.writer.now.line_filter t.pieces endings.ReadingFailed c.end-in-ReadFailed.result old.input new.input (see old.output) (see c.end-in-ReadFailed.new.output) (c.end-in-ReadFailed.ensures c.args.writer.now.line_filter t.pieces (see old.output) t.ends.took) (λ _. t.ends.fault) (λ n. absurd (n refl)) (λ e. cc)
+    causes_by means c.args.writer.now.line_filter t.pieces new.consumer.text.text endings.ReadingFailed c.end-in-ReadFailed.result old.input new.input (see old.output) (see c.end-in-ReadFailed.new.output) (c.end-in-ReadFailed.ensures c.args.writer.now.line_filter t.pieces (see old.output) t.ends.took) (λ _. t.ends.fault) (λ n. absurd (n refl)) (λ e. cc)
 
 pub end-requires-in-ReadFailed-clause-may : goal.end-requires-in-ReadFailed-clause-may
 end-requires-in-ReadFailed-clause-may g c =
@@ -117,7 +117,7 @@ returns-in-Endless-clause-causes g c =
     let new = reading_place c.take_lines.new.consumer c.take_lines.new.output (g.I.Source.state c.take_lines.new.input) in
     let taken : Taken does 131072 c.take_lines.result old new = subst (λ (k : ℕ). Taken does k c.take_lines.result old new) (ap (λ (h : Held). h.limit) c.requires.lines) c.take_lines.ensures in
     let t : Taken does 131072 ends.Endless old new = subst (λ (e : LinesEnd Ending). Taken does 131072 e old new) c.in-Endless.is taken in
-    causes_by means c.args.writer.now.line_filter t.pieces endings.TooLong c.end-in-Endless.result old.input new.input (see old.output) (see c.end-in-Endless.new.output) (c.end-in-Endless.ensures c.args.writer.now.line_filter t.pieces (see old.output) t.ends.took) (λ e. cc) (λ n. t.ends.no_fault) (λ e. cc)
+    causes_by means c.args.writer.now.line_filter t.pieces new.consumer.text.text endings.TooLong c.end-in-Endless.result old.input new.input (see old.output) (see c.end-in-Endless.new.output) (c.end-in-Endless.ensures c.args.writer.now.line_filter t.pieces (see old.output) t.ends.took) (λ e. cc) (λ n. t.ends.no_fault) (λ e. cc)
 
 pub end-requires-in-Endless-clause-may : goal.end-requires-in-Endless-clause-may
 end-requires-in-Endless-clause-may g c =

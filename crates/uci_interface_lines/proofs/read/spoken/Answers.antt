@@ -1,11 +1,9 @@
-use Rattle.std.proofs.Common.{drop, sym, ◌∙◌}
-use Rattle.protocol_tokens.specs.Tokens.{tokens}
-use Rattle.uci_interface_lines.specs.Lines.{position_line_in}
-use Rattle.uci_interface_lines.proofs.Saying.{line_speaks, speaks_line}
+use Rattle.uci_interface_lines.specs.Lines.{position_line_by, position_line_in}
 use Rattle.uci_interface_lines.proofs.read.spoken.Goals as goal
 
+pub returns-clause-value : goal.returns-clause-value
+unfolding position_line_by position_line_in
+returns-clause-value c = c.spoken_by.ensures.value
+
 pub returns-clause-exact : goal.returns-clause-exact
-unfolding position_line_in
-returns-clause-exact c said =
-    let ts = drop 1 (tokens c.args.line.now) in
-    (λ h. line_speaks ts said (sym c.line_said.ensures ∙ h), λ s. c.line_said.ensures ∙ speaks_line ts said s)
+returns-clause-exact c = c.spoken_by.ensures.exact

@@ -7,7 +7,7 @@ use Rattle.chess_board.specs.declared.board.Move.{Move}
 use Rattle.chess_board.specs.Position.{Position}
 use Rattle.think_text.specs.declared.last_thinking.LineStart.{LineStart}
 use Rattle.think_text.specs.Line.{legal_run, position_after_pv_move, spaced_moves, thinking_line, written}
-use Rattle.think_text.specs.Last.{last_after, line_from}
+use Rattle.think_text.specs.Last.{last_after, thinking_line_from}
 use Rattle.think_text.proofs.Heard.{score_small}
 use Rattle.think_text.proofs.Hints.{taken_short}
 use Rattle.think_text.proofs.Lines.{moves_text, first_and_others, line_found, moves_fit}
@@ -35,7 +35,7 @@ write_moves-requires c =
     omega (arith, fits, left, c.self.invariant.room, ap (λ (t : Text). length t.text) put, ap (λ (t : Text). t.room) put)
 
 -- the line that is kept then
-kept_line : (c : goal.After-write_moves) → Some (line_from c.write_moves.new.out.text c.line_start.result) ≡ last_after None (thinking_line c.args.spelling (info_of c.args.info.now) c.args.at.now None)
+kept_line : (c : goal.After-write_moves) → Some (thinking_line_from c.write_moves.new.out.text c.line_start.result) ≡ last_after None (thinking_line c.args.spelling (info_of c.args.info.now) c.args.at.now None)
 kept_line c =
     let s = c.args.spelling in
     let p = c.args.at.now in
@@ -46,8 +46,8 @@ kept_line c =
     let put = c.put_move.ensures ∙ ap (λ (t : Text). with t (written s p first)) c.clear.ensures in
     let out = c.write_moves.ensures ∙ ap (λ (t : Text). with t (spaced_moves s c.in-Some.first.after (legal_run c.in-Some.first.after (longest_move_run (tokens c.in-Some.first.others.now))))) put in
     let text = ap (λ (t : Text). t.text) out ∙ ap (λ (t : List ℕ). written s p first ++ t) left ∙ sym (first_and_others s p first later) in
-    ap (λ (t : List ℕ). Some (line_from t c.line_start.result)) text
-    ∙ ap (λ (l : LineStart). Some (line_from (moves_text s p (first ∷ later)) l)) c.line_start.ensures
+    ap (λ (t : List ℕ). Some (thinking_line_from t c.line_start.result)) text
+    ∙ ap (λ (l : LineStart). Some (thinking_line_from (moves_text s p (first ∷ later)) l)) c.line_start.ensures
     ∙ sym (ap (last_after None) (line_found s (info_of c.args.info.now) p None c.in-Some-Some.depth c.in-Some-Some.score first later c.in-Some-Some.is-0 c.in-Some-Some.is-1 c.in-Some.ensures.2))
 
 pub returns-clause-line : goal.returns-clause-line
@@ -58,5 +58,5 @@ returns-clause-line c =
 pub invariant_of-self : goal.invariant_of-self
 invariant_of-self c = record {
   room = ap (λ (t : Text). t.room) c.write_moves.ensures ∙ ap (λ (t : Text). t.room) c.put_move.ensures ∙ ap (λ (t : Text). t.room) c.clear.ensures ∙ c.self.invariant.room;
-  short = taken_short (line_from c.write_moves.new.out.text c.line_start.result) c.args.spelling (info_of c.args.info.now) c.args.at.now (kept_line c) c.requires.room;
+  short = taken_short (thinking_line_from c.write_moves.new.out.text c.line_start.result) c.args.spelling (info_of c.args.info.now) c.args.at.now (kept_line c) c.requires.room;
 }
