@@ -33,6 +33,23 @@ def function_at(path, text, place):
     return "::".join(it for it in [*([owner] if owner else modules), function] if it)
 
 
+def is_body(text, place):
+    """Whether this place of a file is in the body of a function, behind its contract."""
+    heads = [it for it in HEAD.finditer(text, 0, place) if it[2]]
+    if not heads:
+        return False
+    head = heads[-1]
+    opens = re.compile(rf"(?m)^{head[1]}(?:\S.*)?\{{$").search(text, head.start())
+    closes = re.compile(rf"(?m)^{head[1]}\}}$").search(text, head.end())
+    return bool(opens and closes) and opens.start() < place < closes.start()
+
+
+def is_in_body(folder, edit):
+    """Whether an edit changes nothing but bodies of functions."""
+    return all(path.startswith("src/") and is_body(text, place)
+               for path, text, place in changed_places(folder, edit))
+
+
 def changed_places(folder, edit):
     """The file and the place of each text that an edit changes, in a crate's folder."""
     path, text = None, None
