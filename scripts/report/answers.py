@@ -17,7 +17,7 @@ class Missing(Exception):
 
 
 def program():
-    return os.environ.get("REPLAY", "replay")
+    return os.environ.get("REPLAY") or "replay"
 
 
 def try_program():

@@ -16,14 +16,11 @@ import openings
 import pages
 import session
 import standings
-from log_lines import Changed, text_of
+from command_line import name_of
+from log_lines import Changed
 from progress import Bar
 
 PARTS = pathlib.Path(__file__).resolve().parent
-
-
-def name_of(path):
-    return text_of(os.fsencode(path))
 
 
 def page_beside(log):
@@ -120,21 +117,26 @@ def make_here(folder, logs, jobs):
 def make_by_parallel(folder, logs, words, script):
     """Has GNU parallel make the pages, a log a job."""
     command = ["parallel", "-0", "--will-cite", *(["--jobs", words.jobs] if words.jobs else []),
-               *(["--bar"] if sys.stderr.isatty() else [])]
-    program = f"{shlex.quote(sys.executable)} {shlex.quote(str(script))}"
+               *(["--bar"] if sys.stderr and sys.stderr.isatty() else [])]
+    program, here = f"{shlex.quote(sys.executable)} {shlex.quote(str(script))}", None
+    # (one that GNU parallel names is taken away while machines that share a home are asked)
+    place = f".wineravine-report-{socket.gethostname()}-{os.getpid()}"
     if words.machines:
         machines = pathlib.Path(words.machines).resolve()
-        # (one that GNU parallel names is taken away while machines that share a home are asked)
-        place = f".wineravine-report-{socket.gethostname()}-{os.getpid()}"
         command += ["--sshloginfile", machines, "--filter-hosts", "--workdir", place,
                     "--transferfile", "{}", "--return", "{}.html", "--cleanup"]
-        program = "wineravine-report"
+        # (if this machine is among them, its place is an empty folder in that of the logs)
+        program = "[ -e {} ] || cd ..; wineravine-report"
+        here = {**os.environ, "PATH": f"{script.parent}:{os.environ['PATH']}"}
     if words.joblog:
         command += ["--joblog", pathlib.Path(words.joblog).resolve()]
     names = b"\0".join(os.fsencode(as_word(log)) for log in logs)
     made = program + " {} > {}.html.new && mv {}.html.new {}.html || { rm -f {}.html.new; false; }"
     if logs:
-        subprocess.run([*command, made], input=names, cwd=folder, stdout=sys.stderr, check=False)
+        subprocess.run([*command, made], input=names, cwd=folder, env=here, check=False,
+                       stdout=sys.stderr or subprocess.DEVNULL)
+        with contextlib.suppress(OSError):
+            os.rmdir(folder / place)
 
 
 # THE TABLE

@@ -5,7 +5,7 @@ const playersOf = entry => [entry.white, entry.black];
 const gameIn = ([row, k]) => LOGS[row].summary.games[k];
 // A game as its first log has it, with what was told in either.
 const gameOf = entry => ({ ...gameIn(entry.of[0]), moves: gameIn(entry.of[0]).moves.slice(0, entry.plies), told: entry.told, onTime: entry.onTime });
-const openingOf = (start, moves) => (start ? start + ": " : "") + numbered({ start, moves }).join(" ");
+const openingOf = (start, moves) => (start ? start + ": " : "") + (numbered({ start, moves }).join(" ") || "no move");
 const pgnOfEntry = k => pgnOf(gameOf(TABLE.games[k]), playersOf(TABLE.games[k]), k + 1);
 const gameColumns = [
   ["game", entry => entry.number], ["White", entry => entry.white], ["Black", entry => entry.black],
@@ -13,11 +13,13 @@ const gameColumns = [
   ["plies", entry => entry.plies],
   ["opening", entry => openingOf(gameOf(entry).start, gameOf(entry).moves.slice(0, 8))],
 ];
+// The line of the first move, else that of the result.
+const firstLine = game => (game.lines || [])[0] || game.toldAt;
 function putGameLinks(e, entry, k) {
   const cell = put(e, "td", { class: "links-in" });
   for (const place of entry.of) {
-    const row = LOGS[place[0]], lines = gameIn(place).lines;
-    if (row.link) put(cell, "a", { href: row.link + (lines && lines.length ? "#" + lines[0] : "") }, row.log);
+    const row = LOGS[place[0]], at = firstLine(gameIn(place));
+    if (row.link) put(cell, "a", { href: row.link + (at ? "#" + at : "") }, row.log);
   }
   if (entry.of.some(place => gameIn(place).scores)) put(cell, "button", { type: "button" }, "scores").addEventListener("click", () => showDuel(entry));
   offer(cell, "game-" + (k + 1) + ".pgn", () => pgnOfEntry(k));

@@ -17,7 +17,8 @@ class Bar:
 
     def __init__(self, total, out=None):
         self.total, self.done, self.out = total, 0, out or sys.stderr
-        self.shows = total > 0 and self.out.isatty()
+        # (standard error may be closed)
+        self.shows = bool(total and self.out and self.out.isatty())
         self.begun, self.told = time.monotonic(), 0.0
 
     def step(self):

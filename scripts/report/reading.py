@@ -15,7 +15,8 @@ CLOCK = re.compile(rb"x (time|otim) +(-?\d{1,9})\s*$")
 ILLEGAL = b"X tellusererror Illegal position"
 FAULTS = {b"X tellusererror Illegal move by engine": "illegal move",
           b"X tellusererror Engine ended": "engine ended"}
-COURSE_WORDS = {b"new", b"setboard", b"undo", b"remove", b"result"}
+COURSE_WORDS = {b"new", b"setboard", b"undo", b"remove", b"result", b"go", b"playother", b"force",
+                b"analyze", b"exit"}
 ENGINE_WORDS = (b"id", b"uciok", b"readyok", b"bestmove", b"info", b"option")
 
 
@@ -31,7 +32,7 @@ class Reading:
         self.count, self.letters, self.settings = 0, set(), ""
         self.marks, self.names, self.own_names, self.lives = set(), [], [], 0
         self.shown = {"X move ": 0, "X bestmove ": 0}
-        self.faults, self.resigned, self.words, self.refused = [], [], {}, set()
+        self.faults, self.words, self.refused = [], {}, set()
         self.answers, self.clocks, self.waits = {}, [], {}
         self.thinking = Thinking()
         by_letters = {b"u ": self.from_engine, b"x ": self.from_interface,
@@ -77,8 +78,6 @@ class Reading:
             self.shown["X bestmove "] += 1
         elif line in FAULTS:
             self.faults.append({"line": number, "what": FAULTS[line]})
-        elif line == b"X resign":
-            self.resigned.append(number)
         elif line == ILLEGAL:
             self.refused.add(number - 1)
 

@@ -85,8 +85,7 @@ def asked(log, reading, kind):
         talk, searches = judged(log, kind)
         verdicts.append(talk.verdict())
     if kind == "bridge":
-        games = courses.with_courses(collected(["games"], log, games_in)[1], reading, positions,
-                                     searches)
+        games = courses.with_courses(collected(["games"], log, games_in)[1], reading, positions)
     if kind == "driver":
         verdicts.append(written_again(log, ["drive"]))
     if kind == "reviver":

@@ -1,61 +1,6 @@
-"""The games of a folder, each once, and the cross table.
-
-Two logs are of one match if they have the same games, and the engine of one has the other side. A
-move that came when the game was over, as after the flag fell, is in the log of its engine alone.
-"""
+"""The games of a folder, each once, and the cross table."""
 from courses import POINTS, decided, lost_on_time, result_of
-
-OTHER = {"white": "black", "black": "white"}
-
-
-def folder_of(row):
-    return row["log"].rpartition("/")[0]
-
-
-def games_of(row):
-    return (row["summary"] or {}).get("games") or []
-
-
-def is_own(game, ply):
-    """Whether the engine of the log made this move."""
-    black = (game["start"] or " w").split(" ")[1] == "b"
-    return game["side"] == ("black" if (ply + black) % 2 else "white")
-
-
-def is_same(one, two):
-    """Whether two logs tell of one game: one may have a last move of its engine that came too late."""
-    short, long = sorted((one, two), key=lambda it: len(it["moves"]))
-    count = len(short["moves"])
-    if long["moves"][:count] != short["moves"]:
-        return False
-    extra = len(long["moves"]) - count
-    return extra == 0 or (extra == 1 and is_own(long, count))
-
-
-def partners(rows, key_of):
-    """Takes rows that are of one match from those that are left, in their order."""
-    waiting, found = {}, []
-    for row in rows:
-        games = games_of(row)
-        sides = tuple(game.get("side") for game in games)
-        if not sides or not all(sides):
-            continue
-        key, starts = key_of(row), tuple(game["start"] for game in games)
-        others = waiting.get((key, starts, tuple(OTHER[it] for it in sides)), [])
-        other = next((it for it in others if all(map(is_same, games_of(it), games))), None)
-        if other:
-            others.remove(other)
-            found.append((other, row))
-        else:
-            waiting.setdefault((key, starts, sides), []).append(row)
-    return found
-
-
-def pairs_in(rows):
-    """The two logs of each match: those in one folder first, then those of different ones."""
-    near = partners(rows, folder_of)
-    taken = {id(row) for pair in near for row in pair}
-    return near + partners([row for row in rows if id(row) not in taken], lambda _: "")
+from pairing import OTHER, folder_of, games_of, pairs_in, side_in
 
 
 def engine_of(row):
@@ -110,7 +55,11 @@ def game_entry(places, names):
     """
     games = [game for _, _, game in places]
     told = told_in(games)
-    by_side = {game.get("side"): name for game, name in zip(games, names)}
+    by_side = {side_in(game): name for game, name in zip(games, names)}
+    if len(names) == 2:
+        # (of an engine that was never to move its own log tells no side)
+        by_side.update({OTHER[side_in(game)]: name for game, name in zip(games, names[::-1])
+                        if side_in(game)})
     return {"of": [[row, number] for row, number, _ in places], "told": told, "engines": names,
             "white": by_side.get("white", "?"), "black": by_side.get("black", "?"),
             "result": decided(told) or result_of(games[0]) or "*",
@@ -121,7 +70,7 @@ def game_entry(places, names):
 
 def game_list(rows):
     """The games of all logs; one that two logs of a match have is there once."""
-    numbers, pairs = {id(row): number for number, row in enumerate(rows)}, pairs_in(rows)
+    numbers, pairs = {id(row): number for number, row in enumerate(rows)}, list(pairs_in(rows))
     places = places_of(pairs)
     partner, seconds = {id(one): two for one, two in pairs}, {id(two) for _, two in pairs}
     for row in rows:
@@ -140,8 +89,8 @@ def is_whole(game):
 
 
 def outcome(game, name):
-    """What a game was to the engine of this name."""
-    if game["result"] not in POINTS:
+    """What a game was to the engine of this name; open, too, if no log tells a side."""
+    if game["result"] not in POINTS or game["white"] == "?":
         return "open"
     points = POINTS[game["result"]]
     return {1: "won", 0.5: "drawn", 0: "lost"}[points if game["white"] == name else 1 - points]

@@ -98,7 +98,9 @@ def check_blanks(work, log):
     folder.mkdir()
     for number in range(3):
         (folder / f"{number} $x.log").write_bytes(log)
-    ways = [(), ("--joblog", work / "a joblog")] if is_installed("parallel") else [()]
+    (work / "this machine").write_text(":\n")
+    ways = [(), ("--machines", work / "this machine")]
+    ways += [("--joblog", work / "a joblog")] if is_installed("parallel") else []
     tables = set()
     for words in ways:
         for page in folder.glob("*.html"):

@@ -52,6 +52,8 @@ class Logins:
         self.with_one_down = home / "machines-one-down"
         closed = login.replace(f"-p {port}", "-p 1")
         self.with_one_down.write_text(f"2/{closed} 127.0.0.1\n2/{login} localhost\n")
+        self.with_this_machine = home / "machines-and-this"
+        self.with_this_machine.write_text(f"1/:\n1/{login} localhost\n")
         self.server = subprocess.Popen([shutil.which("sshd"), "-D", "-f", home / "sshd"],
                                        stderr=subprocess.DEVNULL)
 
@@ -146,3 +148,19 @@ def check_one_down(page, logins, work, log):
     wants(logins.hosts_in(joblog) <= {"localhost"},
           f"one machine is down: the jobs ran on {logins.hosts_in(joblog)}")
     say(f"one of two machines down: {took}")
+
+
+def check_this_one(logins, work, log):
+    """This machine among the logins, as `:`, does its part; nothing is said, and nothing left."""
+    folder = work / "this machine, too"
+    folder.mkdir()
+    for number in range(12):
+        (folder / f"{number}.log").write_bytes(log)
+    joblog = logins.home / "joblog-and-this"
+    ran = ask(REPORT, "--machines", logins.with_this_machine, "--joblog", joblog, folder)
+    names = sorted(it.suffix for it in folder.iterdir())
+    wants((ran.returncode, ran.stderr) == (0, b"") and names == [".html"] * 12 + [".log"] * 12,
+          f"this machine among the logins: status {ran.returncode}: {ran.stderr.decode()}, {names}")
+    hosts = logins.hosts_in(joblog)
+    wants(":" in hosts and hosts <= {":", "localhost"}, f"with this machine the jobs ran on {hosts}")
+    say(f"this machine among the logins: 12 pages, made by {len(hosts)} machines")

@@ -237,20 +237,37 @@ def open_long(page, made):
     return min(times)
 
 
+def odd_values(work):
+    """Options of a folder with a value that they do not take."""
+    place = work / "odd values"
+    place.mkdir()
+    texts = {"empty": "", "comment": "# none\n\n", "odd": "localhost\na;b\n", "bytes": "\udcff\n"}
+    for name, text in texts.items():
+        (place / name).write_bytes(text.encode("utf-8", "surrogateescape"))
+    machines = ("", ":", "-", ".", "..", place, "/dev/null", *(place / name for name in texts))
+    return [*(("--machines", it) for it in machines),
+            *(("--jobs", it) for it in ("", "0", "-1", "many", "1.5", "50%", "2\n", "1" * 30)),
+            *(("--joblog", it) for it in ("", place, place / "no-such/joblog")),
+            ("--resume", "--joblog", place / "odd"),
+            *(("--sprt", *it) for it in (("5", "0"), ("0",), ("0,5",), ("nan", "5"), ("0", "inf"))),
+            *(("--sprt", "0", "5", f"--{name}", it) for name in ("alpha", "beta")
+              for it in ("0.7", "0", "1e-400", "nan", "half", "")),
+            ("--resume",), ("--alpha", "0.1"), ("--alp", "0.1"), ("--sprt=0", "5"), ("x\ny",)]
+
+
 def check_statuses(work):
-    """Each wrong use has its status and a message, and writes no page."""
+    """Each wrong use has its status and one line that tells it, and writes no page."""
     numbered = TOP / "samples/numbered.log"
     cases = [((), 2), (("--jobs",), 2), (("--wrong", "x"), 2), (("a.log", "b.log"), 2),
-             (("no-such.log",), 4), (("",), 2), (("--resume", work), 2),
-             (("--jobs", "2", numbered), 2), (("--machines", "no-such", work), 3),
-             (("--jobs", "many", work), 2), (("--jobs", "-1", work), 2),
-             (("--sprt", "5", "0", work), 2), (("--sprt", "0", work), 2),
-             (("--sprt", "0", "5", "--beta", "0.7", work), 2), (("--alpha", "0.1", work), 2),
-             (("--sprt", "0", "5", numbered), 2)]
+             (("no-such.log",), 4), (("no such\n.log",), 4), (("",), 2),
+             (("--jobs", "2", numbered), 2), (("--sprt", "0", "5", numbered), 2),
+             (("--machines", "no-such", work), 3),
+             *(((*words, work), 2) for words in odd_values(work))]
     for words, status in cases:
         ran = ask(REPORT, *words)
-        answer = (ran.returncode, ran.stderr.startswith(b"wineravine-report: "), ran.stdout)
-        wants(answer == (status, True, b""),
+        answer = (ran.returncode, ran.stderr.startswith(b"wineravine-report: "),
+                  ran.stderr.count(b"\n"), ran.stdout)
+        wants(answer == (status, True, 1, b""),
               f"the arguments {words}: status {ran.returncode}, not {status}: {ran.stderr.decode()}")
     ran = ask(REPORT, numbered, env={**os.environ, "REPLAY": "no-such-program"})
     wants(ran.returncode == 3 and b"no-such-program" in ran.stderr,
@@ -261,7 +278,26 @@ def check_statuses(work):
                                     check=False).returncode
         wants(status == 5, f"{words} on a full disk: status {status}, not 5")
     wants(ask(REPORT, "--help").stdout.startswith(b"Shows a log"), "--help says nothing")
-    say(f"statuses compared: {len(cases) + 3}")
+    closed = check_closed(work, numbered)
+    say(f"statuses compared: {len(cases) + 3 + closed}")
+
+
+def check_closed(work, log):
+    """A standard stream is closed: the page is written all the same, or it is said that it is not."""
+    folder = work / "closed streams"
+    folder.mkdir()
+    shutil.copy(log, folder)
+    whole = {it: ask(REPORT, it).stdout for it in (log, folder)}
+    for path, page in whole.items():
+        for streams, wanted in (("<&-", (0, page)), ("2>&-", (0, page)), (">&-", (5, b"")),
+                                ("<&- >&- 2>&-", (5, b""))):
+            for made in folder.glob("*.html"):
+                made.unlink()
+            ran = ask("sh", "-c", f'exec "$0" "$1" {streams}', REPORT, path)
+            told = ran.stderr.count(b"\n") == (streams == ">&-")
+            wants((ran.returncode, ran.stdout) == wanted and told,
+                  f"{path.name} with {streams}: status {ran.returncode}: {ran.stderr.decode()}")
+    return 8
 
 
 def check_kinds(page, work):
