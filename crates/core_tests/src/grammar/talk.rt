@@ -3,7 +3,7 @@ use crate::expect::expect;
 use chess_board::Variant;
 use fen_text::write_fen;
 use protocol_tokens::GoKind;
-use uci_interface_lines::{Spoken, go_kind, spoken, spoken_by};
+use uci_interface_lines::{go_kind, spoken, spoken_by};
 
 const START: &str = "rnbqkbnr/pppppppp/8/8/8/8/PPPPPPPP/RNBQKBNR w KQkq - 0 1";
 
@@ -85,9 +85,19 @@ const NO_CHESS960_POSITIONS: [&str; 3] = [
     "position fen 1k6/8/8/8/8/8/8/1K1RR3 w DE -",
 ];
 
-/// True if a line was read as these moves, and as the position after them.
-fn is_read_as(spoken: Option<Spoken<'_>>, moves: &str, end: &str) -> bool {
-    match spoken {
+/// True if a line is read as these moves, and as the position after them.
+fn is_spoken(line: &str, moves: &str, end: &str) -> bool {
+    match spoken(line.as_bytes()) {
+        Some(said) => {
+            said.moves == moves.as_bytes() && write_fen(&said.end).as_slice() == end.as_bytes()
+        }
+        None => false,
+    }
+}
+
+/// The same by the rules of a variant.
+fn is_spoken_by(variant: Variant, line: &str, moves: &str, end: &str) -> bool {
+    match spoken_by(variant, line.as_bytes()) {
         Some(said) => {
             said.moves == moves.as_bytes() && write_fen(&said.end).as_slice() == end.as_bytes()
         }
@@ -105,21 +115,22 @@ fn kinds_of_searches(rt: HostRuntime) {
 #[test]
 fn positions_that_can_be_read(rt: HostRuntime) {
     for (line, moves, end) in &POSITIONS {
-        expect(&rt, is_read_as(spoken(line.as_bytes()), moves, end), line);
-        let said = spoken_by(Variant::Normal, line.as_bytes());
-        expect(&rt, is_read_as(said, moves, end), line);
+        expect(&rt, is_spoken(line, moves, end), line);
+        expect(&rt, is_spoken_by(Variant::Normal, line, moves, end), line);
     }
 }
 
 #[test]
 fn positions_of_chess960(rt: HostRuntime) {
     for (line, moves, end) in &CHESS960_POSITIONS {
-        let said = spoken_by(Variant::Fischer, line.as_bytes());
-        expect(&rt, is_read_as(said, moves, end), line);
+        expect(&rt, is_spoken_by(Variant::Fischer, line, moves, end), line);
     }
     for line in &NO_CHESS960_POSITIONS {
-        let said = spoken_by(Variant::Fischer, line.as_bytes());
-        expect(&rt, said.is_none(), line);
+        expect(
+            &rt,
+            spoken_by(Variant::Fischer, line.as_bytes()).is_none(),
+            line,
+        );
     }
 }
 
