@@ -15,18 +15,26 @@ const gameColumns = [
 ];
 // The line of the first move, else that of the result.
 const firstLine = game => (game.lines || [])[0] || game.toldAt;
-function putGameLinks(e, entry, k) {
-  const cell = put(e, "td", { class: "links-in" });
+function putGameLinks(e, entry) {
+  const cell = put(e, "td", { class: "name links-in" });
   for (const place of entry.of) {
     const row = LOGS[place[0]], at = firstLine(gameIn(place));
     if (row.link) put(cell, "a", { href: row.link + (at ? "#" + at : "") }, row.log);
   }
+}
+// (beside the number, which stays where it is if the table scrolls)
+function putGameButtons(e, entry, k) {
+  e.firstChild.append(" ");
+  const cell = put(e.firstChild, "span", { class: "buttons" });
   if (entry.of.some(place => gameIn(place).scores)) put(cell, "button", { type: "button" }, "scores").addEventListener("click", () => showDuel(entry));
   offer(cell, "game-" + (k + 1) + ".pgn", () => pgnOfEntry(k));
 }
 const gameRows = putTable("game-heads", "game-rows", gameColumns, TABLE.games);
 put($("game-heads"), "th", { scope: "col" }, "logs");
-gameRows.forEach((e, k) => putGameLinks(e, TABLE.games[k], k));
+gameRows.forEach((e, k) => {
+  putGameLinks(e, TABLE.games[k]);
+  putGameButtons(e, TABLE.games[k], k);
+});
 const pgnOfAll = () => TABLE.games.map((_, k) => pgnOfEntry(k)).join("");
 $("games").hidden = !TABLE.games.length;
 $("games-title").textContent = "Games: " + TABLE.games.length;

@@ -31,11 +31,11 @@ const toldBy = (row, n) => of(row, "kind") === "bridge" ? n : "";
 
 // A column: its head, its text, by which it is sorted, its sort of cell, and the lines that it leads to.
 const columns = [
-  ["log", row => row.log],
+  ["log", row => row.log, "name"],
   ["of", row => of(row, "kind") || ""],
   ["check", row => row.fault || verdict(row, "check"), "verdict"],
   ["talk", row => verdict(row, "talk"), "verdict"],
-  ["engine", row => of(row, "engine") || ""],
+  ["engine", row => of(row, "engine") || "", "name"],
   ["games", row => toldBy(row, gamesIn(row).length), "number"],
   ["results", results],
   ["moves shown", row => of(row, "kind") === "tap" ? "" : of(row, "shown") ?? "", "number"],
@@ -60,7 +60,7 @@ for (const [name, placesIn] of [["late answers, not shown", lateIn], ["lost on t
 
 let sorted = 0, down = false, wanted = "";
 function putCell(e, row, [name, text, sort, placesIn]) {
-  const head = name === "log", cell = put(e, head ? "th" : "td", { class: sort === "number" ? "number" : "" });
+  const head = name === "log", cell = put(e, head ? "th" : "td", { class: ["number", "name"].includes(sort) ? sort : "" });
   if (head) cell.setAttribute("scope", "row");
   if (head && row.link) return put(cell, "a", { href: row.link }, text(row));
   cell.textContent = visible(String(text(row)));

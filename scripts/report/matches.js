@@ -23,13 +23,15 @@ const matchColumns = [
   ["lost on time", match => match.lostOnTime.join(" – ")],
 ];
 if (TABLE.test) matchColumns.push(["SPRT of " + TABLE.test.elo0 + " against " + TABLE.test.elo1, match => known(match.test, testText)]);
-// (columns with one number in each cell)
-const isNumber = name => ["games", "won", "drawn", "lost", "no result", "White's score"].includes(name);
+// (columns with one number in each cell, and those of names or moves, which may be long)
+const isNumber = name => ["games", "won", "drawn", "lost", "no result", "plies", "White won", "Black won", "White's score"].includes(name);
+const isLong = name => ["match", "White", "Black", "on time", "opening", "first eight plies"].includes(name);
+const sortOfCell = name => isNumber(name) ? "number" : isLong(name) ? "name" : "";
 function putTable(heads, rows, columns, items) {
   for (const [name] of columns) put($(heads), "th", { scope: "col" }, name);
   return items.map(item => {
     const e = put($(rows), "tr");
-    columns.forEach(([name, text], k) => put(e, k ? "td" : "th", { class: isNumber(name) ? "number" : "", ...(k ? {} : { scope: "row" }) }, text(item)));
+    columns.forEach(([name, text], k) => put(e, k ? "td" : "th", { class: sortOfCell(name), ...(k ? {} : { scope: "row" }) }, text(item)));
     return e;
   });
 }
@@ -43,7 +45,7 @@ function cellText(cell) {
 }
 function putCross(k) {
   const e = put($("cells"), "tr"), name = CROSS.engines[k];
-  put(e, "th", { scope: "row" }, name);
+  put(e, "th", { scope: "row", class: "name" }, name);
   let points = 0, played = 0;
   CROSS.cells[k].forEach((cell, n) => {
     if (!cell) return put(e, "td", {}, "–");
@@ -58,7 +60,7 @@ if (CROSS.engines.length) {
   $("cross").hidden = false;
   const head = put($("cells"), "tr");
   put(head, "td");
-  for (const name of CROSS.engines) put(head, "th", { scope: "col" }, name);
+  for (const name of CROSS.engines) put(head, "th", { scope: "col", class: "name" }, name);
   put(head, "th", { scope: "col" }, "points");
   CROSS.engines.forEach((_, k) => putCross(k));
 }

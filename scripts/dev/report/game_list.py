@@ -83,7 +83,8 @@ SCORES = [[30, None, 99998, None, None, None, None],
 
 
 def check_list(page):
-    rows = [row[:7] for row in texts_in(page, "#game-rows tr")]
+    # (behind the number of a game stand its buttons)
+    rows = [[row[0].partition(" ")[0], *row[1:7]] for row in texts_in(page, "#game-rows tr")]
     wants(rows == GAMES, f"the list of games: {rows}")
     wants(texts_in(page, "#opening-rows tr") == OPENINGS,
           f"the openings: {texts_in(page, '#opening-rows tr')}")
