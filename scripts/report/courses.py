@@ -128,7 +128,7 @@ def put_course(game, course, answers, fits):
     has_moves = len(course.lines) == len(game["moves"])
     if has_moves:
         game.update(lines=course.lines, given=given_in(course, answers),
-                    side=side_of(course, game["start"], answers))
+                    side=side_of(course, game["start"], answers), asked=bool(course.called))
     if has_moves or fits:
         game.update(told=course.told, toldAt=course.told_at)
 
@@ -136,8 +136,8 @@ def put_course(game, course, answers, fits):
 def unplayed(course):
     """A game whose result was told before its first move."""
     return {"start": course.start, "moves": [], "result": "*", "lines": [], "given": 0,
-            "side": side_of(course, course.start, ()), "told": course.told,
-            "toldAt": course.told_at}
+            "side": side_of(course, course.start, ()), "asked": bool(course.called),
+            "told": course.told, "toldAt": course.told_at}
 
 
 def result_of(game):

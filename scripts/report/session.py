@@ -61,9 +61,15 @@ def put_scores(games, thinking):
 
 def forfeits_in(games):
     """The games that were lost on time: which, by whom, and where the interface said so."""
-    return [{"game": number, "line": game["toldAt"], "side": side,
-             "own": game.get("side") == side if game.get("side") else None}
+    return [{"game": number, "line": game["toldAt"], "side": side, "own": is_own(game, side)}
             for number, game in enumerate(games, 1) if (side := courses.lost_on_time(game))]
+
+
+def is_own(game, side):
+    """Whether the engine had this side; not if it was never to move, and none if that is unknown."""
+    if game.get("side"):
+        return game["side"] == side
+    return None if game.get("asked", True) else False
 
 
 def late_on_time(late, games):

@@ -130,6 +130,9 @@ def check_early_ends(page, work, replay):
         check_match(match, own, found.get(f"{match.right} – {match.early}"))
     wants(len(games) == sum(len(match.wanted()) for match in played),
           f"{len(games)} games in all early ends: {[it for it in games if it[4] != 2]}")
+    lost = sum(match.way in ON_TIME for match in played)
+    facts = page.js("document.getElementById('facts').innerText.replace(/\\s+/g, ' ')")
+    wants(f"lost on time {lost} " in facts, f"{lost} games lost on time: {facts}")
     check_page(page, folder)
     check_single(page, work, replay)
     say(f"games that end early: {len(played)} matches, {len(games)} games, each once with both "
