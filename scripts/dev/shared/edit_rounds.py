@@ -115,7 +115,8 @@ class Round:
     def verdict(self, edit, functions, told):
         """What comes of an edit, or none if a function waits for another one's proof."""
         said = [it[2] for it in functions if any(is_of(it[1], of) for of in self.paths[edit])]
-        if "not proved" in said:
+        # (the contracts of others are taken whether they are proved or not)
+        if any(it == "not proved" or "`search` did not prove" in it for it in said):
             return where_refused(self.told_of(told, edit))
         if said and all(it == "proved" for it in said):
             return LET_THROUGH, "its function is proved"
@@ -126,8 +127,8 @@ def in_rounds(rt, crate, edits, check, alone):
     """What comes of each edit, with what to say: of those of a round as soon as it is over.
 
     An edit is tried again in a later round if its function calls one that is not proved in this
-    one. One that changes more than bodies of functions, one that is not refused or only by names,
-    and one that no round decides is tried alone.
+    one. One that changes more than bodies of functions, one that is not refused in its round, and
+    one that no round decides are tried alone.
     """
     waiting = [it for it in edits if is_in_body(crate.folder, it)]
     rest = [it for it in edits if it not in waiting]
@@ -137,8 +138,8 @@ def in_rounds(rt, crate, edits, check, alone):
             now.take(edit)
         found = now.run() if now.edits else {}
         for edit, (word, said) in found.items():
-            if word in (LET_THROUGH, BY_NAMES):
-                # (the whole crate may refuse it; the names may be those of another edit)
+            if word == LET_THROUGH or word == BY_NAMES and "was not admitted" in said:
+                # (the whole crate may refuse it; what was not admitted may be another edit's)
                 yield edit, *alone(rt, crate, edit)
             else:
                 yield edit, word, f"{crate.name}/{edit.name}: {word}, {said}"
